@@ -1,0 +1,59 @@
+-- What a call means: an entry of the table of reads, or of the table of writes.
+use Rattle.std.specs.Prelude.{ℕ, ◌+◌, Bool, List, length, take, drop, nat_le, if◌then◌else◌, Result, Ok, Err}
+use Rattle.bitstream_count.specs.declared.error.Error.{Error}
+use Rattle.bitstream_count.specs.declared.error.Error.TheVariants.{Failed}
+
+-- what a call finds at the front of the bits to read: they are too few, or it takes n of them and answers
+pub data Front (A : Type 0) : Type 0 where
+  TooShort : Front A
+  Takes : (n : ℕ) → (answer : Result A Error) → Front A
+
+-- a read call: its front of the bits to read, behind so many bits taken before; and its answer on a failed reader
+pub record ReadEntry (A : Type 0) : Type 0 where
+  pub reads : ℕ → List Bool → Front A
+  pub on_failed : Result A Error
+
+-- a write call: its word behind so many bits written before, or its refusal
+abbrev pub WriteEntry : Type 0
+WriteEntry = ℕ → Result (List Bool) Error
+
+-- n bits, whose answer is g of them
+abbrev pub word_front : {A : Type 0} → ℕ → (List Bool → Result A Error) → List Bool → Front A
+word_front n g bits = if nat_le n (length bits) then Takes n (g (take n bits)) else TooShort
+
+-- a call, which answers Failed on a failed reader
+abbrev pub call : {A : Type 0} → (ℕ → List Bool → Front A) → ReadEntry A
+call f = record { reads = f; on_failed = Err Failed }
+
+-- a call that takes n bits and answers g of them
+abbrev pub takes : {A : Type 0} → ℕ → (List Bool → Result A Error) → ReadEntry A
+takes n g = call (λ _ bits. word_front n g bits)
+
+-- a refusal that takes nothing
+abbrev pub refuses : {A : Type 0} → Error → ReadEntry A
+refuses e = call (λ _ _. Takes 0 (Err e))
+
+-- no call at all
+abbrev pub gives : {A : Type 0} → A → ReadEntry A
+gives a = record { reads = λ _ _. Takes 0 (Ok a); on_failed = Ok a }
+
+-- a front behind n bits
+abbrev pub longer : {A : Type 0} → ℕ → Front A → Front A
+longer n TooShort = TooShort
+longer n (Takes m answer) = Takes (n + m) answer
+
+abbrev pub front_then : {A B : Type 0} → Front A → (ℕ → A → Front B) → Front B
+front_then TooShort f = TooShort
+front_then (Takes n (Ok a)) f = longer n (f n a)
+front_then (Takes n (Err e)) f = Takes n (Err e)
+
+abbrev pub result_then : {A B : Type 0} → Result A Error → (A → Result B Error) → Result B Error
+result_then (Ok a) f = f a
+result_then (Err e) f = Err e
+
+-- one call and then, unless it refuses, another that may depend on its answer
+unfoldable pub chain : {A B : Type 0} → ReadEntry A → (A → ReadEntry B) → ReadEntry B
+chain e f = record {
+  reads = λ p bits. front_then (e.reads p bits) (λ n a. (f a).reads (p + n) (drop n bits));
+  on_failed = result_then e.on_failed (λ a. (f a).on_failed)
+}

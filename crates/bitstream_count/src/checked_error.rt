@@ -1,0 +1,12 @@
+//! Why a value and a count do not go together.
+
+/// Why a value is not one of a count's.
+#[derive(Clone, Copy, Debug, PartialEq, Eq, Drop, thiserror::Error)]
+pub enum CheckedError {
+    /// The count has more bits than the value's type.
+    #[error("excessive bits for type written")]
+    ExcessiveBits,
+    /// The value has more bits than the count.
+    #[error("excessive value for bits written")]
+    ExcessiveValue,
+}

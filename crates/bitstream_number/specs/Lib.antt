@@ -1,0 +1,5 @@
+pub mod Word
+pub mod Words
+pub mod Range
+pub mod Digits
+pub mod Ints

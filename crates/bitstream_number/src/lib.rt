@@ -1,0 +1,4 @@
+//! Numbers, and their words and bytes.
+#![tactic(auto)]
+
+pub mod number;
