@@ -1,0 +1,4 @@
+pub mod Draw
+pub mod Fault
+pub mod Parts
+pub mod Port
