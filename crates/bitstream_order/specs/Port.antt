@@ -33,6 +33,14 @@ port_state bytes places port = record {
   places = places port.stream
 }
 
+-- how many bytes were fetched through a port
+abbrev pub fetched_count : {S : Type 0} → Port S → ℕ
+fetched_count port = port.fetched.count
+
+-- how many bytes were handed on through a port
+abbrev pub sent_count : {S : Type 0} → Port S → ℕ
+sent_count port = port.sent.count
+
 -- a request fetched these bytes
 pub record Serves (old : PortState) (bytes : List ℕ) (new : PortState) : Type 0 where
   pub loses : Consumes old.bytes new.bytes bytes
