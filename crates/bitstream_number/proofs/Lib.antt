@@ -1,2 +1,5 @@
-pub mod WordLemmas
+pub mod Bytes
+pub mod Casts
+pub mod Shifts
 pub mod SignedLemmas
+pub mod WordLemmas

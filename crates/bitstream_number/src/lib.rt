@@ -1,4 +1,5 @@
-//! Numbers, and their words and bytes.
+//! Numbers: the integer types with what generic code may count on, and the laws of their bits,
+//! words and bytes.
 #![tactic(auto)]
 
 pub mod number;
