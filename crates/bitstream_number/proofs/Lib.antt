@@ -1,5 +1,6 @@
 pub mod Bytes
 pub mod Casts
+pub mod Masks
 pub mod Shifts
 pub mod SignedLemmas
 pub mod WordLemmas

@@ -2,4 +2,5 @@
 //! words and bytes.
 #![tactic(auto)]
 
+pub mod laws;
 pub mod number;
