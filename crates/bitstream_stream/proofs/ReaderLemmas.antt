@@ -1,6 +1,7 @@
 -- What a reader's calls come to.
 use Rattle.std.proofs.Common.{◌≡◌, ℕ, ◌+◌, ◌-◌, ◌*◌, ◌/◌, ◌%◌, ◌^◌, ◌<◌, ◌≤◌, Bool, true, false, List, [], ◌∷◌, ◌++◌, length, Option, Some, None, option_map, Result, Ok, Err, refl, sym, ap, ap₂, ◌∙◌, subst, arith, append_assoc, append-nil, length-append}
 use Rattle.std.specs.Io.KnownBytes.{Consumes}
+use Rattle.std.proofs.KnownBytes.{Consumes-nil}
 use Rattle.std.specs.Borrow.{GName}
 use Rattle.std.proofs.Math.Nat.{mod-eq_of_lt}
 use Rattle.std.proofs.lemmas.Bool.{le-leb, lt-leb}
@@ -17,7 +18,7 @@ use Rattle.bitstream_stream.specs.Reads.{ReaderState, Reads, Loses, stays, answe
 use Rattle.bitstream_stream.specs.Reader.{reader_state, new_reader_state}
 use Rattle.bitstream_stream.specs.ReadTable.{unsigned_entry, align_entry, to_boundary}
 use Rattle.bitstream_stream.proofs.EntryLemmas.{word_front-some, word_front-none}
-use Rattle.bitstream_stream.proofs.ReadsLemmas.{Loses-nil}
+use Rattle.bitstream_stream.proofs.ReadsLemmas.{Loses-nil, Drains-nil}
 use Rattle.bitstream_stream.proofs.TableLemmas.{unsigned-takes}
 
 -- ---- reading
@@ -34,6 +35,7 @@ unsigned-refused o size n s h wide = answers (record {
   decides = λ more. rw (lt-leb n size wide) refl;
   loses = Loses-nil s.bits;
   taken = omega arith;
+  drains = Drains-nil s;
   refused = refl;
   misled = refl;
   places = refl;
@@ -63,6 +65,7 @@ answered o size queued queue n v l q before after old new fine still le few h = 
     let len = length-word o n v in
     let sum = draws_lengths o queued queue n v l q h.bytes h.word in
     let f = h.fetched in omega arith;
+  drains = record { gone = h.bytes; loses = h.loses; fetched = h.fetched };
   refused = h.refused;
   misled = h.misled;
   places = h.places;
@@ -125,6 +128,7 @@ aligned o port queue queued failed fine small few = answers (record {
     word_front-some (to_boundary (8 * port.fetched - queued)) (λ _. Ok tt) (word o queued queue) more (len ∙ sym gap) ∙ rw (gap, len) refl;
   loses = align_loses o queue queued port.bytes;
   taken = let len = length-word o queued queue in omega arith;
+  drains = record { gone = []; loses = Consumes-nil port.bytes; fetched = omega arith };
   refused = refl;
   misled = refl;
   places = refl;

@@ -1,5 +1,6 @@
 -- How reads compose.
 use Rattle.std.proofs.Common.{◌≡◌, ℕ, ◌+◌, ◌-◌, ◌<◌, ◌≤◌, Bool, true, false, List, [], ◌∷◌, ◌++◌, length, take, drop, Option, Some, None, Result, Ok, Err, refl, sym, ap, ◌∙◌, subst, append_assoc, length-append, arith, add_assoc, inl, inr, ◌⊎◌}
+use Rattle.std.proofs.KnownBytes.{Consumes-nil, Consumes-trans}
 use Rattle.std.proofs.Math.Seq.{drop-append_seam}
 use Rattle.bitstream_count.specs.declared.error.Error.{Error}
 use Rattle.bitstream_count.specs.declared.error.Error.TheVariants.{EndOfInput}
@@ -8,11 +9,21 @@ use Rattle.bitstream_stream.proofs.EntryLemmas.{Same, chain-ok, chain-err, chain
 use Rattle.bitstream_count.specs.Entry.{ReadEntry, Front, TooShort, Takes, longer, front_then, result_then, chain, gives, call}
 use Rattle.std.specs.Borrow.{GName}
 use Rattle.bitstream_order.specs.Draw.{seen}
-use Rattle.bitstream_stream.specs.Reads.{lent, ReaderState, Reads, Stays, Answers, Faults, stays, answers, faults, Loses, is_run_too_long}
+use Rattle.bitstream_stream.specs.Reads.{lent, ReaderState, Reads, Stays, Answers, Faults, stays, answers, faults, Loses, Drains, is_run_too_long}
 
 pub Loses-nil : (a : Option (List Bool)) → Loses a a []
 Loses-nil None = tt
 Loses-nil (Some b) = refl
+
+pub Drains-nil : (s : ReaderState) → Drains s s
+Drains-nil s = record { gone = []; loses = Consumes-nil s.bytes; fetched = omega arith }
+
+pub Drains-trans : (s t z : ReaderState) → Drains s t → Drains t z → Drains s z
+Drains-trans s t z h k = record {
+  gone = h.gone ++ k.gone;
+  loses = Consumes-trans s.bytes t.bytes z.bytes h.gone k.gone h.loses k.loses;
+  fetched = let a = h.fetched in let b = k.fetched in let l = length-append h.gone k.gone in omega arith;
+}
 
 pub Loses-trans : (a b c : Option (List Bool)) (u v : List Bool) → Loses a b u → Loses b c v → Loses a c (u ++ v)
 Loses-trans None b c u v p q = tt
@@ -58,6 +69,7 @@ Reads-chain-ok e f {a = a} {r = r} {s = s} {t = t} {z = z} (answers h) (answers 
   decides = chain_decides e f s.taken t.taken h.word k.word a r h.decides h.taken k.decides;
   loses = Loses-trans s.bits t.bits z.bits h.word k.word h.loses k.loses;
   taken = rw (length-append h.word k.word) (k.taken ∙ ap (λ n. n + length k.word) h.taken ∙ add_assoc s.taken (length h.word) (length k.word));
+  drains = Drains-trans s t z h.drains k.drains;
   refused = k.refused ∙ h.refused;
   misled = k.misled ∙ h.misled;
   places = k.places ∙ h.places;
@@ -94,6 +106,7 @@ Reads-chain-err e f {x = x} {s = s} (answers h) = answers (record {
   decides = λ more. chain-err e f s.taken (h.word ++ more) (length h.word) x (h.decides more);
   loses = h.loses;
   taken = h.taken;
+  drains = h.drains;
   refused = h.refused;
   misled = h.misled;
   places = h.places;
@@ -120,6 +133,7 @@ Reads-same {s = s} same (answers h) = answers (record {
   decides = λ more. sym (same.reads s.taken (h.word ++ more)) ∙ h.decides more;
   loses = h.loses;
   taken = h.taken;
+  drains = h.drains;
   refused = h.refused;
   misled = h.misled;
   places = h.places;
@@ -146,6 +160,7 @@ gives-fine a s h = answers (record {
   decides = λ more. refl;
   loses = Loses-nil s.bits;
   taken = omega arith;
+  drains = Drains-nil s;
   refused = refl;
   misled = refl;
   places = refl;
@@ -219,7 +234,7 @@ not_ended {e = e} {r = r} {x = x} {s = s} {t = t} b n fine known honest has h = 
 pub Reads-lent : {A : Type 0} {e : ReadEntry A} {r : Result A Error} {s t : ReaderState} (n : GName) → Reads e s r t → Reads e (lent n s) r (lent n t)
 Reads-lent n (stays h) = stays (record { failed = h.failed; answer = h.answer; same = ap (lent n) h.same })
 Reads-lent n (answers h) = answers (record {
-  fine = h.fine; word = h.word; decides = h.decides; loses = h.loses; taken = h.taken; refused = h.refused; misled = h.misled;
+  fine = h.fine; word = h.word; decides = h.decides; loses = h.loses; taken = h.taken; drains = record { gone = h.drains.gone; loses = h.drains.loses; fetched = h.drains.fetched }; refused = h.refused; misled = h.misled;
   places = ap (λ l. n ∷ l) h.places;
   failed = h.failed;
 })
@@ -257,7 +272,7 @@ pub Reads-back : {A : Type 0} {e : ReadEntry A} {r : Result A Error} {s t : Read
 Reads-back {s = s} {t = t} n m (stays h) =
     (sym (heads n m s.places t.places (ap (λ (x : ReaderState). x.places) h.same)), stays (record { failed = h.failed; answer = h.answer; same = same_behind n m s t h.same }))
 Reads-back {s = s} {t = t} n m (answers h) = (sym (heads n m s.places t.places h.places), answers (record {
-  fine = h.fine; word = h.word; decides = h.decides; loses = h.loses; taken = h.taken; refused = h.refused; misled = h.misled;
+  fine = h.fine; word = h.word; decides = h.decides; loses = h.loses; taken = h.taken; drains = record { gone = h.drains.gone; loses = h.drains.loses; fetched = h.drains.fetched }; refused = h.refused; misled = h.misled;
   places = tails n m s.places t.places h.places;
   failed = h.failed;
 }))

@@ -10,6 +10,7 @@ use Rattle.bitstream_stream.specs.Reads.{ReaderState}
 abbrev pub reader_state : Order → PortState → ℕ → ℕ → Bool → ReaderState
 reader_state o port queue queued failed = record {
   bits = option_map (λ bs. word o queued queue ++ bits o bs) port.bytes;
+  bytes = port.bytes;
   taken = 8 * port.fetched - queued;
   fetched = port.fetched;
   failed = failed;
@@ -22,6 +23,7 @@ reader_state o port queue queued failed = record {
 abbrev pub new_reader_state : Order → Option (List ℕ) → List GName → ReaderState
 new_reader_state o known places = record {
   bits = option_map (λ bs. bits o bs) known;
+  bytes = known;
   taken = 0;
   fetched = 0;
   failed = false;

@@ -1,15 +1,18 @@
 -- What one read does to a reader.
-use Rattle.std.specs.Prelude.{◌≡◌, ℕ, ◌+◌, ◌/◌, ◌≤◌, Bool, true, false, List, ◌∷◌, ◌++◌, length, Option, Some, None, Result, Ok, Err, ⊤}
+use Rattle.std.specs.Prelude.{◌≡◌, ℕ, ◌+◌, ◌*◌, ◌/◌, ◌≤◌, Bool, true, false, List, ◌∷◌, ◌++◌, length, Option, option_map, Some, None, Result, Ok, Err, ⊤}
 use Rattle.std.specs.Borrow.{GName}
+use Rattle.std.specs.Io.KnownBytes.{Consumes}
 use Rattle.std.specs.declared.io.ErrorKind.{ErrorKind}
 use Rattle.bitstream_count.specs.declared.error.Error.{Error}
 use Rattle.bitstream_count.specs.declared.error.Error.TheVariants.{RunTooLong, EndOfInput}
 use Rattle.bitstream_count.specs.Entry.{ReadEntry, TooShort, Takes}
+use Rattle.bitstream_number.specs.Word.{Order, bits}
 use Rattle.bitstream_order.specs.Fault.{read_refusal_of}
 
 pub record ReaderState : Type 0 where
-  -- the bits left to read, where the stream tells
+  -- the bits left to read, and the bytes left in the stream, where the stream tells
   pub bits : Option (List Bool)
+  pub bytes : Option (List ℕ)
   -- how many bits were taken so far, and how many bytes were fetched from the stream for them
   pub taken : ℕ
   pub fetched : ℕ
@@ -25,6 +28,12 @@ abbrev pub Loses : Option (List Bool) → Option (List Bool) → List Bool → T
 Loses None new w = ⊤
 Loses (Some b) None w = ⊥
 Loses (Some b) (Some c) w = b ≡ w ++ c
+
+-- the stream lost as many bytes as were fetched
+pub record Drains (old new : ReaderState) : Type 0 where
+  pub gone : List ℕ
+  pub loses : Consumes old.bytes new.bytes gone
+  pub fetched : new.fetched ≡ old.fetched + length gone
 
 -- the answer after which a reader that answered has failed
 abbrev pub is_run_too_long : {A : Type 0} → Result A Error → Bool
@@ -44,6 +53,7 @@ pub record Answers {A : Type 0} (entry : ReadEntry A) (old : ReaderState) (resul
   pub decides : (more : List Bool) → entry.reads old.taken (word ++ more) ≡ Takes (length word) result
   pub loses : Loses old.bits new.bits word
   pub taken : new.taken ≡ old.taken + length word
+  pub drains : Drains old new
   pub refused : new.refused ≡ old.refused
   pub misled : new.misled ≡ old.misled
   pub places : new.places ≡ old.places
@@ -72,6 +82,10 @@ pub data Reads {A : Type 0} (entry : ReadEntry A) (old : ReaderState) (result : 
 -- a reader has fetched the bytes of the bits taken, and no more
 abbrev pub Demands : ReaderState → Type 0
 Demands s = s.fetched ≡ (s.taken + 7) / 8
+
+-- the bits left to read are some of the bytes fetched that were not taken, and then those of the stream
+abbrev pub Holds : Order → ReaderState → Type 0
+Holds o s = (held : List Bool) × (s.taken + length held ≡ 8 * s.fetched) × (s.bits ≡ option_map (λ bs. held ++ bits o bs) s.bytes)
 
 -- the same reader, which has failed
 abbrev pub failing : ReaderState → ReaderState

@@ -2,7 +2,7 @@
 ghost use Rattle.std.specs.Prelude.{◌≡◌, ℕ, ◌%◌, ◌↔◌, false, Ok, IsTrue};
 ghost use Rattle.bitstream_number.specs.Word.{Order};
 ghost use Rattle.bitstream_order.specs.Draw.{seen};
-ghost use Rattle.bitstream_stream.specs.Reads.{ReaderState, Reads, Demands, failing, lent};
+ghost use Rattle.bitstream_stream.specs.Reads.{ReaderState, Reads, Demands, Holds, failing, lent};
 ghost use Rattle.bitstream_stream.specs.ReadTable.{bit_entry, unsigned_entry, align_entry};
 
 use bitstream_count::count::{BitCount, Count};
@@ -65,6 +65,9 @@ pub trait BitRead {
 
     // A reader asks for a byte only when it needs a bit of it.
     ghost demands: { (reader : Self) → Demands (state reader) };
+
+    // The bits left to read are those of the bytes left, behind what the reader holds back.
+    ghost holds: { (reader : Self) → Holds order (state reader) };
 }
 
 impl<R: BitRead> BitRead for &mut R {
@@ -97,4 +100,6 @@ impl<R: BitRead> BitRead for &mut R {
     }
 
     ghost demands = { λ reader. R.demands reader.now };
+
+    ghost holds = { λ reader. R.holds reader.now };
 }

@@ -1,6 +1,8 @@
 //! A reader of bits over a stream of bytes.
-ghost use Rattle.std.specs.Prelude.{◌≡◌, ℕ, ◌+◌, ◌*◌, ◌^◌, ◌<◌, ◌≤◌, false};
-ghost use Rattle.std.proofs.Common.{rules};
+ghost use Rattle.std.specs.Prelude.{◌≡◌, ℕ, ◌+◌, ◌-◌, ◌*◌, ◌^◌, ◌<◌, ◌≤◌, false};
+ghost use Rattle.std.proofs.Common.{rules, arith, refl};
+ghost use Rattle.bitstream_number.proofs.WordLemmas.{length-word};
+ghost use Rattle.bitstream_number.specs.Word.{word};
 ghost use Rattle.bitstream_order.specs.Draw.{seen};
 ghost use Rattle.bitstream_order.specs.Port.{port_state, fetched_count};
 ghost use Rattle.bitstream_stream.specs.Reads.{Reads};
@@ -127,4 +129,6 @@ impl<R: Source, E: Endianness> BitRead for BitReader<R, E> {
     }
 
     ghost demands = { λ r. Prim.search rules };
+
+    ghost holds = { λ r. (word E.order r.queued r.queue, (let len = length-word E.order r.queued r.queue in let few = r.fetched in omega arith), refl) };
 }
