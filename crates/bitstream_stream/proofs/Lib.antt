@@ -1,0 +1,3 @@
+pub mod SinkLemmas
+pub mod SinkParts
+pub mod WriteLemmas
