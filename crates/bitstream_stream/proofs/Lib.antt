@@ -1,3 +1,4 @@
 pub mod SinkLemmas
 pub mod SinkParts
 pub mod WriteLemmas
+pub mod WriterLemmas

@@ -69,3 +69,14 @@ empty K exact e old r new d (was_refused d' p en re k) q h = cc
 empty K exact e old r new d (passed_limit y u v p en b re s o a) q h = absurd (let same : y ≡ [] = cc in not_beyond K.limit (K.len old) _ (K.within old) (omega (arith, ap length same)) b)
 empty K exact e old r new d (had_fault y d' p en nz re k) q h = absurd (let same : y ≡ [] = cc in omega (arith, ap length same))
 empty K exact e old r new d (did_write y w p en wi re a) q h = cc
+
+-- a state as it was
+pub kept : {S : Type 0} (K : Sink S) (s : S) → Kept K s s
+kept K s = record { grown = K.appends_nil s; failed = refl; refused = refl; places = refl }
+
+-- a call on a sink that has failed, and one that is refused at once
+pub fails : {S T : Type 0} (K : Sink S) (exact : Bool) (e : WriteEntry) (s : S) (r : Result T Error) → K.failed s ≡ true → r ≡ Err Failed → WriteOutcome K exact e s r s
+fails K exact e s r broken q = was_failed broken q (kept K s)
+
+pub refuses : {S T : Type 0} (K : Sink S) (exact : Bool) (e : WriteEntry) (s : S) (r : Result T Error) (d : Error) → K.failed s ≡ false → e (K.len s) ≡ Err d → r ≡ Err d → WriteOutcome K exact e s r s
+refuses K exact e s r d sound is q = was_refused d sound is q (kept K s)

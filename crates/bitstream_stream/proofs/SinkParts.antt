@@ -95,7 +95,7 @@ module _ {S : Type 0} (K : Sink S) where
       (IsBeyond-more K.limit _ _ (omega (arith, ap length same, length-append y z, length-append x (y ++ z), K.appends_len old mid x b.done.grown)) be)
       (cc)
       (ap (λ (l : List Bool). x ++ (l ++ z)) (sym same ∙ s) ∙ ap (λ (l : List Bool). x ++ l) (append_assoc u v z) ∙ sym (append_assoc x u (v ++ z)))
-      (not_exact u)
+      (not_exact (x ++ u))
       (record {
         grown = K.appends_trans old mid new x u b.done.grown a.grown;
         sound = a.sound;

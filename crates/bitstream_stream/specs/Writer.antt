@@ -1,5 +1,5 @@
 -- What the states of a writer mean.
-use Rattle.std.specs.Prelude.{◌≡◌, ℕ, ◌+◌, ◌*◌, ◌<◌, Bool, List, [], ◌++◌, length, Option, None}
+use Rattle.std.specs.Prelude.{◌≡◌, ℕ, ◌+◌, ◌*◌, ◌<◌, Bool, false, List, [], ◌++◌, length, Option, None, Result, Ok, Err}
 use Rattle.std.specs.Borrow.{GName}
 use Rattle.std.specs.Io.KnownBytes.{Appends}
 use Rattle.std.proofs.Common.{refl, sym, ap, ◌∙◌, append-nil, append_assoc, add-zero, length-append, arith}
@@ -7,7 +7,8 @@ use Rattle.std.proofs.KnownBytes.{Appends-nil, Appends-trans}
 use Rattle.bitstream_number.specs.Word.{Order, word, bits}
 use Rattle.bitstream_number.proofs.WordLemmas.{length-word, length-bits, bits-append}
 use Rattle.bitstream_order.specs.Port.{PortState, port_state}
-use Rattle.bitstream_stream.specs.Sink.{Sink, inner_sink}
+use Rattle.bitstream_count.specs.declared.error.Error.{Error}
+use Rattle.bitstream_stream.specs.Sink.{Sink, Appended, Faulted, inner_sink}
 use Rattle.bitstream_stream.specs.declared.writer.BitWriter.{BitWriter}
 
 -- a port, and the bits that are still to go to it: the word of `queue`, `queued` bits long
@@ -24,6 +25,15 @@ writer_state held places w = record {
   queued = w.queued;
   queue = w.queue;
   failed = w.failed
+}
+
+-- a writer to which nothing was written, by what its stream tells
+abbrev pub fresh_writer : Option (List ℕ) → List GName → WriterState
+fresh_writer held places = record {
+  port = record { bytes = held; fetched = 0; sent = 0; requests = 0; refused = 0; misled = 0; places = places };
+  queued = 0;
+  queue = 0;
+  failed = false
 }
 
 -- whole bytes were handed on, and the bits behind them are queued
@@ -66,6 +76,11 @@ module _ (o : Order) where
     within = λ _. tt;
     appends_len = Carries-len;
   }
+
+-- the bits x go behind those that a sound writer has, or a request is refused and it has failed
+abbrev pub Pushes : Order → List Bool → WriterState → Result (Unit {0}) Error → WriterState → Type 0
+Pushes o x old (Ok done) new = Appended (queue_sink o) old x new
+Pushes o x old (Err error) new = (0 < length x) × Faulted (queue_sink o) old error new
 
 -- a writer as a sink
 abbrev pub writer_sink : {W E : Type 0} → (W → Option (List ℕ)) → (W → List GName) → Order → Sink (BitWriter W E)
