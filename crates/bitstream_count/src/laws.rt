@@ -14,7 +14,10 @@ pub fn equal_counts_are_equal_numbers<const MAX: u32>(a: &BitCount<MAX>, b: &Bit
 }
 
 /// Two signed counts are equal exactly where their numbers are.
-pub fn equal_signed_counts_are_equal_numbers<const MAX: u32>(a: &SignedBitCount<MAX>, b: &SignedBitCount<MAX>) -> bool
+pub fn equal_signed_counts_are_equal_numbers<const MAX: u32>(
+    a: &SignedBitCount<MAX>,
+    b: &SignedBitCount<MAX>,
+) -> bool
     ensures { IsTrue result ↔ (a.now ≡ b.now) }
 {
     a == b
@@ -60,7 +63,11 @@ pub fn counts_go_back<const MAX: u32>(count: BitCount<MAX>) -> Result<BitCount<M
 /// A signed count comes back from its number, and from the count that it is.
 pub fn signed_counts_go_back<const MAX: u32>(
     count: SignedBitCount<MAX>,
-) -> (Result<SignedBitCount<MAX>, u32>, Result<SignedBitCount<MAX>, ()>, Option<SignedBitCount<MAX>>)
+) -> (
+    Result<SignedBitCount<MAX>, u32>,
+    Result<SignedBitCount<MAX>, ()>,
+    Option<SignedBitCount<MAX>>,
+)
     ensures number { result.0 ≡ Ok count.entry }
     ensures count { result.1 ≡ Ok count.entry }
     ensures signed { result.2 ≡ Some count.entry }
