@@ -1,5 +1,5 @@
 -- How the table's entries are made of one another.
-use Rattle.std.proofs.Common.{◌≡◌, ℕ, ◌+◌, ◌^◌, ◌≤◌, Bool, true, false, List, [], ◌∷◌, length, Result, Ok, Err, refl, ap, arith, nat_eq}
+use Rattle.std.proofs.Common.{◌≡◌, ℕ, ◌≤◌, Bool, true, false, List, [], ◌∷◌, length, Ok, refl, ap, arith, nat_eq}
 use Rattle.std.proofs.lemmas.Bool.{le-leb}
 use Rattle.bitstream_count.specs.Entry.{chain, gives, takes}
 use Rattle.bitstream_number.specs.Word.{Order, High, Low, digits_number, digit_value, number}

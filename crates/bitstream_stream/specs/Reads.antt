@@ -1,5 +1,5 @@
 -- What one read does to a reader.
-use Rattle.std.specs.Prelude.{◌≡◌, ℕ, ◌+◌, ◌*◌, ◌/◌, ◌≤◌, Bool, true, false, List, ◌∷◌, ◌++◌, length, Option, option_map, Some, None, Result, Ok, Err, ⊤}
+use Rattle.std.specs.Prelude.{◌≡◌, ℕ, ◌+◌, ◌*◌, ◌/◌, ◌<◌, ◌≤◌, Bool, true, false, List, ◌∷◌, ◌++◌, length, Option, option_map, Some, None, Result, Err, ⊤}
 use Rattle.std.specs.Borrow.{GName}
 use Rattle.std.specs.Io.KnownBytes.{Consumes}
 use Rattle.std.specs.declared.io.ErrorKind.{ErrorKind}
@@ -94,3 +94,12 @@ failing s = record s { failed = true }
 -- the same reader, seen through a reference of this name
 abbrev pub lent : GName → ReaderState → ReaderState
 lent name s = record s { places = name ∷ s.places }
+
+-- A new reader's stream lost these bytes to calls that answered: they are those of the front, and no
+-- more than it needs.
+pub record TakesBytes {A : Type 0} (o : Order) (entry : ReadEntry A) (old : Option (List ℕ)) (result : Result A Error) (new : Option (List ℕ)) : Type 0 where
+  pub gone : List ℕ
+  pub loses : Consumes old new gone
+  pub len : ℕ
+  pub least : (8 * length gone < len + 8) × (len ≤ 8 * length gone)
+  pub front : (xs : List ℕ) → old ≡ Some xs → entry.reads 0 (bits o gone) ≡ Takes len result
