@@ -10,20 +10,14 @@ use Rattle.bitstream_order.specs.Parts.{piece}
 pub three : (o : Order) (n v at k : ℕ) → at + k ≤ n → (a : List Bool) × (z : List Bool) × (length a ≡ at) × (word o n v ≡ a ++ (word o k (piece o n v at k) ++ z))
 three High n v at k le =
     let r = n - (at + k) in
-    let sum : n ≡ at + (k + r) = omega arith in (
-      word High at (v / 2 ^ (k + r)),
-      word High r v,
-      length-word High at _,
-      ap (λ m. word High m v) sum ∙ word-add High at (k + r) v ∙ ap (λ w. word High at (v / 2 ^ (k + r)) ++ w) (word-add High k r v ∙ ap (λ w. w ++ word High r v) (sym (word-mod High k (v / 2 ^ r)))),
-    )
+    let sum : n ≡ at + (k + r) = omega arith in
+    (word High at (v / 2 ^ (k + r)), word High r v, length-word High at _,
+     ap (λ m. word High m v) sum ∙ word-add High at (k + r) v ∙ ap (λ w. word High at (v / 2 ^ (k + r)) ++ w) (word-add High k r v ∙ ap (λ w. w ++ word High r v) (sym (word-mod High k (v / 2 ^ r)))))
 three Low n v at k le =
     let r = n - (at + k) in
-    let sum : n ≡ (r + k) + at = omega arith in (
-      word Low at v,
-      word Low r (v / 2 ^ at / 2 ^ k),
-      length-word Low at _,
-      ap (λ m. word Low m v) sum ∙ word-add Low (r + k) at v ∙ ap (λ w. word Low at v ++ w) (word-add Low r k (v / 2 ^ at) ∙ ap (λ w. w ++ word Low r (v / 2 ^ at / 2 ^ k)) (sym (word-mod Low k (v / 2 ^ at)))),
-    )
+    let sum : n ≡ (r + k) + at = omega arith in
+    (word Low at v, word Low r (v / 2 ^ at / 2 ^ k), length-word Low at _,
+     ap (λ m. word Low m v) sum ∙ word-add Low (r + k) at v ∙ ap (λ w. word Low at v ++ w) (word-add Low r k (v / 2 ^ at) ∙ ap (λ w. w ++ word Low r (v / 2 ^ at / 2 ^ k)) (sym (word-mod Low k (v / 2 ^ at)))))
 
 pub piece_more : (o : Order) (n v at k : ℕ) → at + k ≤ n → take (at + k) (word o n v) ≡ take at (word o n v) ++ word o k (piece o n v at k)
 piece_more o n v at k le =

@@ -17,8 +17,8 @@ overflow_add-at g c = let at = c.loop-byte.invariant.0 in let more = c.loop-byte
 pub loop-byte-preserved : goal.loop-byte-preserved
 loop-byte-preserved g c =
     let inv = c.loop-byte.invariant in
-    let small : get_or c.args.bytes.now c.loop-byte.byte-index 0 < 256 = search rules in (
-      omega arith,
-      subst (λ v. v < 2 ^ (c.loop-byte.at + 8)) (sym c.put-value.ensures) (put_below _ _ _ _ 8 inv.1 small),
-      byte_more _ c.args.bytes.now c.loop-byte.byte-index _ _ c.loop-byte.at _ _ _ c.loop-byte-test.true refl small inv.1 inv.2 c.put-value.ensures,
-    )
+    let small : get_or c.args.bytes.now c.loop-byte.byte-index 0 < 256 = search rules in
+    (omega arith,
+     subst (λ v. v < 2 ^ (c.loop-byte.at + 8)) (sym c.put-value.ensures) (put_below _ _ _ _ 8 inv.1 small),
+     byte_more _ c.args.bytes.now c.loop-byte.byte-index _ _ c.loop-byte.at _ _ _ c.loop-byte-test.true refl small inv.1 inv.2 c.put-value.ensures)
+
