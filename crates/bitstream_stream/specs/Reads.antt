@@ -1,6 +1,7 @@
 -- What one read does to a reader.
-use Rattle.std.specs.Prelude.{◌≡◌, ℕ, ◌+◌, ◌*◌, ◌/◌, ◌<◌, ◌≤◌, Bool, true, false, List, ◌∷◌, ◌++◌, length, Option, option_map, Some, None, Result, Err, ⊤}
+use Rattle.std.specs.Prelude.{◌≡◌, ℕ, ◌+◌, ◌*◌, ◌/◌, ◌<◌, ◌≤◌, Bool, true, false, List, ◌∷◌, ◌++◌, length, Option, option_map, Some, None, Result, Ok, Err, ⊤}
 use Rattle.std.specs.Borrow.{GName}
+use Rattle.std.specs.Result.{IsErrAnd}
 use Rattle.std.specs.Io.KnownBytes.{Consumes}
 use Rattle.std.specs.declared.io.ErrorKind.{ErrorKind}
 use Rattle.bitstream_count.specs.declared.error.Error.{Error}
@@ -103,3 +104,15 @@ pub record TakesBytes {A : Type 0} (o : Order) (entry : ReadEntry A) (old : Opti
   pub len : ℕ
   pub least : (8 * length gone < len + 8) × (len ≤ 8 * length gone)
   pub front : (xs : List ℕ) → old ≡ Some xs → entry.reads 0 (bits o gone) ≡ Takes len result
+
+-- the answer of a call that compares, and whose own error is of another type
+abbrev pub ConstAnswer : {E : Type 0} → (Error → E → Type 0) → E → Result Bool Error → Result (Unit {0}) E → Type 0
+ConstAnswer gives err (Ok true) result = result ≡ Ok tt
+ConstAnswer gives err (Ok false) result = result ≡ Err err
+ConstAnswer gives err (Err x) result = IsErrAnd result (gives x)
+
+-- a call that answers `err` where a word is not what it should be, and turns any other refusal into its own type
+pub record ReadsConst {E : Type 0} (gives : Error → E → Type 0) (entry : ReadEntry Bool) (err : E) (old : ReaderState) (result : Result (Unit {0}) E) (new : ReaderState) : Type 0 where
+  pub plain : Result Bool Error
+  pub reads : Reads entry old plain new
+  pub answer : ConstAnswer gives err plain result

@@ -38,7 +38,7 @@ returns-in_err-byte-clause-reads g c =
     let same = g.met.U.UnsignedInteger.byte_law _ _ c.from_u8-queue.ensures byte in
     rw (seen_err g.U.UnsignedInteger.value c.from_residual-in_err-byte.result c.from_residual-in_err-byte.ensures.1)
     (stopped o _ queued queue c.args.bits (queued + 8 * ((c.args.bits - queued) / 8)) _ 1 _ _ _ _ p mid new c.requires.fine c.requires.room (omega arith)
-    (draws_as o queued _ queue _ _ _ p mid same refl c.in_ok-value.ensures.gathers) c.in_err-byte.ensures)
+    (draws_as o queued _ queue _ _ _ p mid same refl c.in_ok-value.ensures.gathers) c.in_err-byte.ensures.byte)
 
 pub put-requires-clause-small : goal.put-requires-clause-small
 put-requires-clause-small g c =
@@ -61,7 +61,7 @@ returns-clause-reads g c =
     answered _ _ _ _ _ _ _ _ _ _ p new c.requires.fine refl c.requires.room c.args.self.now.fetched
     (draws_byte o queued queue (c.args.bits - shared) _ shared c.args.bits _ _ _ c.in_ok-byte.byte p mid new
     (draws_as o queued _ queue _ (c.args.bits - shared) _ p mid same (omega arith) c.in_ok-value.ensures.gathers)
-    c.in_ok-byte.ensures byte (omega arith) (omega arith) c.first.ensures c.rest-self.ensures c.put.ensures)
+    c.in_ok-byte.ensures.byte byte (omega arith) (omega arith) c.first.ensures c.rest-self.ensures c.put.ensures)
 
 pub invariant_of-self-2-clause-small : goal.invariant_of-self-2-clause-small
 invariant_of-self-2-clause-small g c =
