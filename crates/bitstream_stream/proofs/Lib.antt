@@ -4,5 +4,9 @@ pub mod ReaderLemmas
 pub mod ReadsLemmas
 pub mod Rows
 pub mod SignedLemmas
+pub mod SinkLemmas
+pub mod SinkParts
 pub mod TableLemmas
 pub mod TakenLemmas
+pub mod WriteLemmas
+pub mod WriterLemmas

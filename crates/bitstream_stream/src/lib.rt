@@ -1,7 +1,10 @@
 //! Readers and writers of bits.
 #![tactic(auto)]
 
+mod check;
 mod complement;
 pub mod read;
 pub mod reader;
 mod width;
+pub mod write;
+pub mod writer;

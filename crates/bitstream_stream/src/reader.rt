@@ -4,6 +4,7 @@ ghost use Rattle.std.proofs.Common.{rules, arith, refl};
 ghost use Rattle.bitstream_number.proofs.WordLemmas.{length-word};
 ghost use Rattle.bitstream_number.specs.Word.{word};
 ghost use Rattle.bitstream_order.specs.Draw.{seen};
+ghost use Rattle.bitstream_order.specs.Mislead.{MisledOnlyBy};
 ghost use Rattle.bitstream_order.specs.Port.{port_state, fetched_count};
 ghost use Rattle.bitstream_stream.specs.Reads.{Reads};
 ghost use Rattle.bitstream_stream.specs.ReadTable.{unsigned_entry};
@@ -64,6 +65,7 @@ impl<R: Source, E: Endianness> BitReader<R, E> {
         requires room { bits ≤ U.BITS_SIZE }
         ensures reads { Reads (unsigned_entry E.order U.BITS_SIZE bits) (⟦<BitReader<R, E> as BitRead>⟧.state self.old) (seen U.value result) (⟦<BitReader<R, E> as BitRead>⟧.state self.new) }
         ensures requests { requests_made self.new ≤ requests_made self.old + 2 }
+        ensures misled { MisledOnlyBy R.known R.refuses (⟦<BitReader<R, E> as BitRead>⟧.state self.old).misled (⟦<BitReader<R, E> as BitRead>⟧.state self.new).misled }
     {
         let queued = self.queued;
         let shared = (bits - queued) % 8;
@@ -94,6 +96,7 @@ impl<R: Source, E: Endianness> BitRead for BitReader<R, E> {
     fn read_unsigned_counted<C: Count, U: UnsignedInteger>(&mut self, bits: C) -> Result<U, Error>
         ensures reads { Reads (unsigned_entry E.order U.BITS_SIZE (C.number bits)) (⟦<BitReader<R, E> as BitRead>⟧.state self.old) (seen U.value result) (⟦<BitReader<R, E> as BitRead>⟧.state self.new) }
         ensures requests { requests_made self.new ≤ requests_made self.old + 2 }
+        ensures misled { MisledOnlyBy R.known R.refuses (⟦<BitReader<R, E> as BitRead>⟧.state self.old).misled (⟦<BitReader<R, E> as BitRead>⟧.state self.new).misled }
         ensures queued { C.number bits ≤ queued_bits self.old → requests_made self.new ≡ requests_made self.old }
     {
         let bits = bits.bits();
