@@ -3,6 +3,7 @@
 
 mod check;
 mod complement;
+pub mod laws;
 pub mod read;
 pub mod reader;
 mod width;
