@@ -53,3 +53,11 @@ replicate-split i n b h =
 -- one zero nearer to a multiple of 8
 pub padding-step : (n : ℕ) → n % 8 ≢ 0 → padding n ≡ 1 + padding (n + 1)
 padding-step n h = omega arith
+
+-- what was accepted is the word
+pub unsigned-accepted : (o : Order) (size n v len : ℕ) (x : List Bool) → unsigned o size n v len ≡ Ok x → x ≡ word o n v
+unfolding unsigned
+unsigned-accepted o size n v len x h = grind (arith, nat_tests)
+
+pub padded : (len : ℕ) → (len + padding len) % 8 ≡ 0
+padded len = omega arith

@@ -2,5 +2,9 @@
 #![tactic(auto)]
 
 pub mod check;
+#[cfg(test)]
+mod lent_writes;
 pub mod write;
+#[cfg(test)]
+mod write_tests;
 pub mod writer;

@@ -18,7 +18,11 @@ pub trait BitWrite {
     ///
     /// `Checked(ExcessiveBits)` for more bits than the type has, `Checked(ExcessiveValue)` for a
     /// number of more bits than the count: nothing was written.
-    fn write_unsigned_counted<C: Count, U: UnsignedInteger>(&mut self, count: C, value: U) -> Result<(), Error>
+    fn write_unsigned_counted<C: Count, U: UnsignedInteger>(
+        &mut self,
+        count: C,
+        value: U,
+    ) -> Result<(), Error>
         ensures writes { Writes sink (unsigned sink.order U.BITS_SIZE (C.number count) (U.value value)) self.old result self.new };
 
     /// Whether the sink has not failed, and a multiple of 8 bits was written.
@@ -66,7 +70,11 @@ impl<W: BitWrite> BitWrite for &mut W {
 
     ghost sink = { lent_sink W.sink };
 
-    fn write_unsigned_counted<C: Count, U: UnsignedInteger>(&mut self, count: C, value: U) -> Result<(), Error> {
+    fn write_unsigned_counted<C: Count, U: UnsignedInteger>(
+        &mut self,
+        count: C,
+        value: U,
+    ) -> Result<(), Error> {
         (**self).write_unsigned_counted(count, value)
     }
 

@@ -89,7 +89,11 @@ impl<W: Target, E: Endianness> BitWrite for BitWriter<W, E> {
 
     ghost sink = { writer_sink W.held W.places E.order };
 
-    fn write_unsigned_counted<C: Count, U: UnsignedInteger>(&mut self, count: C, value: U) -> Result<(), Error>
+    fn write_unsigned_counted<C: Count, U: UnsignedInteger>(
+        &mut self,
+        count: C,
+        value: U,
+    ) -> Result<(), Error>
         ensures writes { Writes (writer_sink W.held W.places E.order) (unsigned E.order U.BITS_SIZE (C.number count) (U.value value)) self.old result self.new }
         ensures requests { (writer_state W.held W.places self.new).port.requests ≤ (writer_state W.held W.places self.old).port.requests + 2 }
         ensures unasked { (writer_state W.held W.places self.old).queued + C.number count < 8 → (writer_state W.held W.places self.new).port ≡ (writer_state W.held W.places self.old).port }
