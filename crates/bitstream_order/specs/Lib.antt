@@ -1,5 +1,6 @@
 pub mod Draw
 pub mod Fault
+pub mod Mislead
 pub mod Parts
 pub mod Pass
 pub mod Port

@@ -1,6 +1,7 @@
 //! Words from the bytes of a stream.
 ghost use Rattle.std.specs.Prelude.{◌≡◌, ℕ, ◌+◌, ◌-◌, ◌*◌, ◌^◌, ◌<◌, ◌≤◌, ◌++◌, length};
 ghost use Rattle.bitstream_number.specs.Word.{word, bits};
+ghost use Rattle.bitstream_order.specs.Mislead.{MisledOnlyBy};
 ghost use Rattle.bitstream_order.specs.Port.{port_state};
 ghost use Rattle.bitstream_order.specs.Draw.{Gathers, FetchesByte, seen};
 
@@ -32,6 +33,7 @@ pub fn draw<S: Source, E: Endianness, U: UnsignedInteger>(port: &mut Port<S>, ac
     requires room { done + 8 * length buf.old ≤ U.BITS_SIZE }
     ensures gathers { Gathers E.order (length buf.old) done (U.value acc) (port_state S.known S.places port.old) (seen U.value result) (port_state S.known S.places port.new) }
     ensures requests { (port_state S.known S.places port.new).requests ≡ (port_state S.known S.places port.old).requests + 1 }
+    ensures misled { MisledOnlyBy S.known S.refuses (port_state S.known S.places port.old).misled (port_state S.known S.places port.new).misled }
 {
     match port.fetch(buf) {
         Ok(()) => Ok(gather::<E, U>(acc, done, buf)),
@@ -45,6 +47,7 @@ pub fn whole_bytes<S: Source, E: Endianness, U: UnsignedInteger>(port: &mut Port
     requires room { done + 8 * count ≤ U.BITS_SIZE }
     ensures gathers { Gathers E.order count done (U.value acc) (port_state S.known S.places port.old) (seen U.value result) (port_state S.known S.places port.new) }
     ensures requests { (port_state S.known S.places port.new).requests ≤ (port_state S.known S.places port.old).requests + 1 }
+    ensures misled { MisledOnlyBy S.known S.refuses (port_state S.known S.places port.old).misled (port_state S.known S.places port.new).misled }
 {
     match count {
         0 => Ok(acc),
@@ -62,7 +65,8 @@ pub fn whole_bytes<S: Source, E: Endianness, U: UnsignedInteger>(port: &mut Port
 
 /// The next byte of the stream.
 pub fn one_byte<S: Source>(port: &mut Port<S>) -> Result<u8, Error>
-    ensures { FetchesByte (port_state S.known S.places port.old) result (port_state S.known S.places port.new) }
+    ensures byte { FetchesByte (port_state S.known S.places port.old) result (port_state S.known S.places port.new) }
+    ensures misled { MisledOnlyBy S.known S.refuses (port_state S.known S.places port.old).misled (port_state S.known S.places port.new).misled }
 {
     let mut buf = [0u8];
     match port.fetch(&mut buf) {

@@ -2,6 +2,7 @@
 ghost use Rattle.std.specs.Prelude.{◌≡◌, ℕ, ◌+◌, length};
 ghost use Rattle.std.specs.IoError.{error_kind};
 ghost use Rattle.bitstream_order.specs.Fault.{read_refusal_of, refusal_of, misled_by};
+ghost use Rattle.bitstream_order.specs.Mislead.{MisledOnlyBy};
 ghost use Rattle.bitstream_order.specs.Port.{port_state, Fetches, Sends};
 
 use crate::source::Source;
@@ -77,7 +78,8 @@ impl<S> Port<S> {
 impl<S: Source> Port<S> {
     /// Makes one request, which fills the buffer.
     pub fn fetch(&mut self, buf: &mut [u8]) -> Result<(), Error>
-        ensures { Fetches (port_state S.known S.places self.old) buf.new result (port_state S.known S.places self.new) }
+        ensures fetches { Fetches (port_state S.known S.places self.old) buf.new result (port_state S.known S.places self.new) }
+        ensures misled { MisledOnlyBy S.known S.refuses (port_state S.known S.places self.old).misled (port_state S.known S.places self.new).misled }
     {
         let before = Snapshot::of(&self.stream);
         self.requests.add(1);

@@ -1,9 +1,11 @@
 //! Readers and writers of bits.
 #![tactic(auto)]
 
-pub mod check;
+mod check;
 #[cfg(test)]
 mod lent_writes;
+pub mod read;
+pub mod reader;
 pub mod write;
 #[cfg(test)]
 mod write_tests;
