@@ -2,10 +2,12 @@
 #![tactic(auto)]
 
 mod check;
+mod complement;
 #[cfg(test)]
 mod lent_writes;
 pub mod read;
 pub mod reader;
+mod width;
 pub mod write;
 #[cfg(test)]
 mod write_tests;
