@@ -1,9 +1,10 @@
 -- The table of write calls.
-use Rattle.std.proofs.Common.{◌≡◌, ◌≢◌, ℕ, zero, suc, ◌+◌, ◌-◌, ◌*◌, ◌/◌, ◌%◌, ◌^◌, ◌<◌, ◌≤◌, Bool, true, false, cond, List, [], ◌∷◌, ◌++◌, length, replicate, Ok, Err, Result, refl, sym, ◌∙◌, ap, arith}
+use Rattle.std.proofs.Common.{◌≡◌, ◌≢◌, ◌⊎◌, inl, inr, subst, ap₂, lt_of_le_of_lt, ℕ, zero, suc, ◌+◌, ◌-◌, ◌*◌, ◌/◌, ◌%◌, ◌^◌, ◌<◌, ◌≤◌, Bool, true, false, cond, List, [], ◌∷◌, ◌++◌, length, replicate, Ok, Err, Result, refl, sym, ◌∙◌, ap, arith}
 use Rattle.std.specs.Prelude.{ℤ, pos, negsuc}
 use Rattle.std.proofs.lemmas.Bool.Decides.{nat_tests}
 use Rattle.std.proofs.lemmas.List.{replicate-append-replicate}
-use Rattle.bitstream_number.specs.Word.{Order, High, Low, digits, word, signed_word}
+use Rattle.bitstream_number.specs.Word.{Order, High, Low, digits, word, signed_word, count_width}
+use Rattle.bitstream_number.proofs.WordLemmas.{count_fits}
 use Rattle.bitstream_order.proofs.DrawLemmas.{word-none}
 use Rattle.bitstream_count.specs.declared.error.Error.{Error}
 use Rattle.bitstream_count.specs.declared.error.Error.TheVariants.{Checked, NoSignBit}
@@ -79,3 +80,19 @@ unsigned-accepted o size n v len x h = grind (arith, nat_tests)
 
 pub padded : (len : ℕ) → (len + padding len) % 8 ≡ 0
 padded len = omega arith
+
+pub none_of : (n : ℕ) → (0 < n → ⊥) → n ≡ 0
+none_of zero h = refl
+none_of (suc n) h = absurd (h (omega arith))
+
+-- a constant is accepted
+pub unsigned-const : (o : Order) (size n v len : ℕ) → n ≤ size → (v < 2 ^ n) ⊎ (n ≡ 0) → unsigned o size n v len ≡ Ok (word o n v)
+unsigned-const o size n v len h (inl fits) = unsigned-fits o size n v len h fits
+unsigned-const o size n v len h (inr none) = unsigned-accepts o size n v len (h, λ some. absurd (omega (arith, none, some)))
+
+-- a count is accepted in the bits of its greatest number
+pub unsigned-count : (o : Order) (size max n v w m len : ℕ) → w ≡ count_width m → m ≡ max → w ≤ size → v ≡ n → v ≤ max → unsigned o size w v len ≡ Ok (word o (count_width max) n)
+unsigned-count o size max n v w m len width same le is bound =
+    let e : w ≡ count_width max = width ∙ ap count_width same in
+    let fits : v < 2 ^ w = subst (λ (k : ℕ). v < 2 ^ k) (sym e) (lt_of_le_of_lt bound (count_fits max)) in
+    unsigned-fits o size w v len le fits ∙ ap₂ (λ (k x : ℕ). Ok (word o k x)) e is
