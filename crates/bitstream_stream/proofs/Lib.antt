@@ -10,4 +10,5 @@ pub mod SinkParts
 pub mod TableLemmas
 pub mod TakenLemmas
 pub mod WriteLemmas
+pub mod WriteParts
 pub mod WriterLemmas
