@@ -33,7 +33,11 @@ pub trait BitWrite {
     ///
     /// `Checked(ExcessiveBits)` for more bits than the type has, `Checked(ExcessiveValue)` for a
     /// number that the count does not hold: nothing was written.
-    fn write_signed_counted<C: SignedCount, S: SignedInteger>(&mut self, count: C, value: S) -> Result<(), Error>
+    fn write_signed_counted<C: SignedCount, S: SignedInteger>(
+        &mut self,
+        count: C,
+        value: S,
+    ) -> Result<(), Error>
         ensures writes { Writes sink (signed sink.order S.BITS_SIZE (C.number count) (S.integer value)) self.old result self.new };
 
     /// Whether the sink has not failed, and a multiple of 8 bits was written.
@@ -140,7 +144,11 @@ impl<W: BitWrite> BitWrite for &mut W {
         (**self).write_unsigned_counted(count, value)
     }
 
-    fn write_signed_counted<C: SignedCount, S: SignedInteger>(&mut self, count: C, value: S) -> Result<(), Error> {
+    fn write_signed_counted<C: SignedCount, S: SignedInteger>(
+        &mut self,
+        count: C,
+        value: S,
+    ) -> Result<(), Error> {
         (**self).write_signed_counted(count, value)
     }
 
