@@ -4,6 +4,7 @@
 mod decimal;
 mod fault;
 mod field;
+pub mod laws;
 mod layout;
 
 fn main(rt: HostRuntime) {
