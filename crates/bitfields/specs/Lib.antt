@@ -1,3 +1,4 @@
 pub mod Decimal
 pub mod Fault
 pub mod Layout
+pub mod Value

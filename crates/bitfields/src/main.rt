@@ -4,8 +4,10 @@
 mod decimal;
 mod fault;
 mod field;
-pub mod laws;
+mod laws;
 mod layout;
+mod lines;
+mod value;
 
 fn main(rt: HostRuntime) {
     let _ = rt;
