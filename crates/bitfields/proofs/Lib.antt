@@ -1,3 +1,5 @@
 pub mod DecimalLemmas
 pub mod LayoutLemmas
 pub mod SpelledLayouts
+pub mod ValueLemmas
+pub mod Rows

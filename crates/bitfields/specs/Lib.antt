@@ -2,3 +2,5 @@ pub mod Decimal
 pub mod Fault
 pub mod Layout
 pub mod Value
+pub mod Packing
+pub mod Unpacking

@@ -1,5 +1,5 @@
 -- Value lines: what an input says for the fields of a layout, and what is printed of values.
-use Rattle.std.specs.Prelude.{ℕ, ◌≡◌, ◌⊎◌, ◌+◌, ◌-◌, ◌^◌, ◌==◌, if◌then◌else◌, List, [], ◌∷◌, ◌++◌, length, take, drop, slice_index_or, Option, Some, None, Result, Ok, Err}
+use Rattle.std.specs.Prelude.{ℕ, ◌≡◌, ◌⊎◌, ◌+◌, ◌-◌, ◌^◌, ◌<◌, ◌==◌, ⊤, if◌then◌else◌, List, [], ◌∷◌, ◌++◌, length, take, drop, slice_index_or, Option, Some, None, Result, Ok, Err}
 use Rattle.std.specs.List.{slice_split, flat_map}
 use Rattle.std.specs.Fmt.{decimal}
 use Rattle.bitfields.specs.declared.fault.Reason.{Reason}
@@ -51,10 +51,16 @@ values k [] lines = if length lines == 0 then Ok [] else Err (fault 0 ValueLeftO
 values k (field ∷ fields) lines =
     value_and k (value_in field lines) (values (k + 1) fields (drop (value_count field) lines))
 
--- how many values fields have
-abbrev pub values_count : List Field → ℕ
-values_count [] = 0
-values_count (field ∷ fields) = value_count field + values_count fields
+-- the field's value is there, the first of these, and fits the field; nothing is asked where the field has none
+abbrev pub FitsField : Field → List ℕ → Type 0
+FitsField (Unsigned n) [] = ⊥
+FitsField (Unsigned n) (v ∷ vs) = v < 2 ^ n
+FitsField Align vs = ⊤
+
+-- these are the values of the fields that have one, in their order, and each fits its field
+abbrev pub Fit : List Field → List ℕ → Type 0
+Fit [] vs = vs ≡ []
+Fit (field ∷ fields) vs = FitsField field vs × Fit fields (drop (value_count field) vs)
 
 -- memory was refused, or the answer, seen by a view, is this one
 abbrev pub IsOrMemory : {A B : Type 0} → Result B Fault → (A → B) → Result A Fault → Type 0

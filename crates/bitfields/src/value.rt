@@ -5,7 +5,7 @@ ghost use Rattle.std.specs.List.{All};
 ghost use Rattle.bitfields.specs.Decimal.{decimal_below};
 ghost use Rattle.bitfields.specs.Fault.{fault};
 ghost use Rattle.bitfields.specs.Layout.{IsField, IsLayout};
-ghost use Rattle.bitfields.specs.Value.{lines as lines_of, values as values_of, value_in as value_in_of, value_count as value_count_of, values_count, value_list, IsOrMemory};
+ghost use Rattle.bitfields.specs.Value.{lines as lines_of, values as values_of, value_in as value_in_of, value_count as value_count_of, Fit, value_list, IsOrMemory};
 
 use std::alloc::Global;
 
@@ -22,7 +22,7 @@ use crate::lines::lines;
 /// `OutOfMemory` (field 0) is the only other refusal.
 pub fn values(alloc: Global, layout: &Layout, input: &[u8]) -> Result<Vec<u128>, Fault>
     ensures values { IsOrMemory (values_of 1 layout.now (lines_of input.now)) (λ v. v.items) result }
-    ensures count { IfOk result (λ v. values_count layout.now ≡ length v.items) }
+    ensures fit { IfOk result (λ v. Fit layout.now v.items) }
 {
     let Ok(lines) = lines(alloc, input) else {
         return Err(Fault::new(0, Reason::OutOfMemory));
@@ -32,8 +32,7 @@ pub fn values(alloc: Global, layout: &Layout, input: &[u8]) -> Result<Vec<u128>,
 
 fn read_values(alloc: Global, fields: &[Field], lines: &[&[u8]]) -> Result<Vec<u128>, Fault>
     requires { IsLayout fields.now }
-    ensures values { IsOrMemory (values_of 1 fields.now (map (λ x. x.now) lines.now)) (λ v. v.items) result }
-    ensures count { IfOk result (λ v. values_count fields.now ≡ length v.items) }
+    ensures { IsOrMemory (values_of 1 fields.now (map (λ x. x.now) lines.now)) (λ v. v.items) result }
 {
     let mut values = Vec::new(alloc);
     let mut rest = lines;

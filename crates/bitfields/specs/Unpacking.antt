@@ -1,0 +1,38 @@
+-- Unpacking: the values that bits hold for fields.
+use Rattle.std.specs.Prelude.{ℕ, ◌+◌, if◌then◌else◌, Bool, List, [], ◌∷◌, ◌++◌, length, take, drop, nat_lt}
+use Rattle.bitstream_number.specs.Word.{Order, number}
+use Rattle.bitfields.specs.declared.fault.Reason.{Reason}
+use Rattle.bitfields.specs.declared.fault.Reason.TheVariants.{BitsEnded}
+use Rattle.bitfields.specs.declared.fault.Fault.{Fault}
+use Rattle.bitfields.specs.declared.field.Field.{Field}
+use Rattle.bitfields.specs.declared.field.Field.TheVariants.{Unsigned, Align}
+use Rattle.bitfields.specs.Fault.{fault}
+use Rattle.bitfields.specs.Packing.{to_boundary}
+
+-- what bits say for fields: the values of those that have one, and the place behind the last; or the first fault
+pub data Unpacked : Type 0 where
+  Unpacks : (vs : List ℕ) (at : ℕ) → Unpacked
+  Stops : Fault → Unpacked
+
+-- how many bits a field takes at a place
+abbrev pub field_length : Field → ℕ → ℕ
+field_length (Unsigned n) at = n
+field_length Align at = to_boundary at
+
+-- the value that a field's bits say, if the field has one
+abbrev pub field_values : Order → Field → List Bool → List ℕ
+field_values o (Unsigned n) w = number o w ∷ []
+field_values o Align w = []
+
+-- values before those of the fields that follow
+abbrev pub values_and : List ℕ → Unpacked → Unpacked
+values_and vs (Unpacks ws at) = Unpacks (vs ++ ws) at
+values_and vs (Stops f) = Stops f
+
+-- what the bits from a place on say for fields, which are numbered from k on
+abbrev pub unpacked : Order → ℕ → List Field → ℕ → List Bool → Unpacked
+unpacked o k [] at bits = Unpacks [] at
+unpacked o k (field ∷ fields) at bits =
+    let n = field_length field at in
+    if nat_lt (length bits) n then Stops (fault k BitsEnded)
+    else values_and (field_values o field (take n bits)) (unpacked o (k + 1) fields (at + n) (drop n bits))
