@@ -7,6 +7,7 @@ mod field;
 mod laws;
 mod layout;
 mod lines;
+mod packing;
 mod printing;
 mod value;
 
