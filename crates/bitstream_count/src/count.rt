@@ -74,6 +74,15 @@ impl<const MAX: u32> BitCount<MAX> {
     }
 }
 
+impl BitCount<4294967295> {
+    /// A number of bits of which nothing is known beforehand
+    pub fn unknown(bits: u32) -> Self
+        ensures { result ≡ bits }
+    {
+        BitCount { bits }
+    }
+}
+
 /// A kind of count of bits, and which values of T it holds.
 pub trait Counts<T> {
     ghost holds: { Self → T → Type 0 };

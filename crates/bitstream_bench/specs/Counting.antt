@@ -1,0 +1,10 @@
+-- Counts that stop at the greatest number of their type.
+use Rattle.std.specs.Prelude.{ℕ, ◌+◌, ◌-◌, ◌^◌, min, is_err, if◌then◌else◌, Result}
+
+-- one more
+abbrev pub counted : ℕ → ℕ
+counted n = min (n + 1) (2 ^ 64 - 1)
+
+-- one more where the answer is a refusal
+abbrev pub counted_if_refused : {T E : Type 0} → Result T E → ℕ → ℕ
+counted_if_refused answer n = if is_err answer then counted n else n

@@ -1,0 +1,12 @@
+//! Streams for tests: one that drips, one that refuses, one that counts and one that never ends.
+#![tactic(auto)]
+
+mod count;
+mod drip;
+mod endless;
+mod refuse;
+
+pub use count::Count;
+pub use drip::Drip;
+pub use endless::Endless;
+pub use refuse::Refuse;

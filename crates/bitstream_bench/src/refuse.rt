@@ -1,0 +1,88 @@
+//! A stream that refuses.
+ghost use Rattle.std.specs.Prelude.{◌≡◌, ◌+◌, ◌-◌, OnOk, IsErrAnd};
+ghost use Rattle.std.specs.IoError.{error_kind};
+ghost use Rattle.std.specs.Io.{ReadsAtMost, WritesAtMost};
+ghost use Rattle.std.specs.Io.KnownBytes.{ReadConsumes, WriteAppends, Consumes, Appends, Keeps};
+
+use std::io;
+use std::io::{ErrorKind, Read, Write};
+
+/// Serves `left` requests, and refuses each later one. A refused request reaches no byte.
+#[derive(Drop)]
+pub struct Refuse<S> {
+    /// The stream that it stands before.
+    pub inner: S,
+    /// How many requests it still serves.
+    pub left: u32,
+    /// The kind of each refusal, which is not `Interrupted`: std would ask again.
+    pub kind: ErrorKind,
+}
+
+impl<S> Refuse<S> {
+    /// Counts a request down, or refuses it.
+    fn ask(&mut self) -> io::Result<()>
+        ensures refuses { self.old.left ≡ 0 → IsErrAnd result (λ e. error_kind e ≡ self.old.kind) }
+        ensures serves { OnOk result (self.new.left + 1 ≡ self.old.left) }
+        ensures same { (self.new.inner ≡ self.old.inner) × (self.new.kind ≡ self.old.kind) }
+        ensures left { self.new.left ≡ self.old.left - 1 }
+    {
+        if self.left == 0 {
+            return Err(io::Error::from(self.kind));
+        }
+        self.left -= 1;
+        Ok(())
+    }
+}
+
+impl<S: Read> Read for Refuse<S> {
+    ghost remaining = { λ r. S.remaining r.inner };
+
+    fn read(&mut self, buf: &mut [u8]) -> io::Result<usize>
+        ensures bound { ReadsAtMost result buf.new }
+        ensures bytes { ReadConsumes (S.remaining self.old.inner) (S.remaining self.new.inner) result buf.new }
+        ensures refuses { self.old.left ≡ 0 → IsErrAnd result (λ e. error_kind e ≡ self.old.kind) }
+        ensures left { self.new.left ≡ self.old.left - 1 }
+    {
+        self.ask()?;
+        self.inner.read(buf)
+    }
+
+    fn read_exact(&mut self, buf: &mut [u8]) -> io::Result<()>
+        ensures bytes { OnOk result (Consumes (S.remaining self.old.inner) (S.remaining self.new.inner) buf.new) }
+        ensures refuses { self.old.left ≡ 0 → IsErrAnd result (λ e. error_kind e ≡ self.old.kind) }
+        ensures left { self.new.left ≡ self.old.left - 1 }
+    {
+        self.ask()?;
+        self.inner.read_exact(buf)
+    }
+}
+
+impl<S: Write> Write for Refuse<S> {
+    ghost contents = { λ r. S.contents r.inner };
+
+    fn write(&mut self, buf: &[u8]) -> io::Result<usize>
+        ensures bound { WritesAtMost result buf.now }
+        ensures bytes { WriteAppends (S.contents self.old.inner) (S.contents self.new.inner) result buf.now }
+        ensures refuses { self.old.left ≡ 0 → IsErrAnd result (λ e. error_kind e ≡ self.old.kind) }
+        ensures left { self.new.left ≡ self.old.left - 1 }
+    {
+        self.ask()?;
+        self.inner.write(buf)
+    }
+
+    fn write_all(&mut self, buf: &[u8]) -> io::Result<()>
+        ensures bytes { OnOk result (Appends (S.contents self.old.inner) (S.contents self.new.inner) buf.now) }
+        ensures refuses { self.old.left ≡ 0 → IsErrAnd result (λ e. error_kind e ≡ self.old.kind) }
+        ensures left { self.new.left ≡ self.old.left - 1 }
+    {
+        self.ask()?;
+        self.inner.write_all(buf)
+    }
+
+    fn flush(&mut self) -> io::Result<()>
+        ensures bytes { Keeps (S.contents self.old.inner) (S.contents self.new.inner) }
+        ensures left { self.new.left ≡ self.old.left }
+    {
+        self.inner.flush()
+    }
+}

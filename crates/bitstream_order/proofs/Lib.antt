@@ -1,0 +1,5 @@
+pub mod DrawLemmas
+pub mod FaultLemmas
+pub mod PartLemmas
+pub mod PieceLemmas
+pub mod Steps

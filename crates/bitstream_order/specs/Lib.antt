@@ -1,0 +1,5 @@
+pub mod Draw
+pub mod Fault
+pub mod Mislead
+pub mod Parts
+pub mod Port

@@ -1,0 +1,11 @@
+//! Orders of bits, streams that count what was asked of them, and the words that go through them.
+#![tactic(auto)]
+
+pub mod gather;
+pub mod lent;
+pub mod order;
+pub mod port;
+pub mod scatter;
+pub mod source;
+pub mod tally;
+pub mod target;

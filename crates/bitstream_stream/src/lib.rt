@@ -1,0 +1,2 @@
+//! Readers and writers of bits.
+#![tactic(auto)]
