@@ -3,3 +3,4 @@ pub mod LayoutLemmas
 pub mod SpelledLayouts
 pub mod ValueLemmas
 pub mod Rows
+pub mod UnpackingLemmas

@@ -9,6 +9,7 @@ mod layout;
 mod lines;
 mod packing;
 mod printing;
+mod unpacking;
 mod value;
 
 fn main(rt: HostRuntime) {
