@@ -4,3 +4,4 @@ pub mod SpelledLayouts
 pub mod ValueLemmas
 pub mod Rows
 pub mod UnpackingLemmas
+pub mod PrintedLines
