@@ -1,2 +1,6 @@
-pub mod WordLemmas
+pub mod Bytes
+pub mod Casts
+pub mod Masks
+pub mod Shifts
 pub mod SignedLemmas
+pub mod WordLemmas

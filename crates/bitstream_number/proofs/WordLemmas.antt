@@ -165,6 +165,12 @@ pub bits-bytes : (o : Order) (n v : ℕ) → bits o (bytes o n v) ≡ word o (8 
 bits-bytes High n v = bits_high n v
 bits-bytes Low n v = flat_map-reverse (digits 8) (bytes_high_first n v) ∙ ap reverse (bits_high n v)
 
+-- the bytes of a number of n bits are no other's
+pub same_from_bytes : (o : Order) (n k u v : ℕ) → n ≡ 8 * k → u < 2 ^ n → v < 2 ^ n → bytes o k u ≡ bytes o k v → u ≡ v
+same_from_bytes o n k u v size p q e =
+    let same : word o (8 * k) u ≡ word o (8 * k) v = sym (bits-bytes o k u) ∙ ap (bits o) e ∙ bits-bytes o k v in
+    same_from_word o n u v p q (subst (λ j. word o j u ≡ word o j v) (sym size) same)
+
 row_2 : word Low 5 177 ≡ true ∷ false ∷ false ∷ false ∷ true ∷ []
 unfolding digits
 row_2 = refl

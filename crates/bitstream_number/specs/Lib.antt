@@ -1,5 +1,2 @@
-pub mod Word
-pub mod Words
-pub mod Range
-pub mod Digits
 pub mod Ints
+pub mod Word

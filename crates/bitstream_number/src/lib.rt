@@ -1,4 +1,6 @@
-//! Numbers, and their words and bytes.
+//! Numbers: the integer types with what generic code may count on, and the laws of their bits,
+//! words and bytes.
 #![tactic(auto)]
 
+pub mod laws;
 pub mod number;

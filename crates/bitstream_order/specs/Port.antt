@@ -41,6 +41,10 @@ fetched_count port = port.fetched.count
 abbrev pub sent_count : {S : Type 0} → Port S → ℕ
 sent_count port = port.sent.count
 
+-- how many requests were made through a port
+abbrev pub requests_count : {S : Type 0} → Port S → ℕ
+requests_count port = port.requests.count
+
 -- a request fetched these bytes
 pub record Serves (old : PortState) (bytes : List ℕ) (new : PortState) : Type 0 where
   pub loses : Consumes old.bytes new.bytes bytes

@@ -1,0 +1,4 @@
+pub mod EntryLemmas
+pub mod ReaderLemmas
+pub mod ReadsLemmas
+pub mod TableLemmas

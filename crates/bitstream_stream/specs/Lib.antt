@@ -1,0 +1,3 @@
+pub mod ReadTable
+pub mod Reader
+pub mod Reads

@@ -1,2 +1,5 @@
 //! Readers and writers of bits.
 #![tactic(auto)]
+
+pub mod read;
+pub mod reader;

@@ -1,6 +1,0 @@
-use Rattle.std.proofs.Common.{rules}
-use Rattle.bitstream_number.specs.Digits.{be_back}
-use Rattle.bitstream_number.proofs.number.U128Primitive.from_be_bytes.Goals as goal
-
-pub returns : goal.returns
-returns c = be_back 15 c.args.bytes c.from_be_bytes.result (search rules) (search rules) c.from_be_bytes.ensures

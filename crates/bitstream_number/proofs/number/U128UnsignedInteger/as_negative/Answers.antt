@@ -1,9 +1,0 @@
-use Rattle.std.specs.Int.{w128}
-use Rattle.bitstream_number.specs.Ints.{minus-fits, minus-is}
-use Rattle.bitstream_number.proofs.number.U128UnsignedInteger.as_negative.Goals as goal
-
-pub overflow_cast-result : goal.overflow_cast-result
-overflow_cast-result c = minus-fits w128 c.args.self c.args.bits c.requires.some c.requires.within
-
-pub returns : goal.returns
-returns c = minus-is w128 c.args.self c.args.bits c.requires.some c.requires.within c.requires.below

@@ -1,6 +1,0 @@
-use Rattle.std.proofs.Common.{rules}
-use Rattle.bitstream_number.specs.Digits.{le_back}
-use Rattle.bitstream_number.proofs.number.U64Primitive.from_le_bytes.Goals as goal
-
-pub returns : goal.returns
-returns c = le_back 7 c.args.bytes c.from_le_bytes.result (search rules) (search rules) c.from_le_bytes.ensures

@@ -1,0 +1,108 @@
+//! What holds of words, bytes and numbers, whatever reads or writes them.
+//!
+//! Each function states a law by its contract. Those of words alone have nothing to do; those of
+//! numbers make the calls that the law speaks of, for any type of their bound.
+
+ghost use Rattle.std.specs.Prelude.{◌≡◌, ℕ, ℤ, pos, ◌+◌, ◌*◌, ◌%◌, ◌^◌, ◌<◌, ◌≤◌, ◌+ℤ◌, ◌*ℤ◌, ◌≤ℤ◌, ◌<ℤ◌, Bool, List, ◌++◌, length};
+ghost use Rattle.bitstream_number.specs.Word.{Order, High, Low, word, number, bits, bytes, FitsSignedBits, signed_word, signed_number, zig, zag};
+
+use crate::number::{Numeric, Primitive, SignedInteger, UnsignedInteger};
+
+/// A word of n bits has n bits, and gives back the number that it was made of, modulo 2^n.
+pub fn words_hold_numbers()
+    ensures length { (o : Order) (n v : ℕ) → length (word o n v) ≡ n }
+    ensures number { (o : Order) (n v : ℕ) → number o (word o n v) ≡ v % 2 ^ n }
+    ensures word { (o : Order) (w : List Bool) → word o (length w) (number o w) ≡ w }
+    ensures same { (o : Order) (n u v : ℕ) → u < 2 ^ n → v < 2 ^ n → word o n u ≡ word o n v → u ≡ v }
+    ensures signed { (o : Order) (n : ℕ) (x : ℤ) → 0 < n → FitsSignedBits n x → signed_number o (signed_word o n x) ≡ x }
+{}
+
+/// To read some bits as one number is to read them as two.
+pub fn words_split()
+    ensures high { (first second : List Bool) → number High (first ++ second) ≡ number High first * 2 ^ length second + number High second }
+    ensures low { (first second : List Bool) → number Low (first ++ second) ≡ number Low first + number Low second * 2 ^ length first }
+{}
+
+/// A number's bytes have the bits of its word.
+pub fn bytes_are_words()
+    ensures { (o : Order) (n v : ℕ) → bits o (bytes o n v) ≡ word o (8 * n) v }
+{}
+
+/// Each number of either sign has a number of its own in the order 0, -1, 1, -2, 2, .., and none is left out.
+pub fn zigzags_go_back()
+    ensures signed { (x : ℤ) → zag (zig x) ≡ x }
+    ensures unsigned { (n : ℕ) → zig (zag n) ≡ n }
+{}
+
+/// To mask a value by the lowest bits is to take it modulo a power of 2.
+pub fn masks_are_remainders<U: UnsignedInteger>(value: U, bits: u32) -> U
+    requires some { 1 ≤ bits }
+    requires within { bits ≤ U.BITS_SIZE }
+    ensures { U.value result ≡ U.value value % 2 ^ bits }
+{
+    value & (U::ALL >> (U::BITS_SIZE - bits))
+}
+
+/// Where one value stands above the bits of another, the two joined by `|` are their sum.
+pub fn ors_are_sums<U: UnsignedInteger>(high: U, low: U) -> U
+    requires { (n : ℕ) × (U.value high % 2 ^ n ≡ 0) × (U.value low < 2 ^ n) }
+    ensures { U.value result ≡ U.value high + U.value low }
+{
+    high | low
+}
+
+/// A shift by the type's size or more leaves nothing.
+pub fn shifts_past_the_size_are_zero<U: UnsignedInteger>(value: U, by: u32) -> (U, U)
+    requires { U.BITS_SIZE ≤ by }
+    ensures left { U.value result.0 ≡ 0 }
+    ensures right { U.value result.1 ≡ 0 }
+{
+    value.known();
+    (value.shl_default(by), value.shr_default(by))
+}
+
+/// A signed value shifted to the right is divided by a power of 2 and rounded down.
+pub fn signed_shifts_round_down<S: SignedInteger>(value: S, by: u32) -> S
+    requires { by < S.BITS_SIZE }
+    ensures below { (S.integer result *ℤ pos (2 ^ by)) ≤ℤ S.integer value }
+    ensures above { S.integer value <ℤ ((S.integer result +ℤ pos 1) *ℤ pos (2 ^ by)) }
+{
+    value >> by
+}
+
+/// An unsigned value that is turned into bytes, in either order, comes back from them.
+pub fn unsigned_bytes_go_back<U: UnsignedInteger>(value: U) -> (U, U)
+    ensures high { U.value result.0 ≡ U.value value }
+    ensures low { U.value result.1 ≡ U.value value }
+{
+    let high = U::from_be_bytes(value.to_be_bytes());
+    let low = U::from_le_bytes(value.to_le_bytes());
+    value.known();
+    high.known();
+    low.known();
+    (high, low)
+}
+
+/// A signed value that is turned into bytes, in either order, comes back from them.
+pub fn signed_bytes_go_back<S: SignedInteger>(value: S) -> (S, S)
+    ensures high { S.integer result.0 ≡ S.integer value }
+    ensures low { S.integer result.1 ≡ S.integer value }
+{
+    let high = S::from_be_bytes(value.to_be_bytes());
+    let low = S::from_le_bytes(value.to_le_bytes());
+    value.known();
+    high.known();
+    low.known();
+    (high, low)
+}
+
+/// Bytes that are turned into a value, in either order, come back from it.
+pub fn values_go_back<V: Primitive>(high: V::Bytes, low: V::Bytes) -> (V::Bytes, V::Bytes)
+    ensures high { V.Bytes.items result.0 ≡ V.Bytes.items high }
+    ensures low { V.Bytes.items result.1 ≡ V.Bytes.items low }
+{
+    (
+        V::from_be_bytes(high).to_be_bytes(),
+        V::from_le_bytes(low).to_le_bytes(),
+    )
+}

@@ -1,0 +1,12 @@
+//! The ten integer types, a file each.
+
+mod i128;
+mod i16;
+mod i32;
+mod i64;
+mod i8;
+mod u128;
+mod u16;
+mod u32;
+mod u64;
+mod u8;

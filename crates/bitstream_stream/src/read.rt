@@ -1,0 +1,105 @@
+//! Calls that read bits.
+ghost use Rattle.std.specs.Prelude.{◌≡◌, ℕ, ◌%◌, ◌↔◌, false, Ok, IsTrue};
+ghost use Rattle.bitstream_number.specs.Word.{Order};
+ghost use Rattle.bitstream_order.specs.Draw.{seen};
+ghost use Rattle.bitstream_stream.specs.Reads.{ReaderState, Reads, Demands, Holds, failing, lent};
+ghost use Rattle.bitstream_stream.specs.ReadTable.{bit_entry, unsigned_entry, align_entry};
+
+use bitstream_count::count::{BitCount, Count};
+use bitstream_count::error::Error;
+use bitstream_number::number::{Numeric, UnsignedInteger};
+
+/// A reader of bits.
+///
+/// After `EndOfInput`, `Stream` and `OutOfMemory` a reader has failed: each later call that reads a
+/// value answers `Failed` before any other check, also at a width of 0 bits.
+pub trait BitRead {
+    // The order of the bits, and what is known of a reader.
+    ghost order: { Order };
+
+    ghost state: { Self → ReaderState };
+
+    /// Reads an unsigned number of so many bits.
+    ///
+    /// `ReadBits` if the type has fewer bits: nothing is taken then.
+    fn read_unsigned_counted<C: Count, U: UnsignedInteger>(&mut self, bits: C) -> Result<U, Error>
+        ensures reads { Reads (unsigned_entry order U.BITS_SIZE (C.number bits)) (state self.old) (seen U.value result) (state self.new) };
+
+    /// Whether the next bit is the first of a byte. Never so of a reader that has failed.
+    fn byte_aligned(&self) -> bool
+        ensures { IsTrue result ↔ (((state self.now).failed ≡ false) × ((state self.now).taken % 8 ≡ 0)) };
+
+    /// Drops the bits up to the next whole byte, which were all fetched before. A reader that has
+    /// failed drops nothing.
+    fn byte_align(&mut self)
+        ensures reads { Reads align_entry (state self.old) (Ok tt) (state self.new) };
+
+    /// Makes the reader fail: from now on each call that reads a value answers `Failed`.
+    fn fail(&mut self)
+        ensures { state self.new ≡ failing (state self.old) };
+
+    /// Reads one bit.
+    fn read_bit(&mut self) -> Result<bool, Error>
+        ensures reads { Reads bit_entry (state self.old) result (state self.new) }
+    {
+        let bit: u8 = self.read_unsigned_var(1)?;
+        Ok(bit == 1)
+    }
+
+    /// Reads an unsigned number of so many bits.
+    ///
+    /// `ReadBits` if the type has fewer bits: nothing is taken then.
+    fn read_unsigned_var<U: UnsignedInteger>(&mut self, bits: u32) -> Result<U, Error>
+        ensures reads { Reads (unsigned_entry order U.BITS_SIZE bits) (state self.old) (seen U.value result) (state self.new) }
+    {
+        self.read_unsigned_counted(BitCount::unknown(bits))
+    }
+
+    /// The reader itself, lent.
+    fn by_ref(&mut self) -> &mut Self
+        ensures value { result.now ≡ self.old }
+        ensures same_reference { result.ghost_name ≡ self.entry.ghost_name }
+    {
+        self
+    }
+
+    // A reader asks for a byte only when it needs a bit of it.
+    ghost demands: { (reader : Self) → Demands (state reader) };
+
+    // The bits left to read are those of the bytes left, behind what the reader holds back.
+    ghost holds: { (reader : Self) → Holds order (state reader) };
+}
+
+impl<R: BitRead> BitRead for &mut R {
+    ghost order = { R.order };
+
+    ghost state = { λ reader. lent reader.ghost_name (R.state reader.now) };
+
+    fn read_unsigned_counted<C: Count, U: UnsignedInteger>(&mut self, bits: C) -> Result<U, Error> {
+        (**self).read_unsigned_counted(bits)
+    }
+
+    fn byte_aligned(&self) -> bool {
+        (**self).byte_aligned()
+    }
+
+    fn byte_align(&mut self) {
+        (**self).byte_align()
+    }
+
+    fn fail(&mut self) {
+        (**self).fail()
+    }
+
+    fn read_bit(&mut self) -> Result<bool, Error> {
+        (**self).read_bit()
+    }
+
+    fn read_unsigned_var<U: UnsignedInteger>(&mut self, bits: u32) -> Result<U, Error> {
+        (**self).read_unsigned_var(bits)
+    }
+
+    ghost demands = { λ reader. R.demands reader.now };
+
+    ghost holds = { λ reader. R.holds reader.now };
+}
