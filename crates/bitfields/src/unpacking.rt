@@ -1,77 +1,90 @@
 //! Unpacking: the lines of the values that bits hold for the fields of a layout.
 
-ghost use Rattle.std.specs.Prelude.{◌≡◌, ◌≤◌, ℕ, [], ◌∷◌, List, Bool, length, string_bytes, OnOk, ◌++◌};
-ghost use Rattle.bitstream_number.specs.Word.{Order, number};
-ghost use Rattle.bitfields.specs.Layout.{IsLayout, IsField};
-ghost use Rattle.bitfields.specs.Packing.{to_boundary};
-ghost use Rattle.bitfields.specs.Unpacking.{Takes, UnpacksTo, field_length, field_values, unpacked, seen};
+ghost use Rattle.std.specs.Prelude.{◌≡◌, ◌++◌, false, string_bytes, OnOk};
+ghost use Rattle.bitstream_order.specs.Draw.{seen};
+ghost use Rattle.bitfields.specs.Layout.{IsField, IsLayout};
+ghost use Rattle.bitfields.specs.Unpacking.{read_reason as read_reason_of, ReadsField, UnpacksFrom, UnpacksBytes};
 ghost use Rattle.bitfields.specs.Value.{value_list, printed_lines};
 
+use bitstream_count::error::Error;
+use bitstream_order::lent::Lent;
+use bitstream_order::order::Endianness;
+use bitstream_stream::read::BitRead;
+use bitstream_stream::reader::BitReader;
 use std::alloc::{AllocError, Global};
+use std::io::Read;
 
 use crate::fault::{Fault, Reason};
 use crate::field::Field;
 use crate::layout::Layout;
 use crate::printing::print_value;
 
-/// What gives words, one behind the other.
-pub trait Supply {
-    ghost order: { Order };
-
-    ghost bits: { Self → List Bool };
-
-    ghost taken: { Self → ℕ };
-
-    /// Takes the word of a value.
-    fn take(&mut self, width: u32) -> Result<u128, Reason>
-        requires { width ≤ 128 }
-        ensures { Takes width (λ w. number order w ∷ []) (bits self.old) (taken self.old) (seen (λ v. v ∷ []) result) (bits self.new) (taken self.new) };
-
-    /// Takes what leads to the next byte.
-    fn align(&mut self) -> Result<(), Reason>
-        ensures { Takes (to_boundary (taken self.old)) (λ w. []) (bits self.old) (taken self.old) (seen (λ v. []) result) (bits self.new) (taken self.new) };
-}
-
-/// Unpacks the fields of a layout: the line of each value, ended by LF.
+/// Unpacks the fields of a layout from the first byte of a stream on: the line of each value, ended by LF. No byte after the last
+/// field's is asked for.
 ///
-/// Refused as `BitsEnded` at the first field whose bits are not all there, and as `StreamFault` or `OutOfMemory` at a field where the stream or
-/// memory refused.
-pub fn unpack<R: Supply>(alloc: Global, layout: &Layout, input: &mut R) -> Result<Vec<u8>, Fault>
-    ensures { UnpacksTo (unpacked R.order 1 layout.now (R.taken input.old) (R.bits input.old)) (R.taken input.new) (seen (λ v. v.items) result) }
+/// Refused as `BitsEnded` at the first field whose bits are not all there, and as `StreamFault` or `OutOfMemory` at the field where the
+/// stream or memory refused.
+pub fn unpack<E: Endianness, R: Read>(alloc: Global, layout: &Layout, input: &mut R) -> Result<Vec<u8>, Fault>
+    ensures { UnpacksBytes E.order layout.now (R.remaining input.old) (seen (λ v. v.items) result) (R.remaining input.new) }
 {
-    let lines = unpack_fields(alloc, layout.fields(), input)?;
+    let mut reader = BitReader::<Lent<R>, E>::new(Lent::new(input));
+    let lines = unpack_from(alloc, layout, &mut reader)?;
     Ok(lines.into_bytes())
 }
 
-fn unpack_fields<R: Supply>(alloc: Global, fields: &[Field], input: &mut R) -> Result<String, Fault>
-    requires { IsLayout fields.now }
-    ensures { UnpacksTo (unpacked R.order 1 fields.now (R.taken input.old) (R.bits input.old)) (R.taken input.new) (seen (λ s. string_bytes s) result) }
+/// Unpacks the fields of a layout from a reader: the line of each value, ended by LF.
+///
+/// Refused as [`unpack`] says. Where the stream tells its bytes and refuses as an end only where fewer bytes are left than were asked for,
+/// it is refused exactly as `BitsEnded` at the first field whose bits are not all there; memory aside.
+pub fn unpack_from<R: BitRead>(alloc: Global, layout: &Layout, reader: &mut R) -> Result<String, Fault>
+    requires { (R.state reader.old).failed ≡ false }
+    ensures { UnpacksFrom R.order layout.now (R.state reader.old) (seen (λ s. string_bytes s) result) (R.state reader.new) }
+{
+    unpack_fields(alloc, layout.fields(), reader)
+}
+
+fn unpack_fields<R: BitRead>(alloc: Global, fields: &[Field], reader: &mut R) -> Result<String, Fault>
+    requires fine { (R.state reader.old).failed ≡ false }
+    requires is_layout { IsLayout fields.now }
+    ensures { UnpacksFrom R.order fields.now (R.state reader.old) (seen (λ s. string_bytes s) result) (R.state reader.new) }
 {
     let mut lines = String::new(alloc);
     for (index, field) in fields.iter().enumerate() {
-        match unpack_field(*field, input) {
+        match unpack_field(*field, reader) {
             Ok(value) => {
                 if print_field(&mut lines, value).is_err() {
                     return Err(Fault::new(index + 1, Reason::OutOfMemory));
                 }
             }
-            Err(reason) => return Err(Fault::new(index + 1, reason)),
+            Err(error) => return Err(Fault::new(index + 1, read_reason(error))),
         }
     }
     Ok(lines)
 }
 
-/// Takes a field's bits: the value that they say, if the field has one.
-fn unpack_field<R: Supply>(field: Field, input: &mut R) -> Result<Option<u128>, Reason>
-    requires { IsField field }
-    ensures { Takes (field_length field (R.taken input.old)) (field_values R.order field) (R.bits input.old) (R.taken input.old) (seen value_list result) (R.bits input.new) (R.taken input.new) }
+/// Reads a field: its value, if it has one.
+fn unpack_field<R: BitRead>(field: Field, reader: &mut R) -> Result<Option<u128>, Error>
+    requires fine { (R.state reader.old).failed ≡ false }
+    requires in_range { IsField field }
+    ensures { ReadsField R.order field (R.state reader.old) (seen value_list result) (R.state reader.new) }
 {
     match field {
-        Field::Unsigned(width) => input.take(width).map(Some),
-        Field::Align => match input.align() {
-            Ok(()) => Ok(None),
-            Err(reason) => Err(reason),
-        },
+        Field::Unsigned(width) => reader.read_unsigned_var::<u128>(width).map(Some),
+        Field::Align => {
+            reader.byte_align();
+            Ok(None)
+        }
+    }
+}
+
+/// The reason for an error of a reader.
+fn read_reason(error: Error) -> Reason
+    ensures { result ≡ read_reason_of error }
+{
+    match error {
+        Error::EndOfInput => Reason::BitsEnded,
+        Error::OutOfMemory => Reason::OutOfMemory,
+        _ => Reason::StreamFault,
     }
 }
 
