@@ -5,6 +5,8 @@ mod count;
 mod drip;
 mod endless;
 mod refuse;
+#[cfg(test)]
+mod words;
 
 pub use count::Count;
 pub use drip::Drip;

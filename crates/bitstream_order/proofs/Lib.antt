@@ -1,5 +1,6 @@
 pub mod DrawLemmas
 pub mod FaultLemmas
 pub mod PartLemmas
+pub mod PassLemmas
 pub mod PieceLemmas
 pub mod Steps

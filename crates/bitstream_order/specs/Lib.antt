@@ -2,4 +2,5 @@ pub mod Draw
 pub mod Fault
 pub mod Mislead
 pub mod Parts
+pub mod Pass
 pub mod Port

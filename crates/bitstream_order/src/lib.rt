@@ -6,6 +6,7 @@ pub mod lent;
 pub mod order;
 pub mod port;
 pub mod scatter;
+pub mod send;
 pub mod source;
 pub mod tally;
 pub mod target;

@@ -1,3 +1,6 @@
 pub mod ReadTable
 pub mod Reader
 pub mod Reads
+pub mod Sink
+pub mod WriteTable
+pub mod Writer

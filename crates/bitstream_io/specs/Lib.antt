@@ -1,0 +1,13 @@
+pub use Rattle.bitstream_number.specs.Word
+pub use Rattle.bitstream_count.specs.Entry
+pub use Rattle.bitstream_count.specs.Kind
+pub use Rattle.bitstream_order.specs.Draw
+pub use Rattle.bitstream_order.specs.Fault
+pub use Rattle.bitstream_order.specs.Mislead
+pub use Rattle.bitstream_order.specs.Port
+pub use Rattle.bitstream_stream.specs.ReadTable
+pub use Rattle.bitstream_stream.specs.Reader
+pub use Rattle.bitstream_stream.specs.Reads
+pub use Rattle.bitstream_stream.specs.Sink
+pub use Rattle.bitstream_stream.specs.WriteTable
+pub use Rattle.bitstream_stream.specs.Writer

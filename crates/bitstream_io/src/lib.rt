@@ -1,0 +1,49 @@
+//! Reading and writing values of any number of bits, in either order of bits.
+//!
+//! The items stand in modules by their subject, and most again here.
+#![tactic(auto)]
+
+/// Why a call is refused.
+pub mod error {
+    pub use bitstream_count::error::Error;
+}
+
+/// Integer types as numbers, and numbers that types stand for.
+pub mod number {
+    pub use bitstream_number::number::{
+        Bits, Numeric, Primitive, SignedInteger, UnsignedInteger, Width,
+    };
+}
+
+/// Numbers of bits, and values that are known to fit one.
+pub mod count {
+    pub use bitstream_count::count::{BitCount, Checked, CheckedError, CheckedUnsigned, Count, LsbMask};
+}
+
+/// The two orders of bits.
+pub mod order {
+    pub use bitstream_order::order::{BE, BigEndian, Endianness, LE, LittleEndian};
+}
+
+/// Reading bits.
+pub mod read {
+    pub use bitstream_order::lent::Lent;
+    pub use bitstream_order::source::Source;
+    pub use bitstream_stream::read::BitRead;
+    pub use bitstream_stream::reader::BitReader;
+}
+
+/// Writing bits.
+pub mod write {
+    pub use bitstream_order::lent::Lent;
+    pub use bitstream_order::target::Target;
+    pub use bitstream_stream::write::BitWrite;
+    pub use bitstream_stream::writer::BitWriter;
+}
+
+pub use count::{BitCount, Checked, CheckedError, CheckedUnsigned, Count, LsbMask};
+pub use error::Error;
+pub use number::{Bits, Numeric, Primitive, SignedInteger, UnsignedInteger, Width};
+pub use order::{BE, BigEndian, Endianness, LE, LittleEndian};
+pub use read::{BitRead, BitReader, Lent, Source};
+pub use write::{BitWrite, BitWriter, Target};

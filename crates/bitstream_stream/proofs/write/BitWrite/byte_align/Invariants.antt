@@ -1,0 +1,13 @@
+use Rattle.std.proofs.Common.{◌≡◌, ◌+◌, ℕ, replicate, false}
+use Rattle.bitstream_stream.specs.WriteTable.{padding}
+use Rattle.bitstream_stream.proofs.SinkParts.{Begun}
+use Rattle.bitstream_stream.proofs.write.BitWrite.byte_align.Given as goal
+
+-- k zeros so far, and the rest to come
+abbrev pub invariant-loop-self : goal.invariant-loop-self
+invariant-loop-self g l =
+    let K = g.Self.BitWrite.sink in
+    (k : ℕ) × Begun K l.fn.self (replicate k false) l.self × (k + padding (K.len l.self) ≡ padding (K.len l.fn.self))
+
+abbrev pub decreases-loop-self : goal.decreases-loop-self
+decreases-loop-self g l = padding (g.Self.BitWrite.sink.len l.self)

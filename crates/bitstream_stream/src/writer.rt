@@ -1,0 +1,108 @@
+//! The writer of bits to a stream of bytes.
+ghost use Rattle.std.specs.Prelude.{◌≡◌, ℕ, ◌+◌, ◌<◌, ◌≤◌, ◌^◌, false};
+
+use crate::check::check;
+use crate::write::BitWrite;
+use bitstream_count::count::Count;
+use bitstream_count::error::Error;
+use bitstream_number::number::{Numeric, UnsignedInteger};
+use bitstream_order::order::Endianness;
+use bitstream_order::port::Port;
+use bitstream_order::send::send_front;
+use bitstream_order::target::Target;
+use std::marker::PhantomData;
+
+/// Writes bits to a stream of bytes.
+///
+/// The bits of the last byte, while they are fewer than 8, wait in the writer. Each byte is handed
+/// on as soon as it is whole; what still waits when the writer is dropped is lost, so a caller
+/// aligns first.
+#[derive(Drop)]
+pub struct BitWriter<W, E> {
+    port: Port<W>,
+    queue: u8,
+    queued: u32,
+    failed: bool,
+    order: PhantomData<E>,
+    ghost few: { queued < 8 },
+    ghost small: { queue < 2 ^ queued },
+}
+
+impl<W: Target, E: Endianness> BitWriter<W, E> {
+    ghost use Rattle.bitstream_number.specs.Word.{word};
+    ghost use Rattle.bitstream_stream.specs.Writer.{writer_state, fresh_writer, Pushes};
+
+    /// A writer to a stream to which it handed nothing on yet.
+    pub fn new(stream: W) -> BitWriter<W, E>
+        ensures { writer_state W.held W.places result ≡ fresh_writer (W.held stream) (W.places stream) }
+    {
+        BitWriter {
+            port: Port::new(stream),
+            queue: 0,
+            queued: 0,
+            failed: false,
+            order: PhantomData,
+        }
+    }
+
+    /// A writer as [`new`](BitWriter::new) makes it, with its order as an argument.
+    pub fn endian(stream: W, _order: E) -> BitWriter<W, E>
+    where
+        E: Drop,
+        ensures { writer_state W.held W.places result ≡ fresh_writer (W.held stream) (W.places stream) }
+    {
+        BitWriter::new(stream)
+    }
+
+    /// Writes the n lowest bits of a value.
+    fn push<U: UnsignedInteger>(&mut self, value: U, n: u32) -> Result<(), Error>
+        requires sound { self.old.failed ≡ false }
+        requires room { n ≤ U.BITS_SIZE }
+        ensures pushes { Pushes E.order (word E.order n (U.value value)) (writer_state W.held W.places self.old) result (writer_state W.held W.places self.new) }
+        ensures requests { (writer_state W.held W.places self.new).port.requests ≤ (writer_state W.held W.places self.old).port.requests + 2 }
+        ensures unasked { self.old.queued + n < 8 → self.new.port ≡ self.old.port }
+    {
+        if self.queued + n < 8 {
+            let part = E::cut(value, n, 0, n);
+            self.queue = E::put::<u8>(self.queue, self.queued, part, n);
+            self.queued += n;
+            return Ok(());
+        }
+        match send_front::<W, E, U>(&mut self.port, self.queue, self.queued, value, n) {
+            Ok(gone) => {
+                self.queue = E::cut(value, n, gone, n - gone);
+                self.queued = n - gone;
+                Ok(())
+            }
+            Err(error) => {
+                self.failed = true;
+                Err(error)
+            }
+        }
+    }
+}
+
+impl<W: Target, E: Endianness> BitWrite for BitWriter<W, E> {
+    ghost use Rattle.bitstream_stream.specs.Writer.{writer_state, writer_sink};
+    ghost use Rattle.bitstream_stream.specs.Sink.{Writes};
+    ghost use Rattle.bitstream_stream.specs.WriteTable.{unsigned};
+
+    ghost sink = { writer_sink W.held W.places E.order };
+
+    fn write_unsigned_counted<C: Count, U: UnsignedInteger>(&mut self, count: C, value: U) -> Result<(), Error>
+        ensures writes { Writes (writer_sink W.held W.places E.order) (unsigned E.order U.BITS_SIZE (C.number count) (U.value value)) self.old result self.new }
+        ensures requests { (writer_state W.held W.places self.new).port.requests ≤ (writer_state W.held W.places self.old).port.requests + 2 }
+        ensures unasked { (writer_state W.held W.places self.old).queued + C.number count < 8 → (writer_state W.held W.places self.new).port ≡ (writer_state W.held W.places self.old).port }
+    {
+        if self.failed {
+            return Err(Error::Failed);
+        }
+        let bits = count.bits();
+        check(bits, value)?;
+        self.push(value, bits)
+    }
+
+    fn byte_aligned(&self) -> bool {
+        !self.failed && self.queued == 0
+    }
+}
