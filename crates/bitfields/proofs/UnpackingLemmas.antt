@@ -28,7 +28,7 @@ use Rattle.bitstream_stream.specs.Reads.{ReaderState, Reads, Answers, Faults, st
 use Rattle.bitstream_stream.specs.ReadTable.{unsigned_entry, align_entry}
 use Rattle.bitstream_stream.proofs.ReadsLemmas.{Loses-nil, Loses-trans, Loses-known, Drains-nil, Drains-trans}
 use Rattle.bitstream_stream.proofs.TableLemmas.{unsigned-takes}
-use Rattle.std.specs.Prelude.{None, option_map}
+use Rattle.std.specs.Prelude.{None, option_map, IsErrAnd}
 use Rattle.std.proofs.Common.{◌⊎◌, inl, inr}
 use Rattle.std.specs.Borrow.{GName}
 use Rattle.std.specs.Io.KnownBytes.{Consumes}
@@ -39,10 +39,11 @@ use Rattle.bitstream_count.specs.declared.error.Error.TheVariants as errors
 use Rattle.bitstream_order.specs.Fault.{read_refusal_of}
 use Rattle.bitstream_stream.specs.Reads.{Loses, Holds, Demands}
 use Rattle.bitstream_stream.specs.Reader.{reader_state, new_reader_state}
+use Rattle.bitstream_order.specs.Port.{PortState}
 use Rattle.bitfields.specs.declared.fault.Reason.TheVariants.{StreamFault}
 use Rattle.bitfields.specs.declared.fault.Fault.{Fault}
 use Rattle.bitfields.specs.declared.fault.Reason.TheVariants.{OutOfMemory}
-use Rattle.bitfields.specs.Unpacking.{Unpacked, Unpacks, Stops, unpacked, values_and, field_length, field_values, read_reason, Took, Broke, TookField, ReadsField, UnpackedAll, Starved, Stopped, UnpackedBytes, Refused}
+use Rattle.bitfields.specs.Unpacking.{Unpacked, Unpacks, Stops, unpacked, values_and, field_length, field_values, read_reason, Took, Broke, TookField, ReadsField, UnpackedAll, Starved, Stopped, UnpackedBytes, Refused, UnpacksBytes}
 
 values_and-append : (us vs : List ℕ) (r : Unpacked) → values_and us (values_and vs r) ≡ values_and (us ++ vs) r
 values_and-append us vs (Unpacks ws at) = ap (λ (xs : List ℕ). Unpacks xs at) (sym (append_assoc us vs ws))
@@ -325,3 +326,16 @@ Refused-from o fields old new f (inr h) = record {
       | inr (inr e) ↦ inr (inr (h.reason ∙ ap (fault h.field) e))
       ];
   }
+
+pub Holds-reader : (o : Order) (port : PortState) (queue queued : ℕ) (failed : Bool) → queued ≤ 8 * port.fetched → Holds o (reader_state o port queue queued failed)
+Holds-reader o port queue queued failed few = (word o queued queue, (let len = length-word o queued queue in omega arith), refl)
+
+pub Demands-reader : (o : Order) (port : PortState) (queue queued : ℕ) (failed : Bool) → queued < 8 → queued ≤ 8 * port.fetched → Demands (reader_state o port queue queued failed)
+Demands-reader o port queue queued failed small few = omega arith
+
+pub one_place : (n m : GName) → n ∷ [] ≡ m ∷ [] → n ≡ m
+one_place n m e = cc
+
+pub UnpacksBytes-exit : {V : Type 0} (o : Order) (fields : List Field) (old new : Option (List ℕ)) (view : V → List ℕ) (r : Result V Fault) (f : Fault) → IsErrAnd r (λ e. e ≡ f) → Refused f → UnpacksBytes o fields old (seen view r) new
+UnpacksBytes-exit o fields old new view (Ok v) f h k = absurd h
+UnpacksBytes-exit o fields old new view (Err e) f h k = subst Refused (sym h) k
