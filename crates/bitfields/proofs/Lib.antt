@@ -5,3 +5,4 @@ pub mod ValueLemmas
 pub mod Rows
 pub mod UnpackingLemmas
 pub mod PrintedLines
+pub mod PackingLemmas

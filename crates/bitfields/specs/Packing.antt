@@ -1,6 +1,12 @@
 -- Packing: the words of fields, and a last alignment.
 use Rattle.std.specs.Prelude.{◌≡◌, ◌⊎◌, Result, Ok, Err, ℕ, ◌+◌, ◌-◌, ◌%◌, false, Bool, List, [], ◌∷◌, ◌++◌, length, drop, replicate, slice_index}
-use Rattle.bitstream_number.specs.Word.{Order, word}
+use Rattle.std.specs.Prelude.{Option}
+use Rattle.std.specs.Io.KnownBytes.{Appends}
+use Rattle.bitstream_number.specs.Word.{Order, word, bits}
+use Rattle.bitstream_count.specs.declared.error.Error.{Error}
+use Rattle.bitstream_count.specs.declared.error.Error.TheVariants as errors
+use Rattle.bitstream_stream.specs.Sink.{Sink, Appended, Faulted}
+use Rattle.bitfields.specs.declared.fault.Reason.{Reason}
 use Rattle.bitfields.specs.declared.fault.Reason.TheVariants.{OutOfMemory, StreamFault}
 use Rattle.bitfields.specs.declared.fault.Fault.{Fault}
 use Rattle.bitfields.specs.declared.field.Field.{Field}
@@ -34,18 +40,31 @@ packed o fields vs at =
     let w = words o fields vs at in
     w ++ alignment (at + length w)
 
+-- ---- to a sink and to a stream
+
+-- the reason for an error of a writer
+abbrev pub write_reason : Error → Reason
+write_reason errors.OutOfMemory = OutOfMemory
+write_reason error = StreamFault
+
+-- these bits were written, or a request was refused and the sink has failed
+abbrev pub Adds : {S : Type 0} → Sink S → List Bool → S → Result (Unit {0}) Error → S → Type 0
+Adds K x old (Ok done) new = Appended K old x new
+Adds K x old (Err error) new = Faulted K old error new
+
 -- the fault is the stream's or the memory's
 abbrev pub IsOutside : Fault → Type 0
 IsOutside f = (f ≡ fault 0 StreamFault) ⊎ (f ≡ fault 0 OutOfMemory)
 
--- these bits were added, or the stream refused
-abbrev pub Adds : List Bool → List Bool → Result (Unit {0}) Fault → List Bool → Type 0
-Adds old w (Ok u) new = new ≡ old ++ w
-Adds old w (Err f) new = IsOutside f
+-- a stream took the bytes whose bits are the packed values
+pub record PackedBytes (o : Order) (fields : List Field) (vs : List ℕ) (old new : Option (List ℕ)) : Type 0 where
+  pub bytes : List ℕ
+  pub grows : Appends old new bytes
+  pub says : bits o bytes ≡ packed o fields vs 0
 
--- The values were packed, or the first fault of the input was answered and nothing was added; or the stream or memory refused.
-abbrev pub Packs : Order → List Field → Result (List ℕ) Fault → List Bool → Result (Unit {0}) Fault → List Bool → Type 0
-Packs o fields (Ok vs) old (Ok u) new = new ≡ old ++ packed o fields vs (length old)
-Packs o fields (Ok vs) old (Err f) new = IsOutside f
-Packs o fields (Err f) old (Ok u) new = ⊥
-Packs o fields (Err f) old (Err g) new = (new ≡ old) × ((g ≡ f) ⊎ (g ≡ fault 0 OutOfMemory))
+-- The values were packed, or the first fault of the input was answered and the stream left as it was; or the stream or memory refused.
+abbrev pub Packs : {W : Type 0} → (W → Option (List ℕ)) → Order → List Field → Result (List ℕ) Fault → W → Result (Unit {0}) Fault → W → Type 0
+Packs contents o fields (Ok vs) old (Ok done) new = PackedBytes o fields vs (contents old) (contents new)
+Packs contents o fields (Ok vs) old (Err f) new = IsOutside f
+Packs contents o fields (Err f) old (Ok done) new = ⊥
+Packs contents o fields (Err f) old (Err g) new = (new ≡ old) × ((g ≡ f) ⊎ (g ≡ fault 0 OutOfMemory))
