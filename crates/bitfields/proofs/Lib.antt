@@ -6,3 +6,4 @@ pub mod Rows
 pub mod UnpackingLemmas
 pub mod PrintedLines
 pub mod PackingLemmas
+pub mod RunLemmas

@@ -4,3 +4,4 @@ pub mod Layout
 pub mod Value
 pub mod Packing
 pub mod Unpacking
+pub mod Call
