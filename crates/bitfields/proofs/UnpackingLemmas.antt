@@ -36,7 +36,9 @@ use Rattle.std.proofs.lemmas.List.{append_cancel_right}
 use Rattle.bitstream_number.specs.Word.{bits}
 use Rattle.bitstream_number.proofs.WordLemmas.{bits-append}
 use Rattle.bitstream_count.specs.declared.error.Error.TheVariants as errors
+use Rattle.std.specs.declared.io.ErrorKind.{ErrorKind}
 use Rattle.bitstream_order.specs.Fault.{read_refusal_of}
+use Rattle.bitstream_order.specs.Mislead.{Misleads, MisledOnlyBy}
 use Rattle.bitstream_stream.specs.Reads.{Loses, Holds, Demands}
 use Rattle.bitstream_stream.specs.Reader.{reader_state, new_reader_state}
 use Rattle.bitstream_order.specs.Port.{PortState}
@@ -284,6 +286,17 @@ ReadsField-align o old new fine (answers h) =
     }
 ReadsField-align o old new fine (faults h) = absurd (let a = h.answer in cc)
 
+-- an alignment asks the stream for nothing
+pub align_misled : (old new : ReaderState) → Reads align_entry old (Ok tt) new → new.misled ≡ old.misled
+align_misled old new (stays h) = ap (λ (s : ReaderState). s.misled) h.same
+align_misled old new (answers h) = h.misled
+align_misled old new (faults h) = absurd (let a = h.answer in cc)
+
+-- what the last of some calls may have misled, behind calls that did not
+pub misled_after : {R : Type 0} (known : R → Option (List ℕ)) (refuses : R → ℕ → ErrorKind → R → Type 0) (first before after : ℕ) → before ≡ first → MisledOnlyBy known refuses before after → MisledOnlyBy known refuses first after
+misled_after known refuses first before after same (inl e) = inl (e ∙ same)
+misled_after known refuses first before after same (inr misled) = inr misled
+
 -- ---- a new reader of a stream
 
 front_bytes : (o : Order) (known after : Option (List ℕ)) (gone : List ℕ) (w held : List Bool) → Consumes known after gone → Loses (option_map (λ bs. bits o bs) known) (option_map (λ bs. held ++ bits o bs) after) w → (xs : List ℕ) → known ≡ Some xs → bits o gone ≡ w ++ held
@@ -316,15 +329,29 @@ reason_cases errors.EndOfInput = inl refl
 reason_cases errors.OutOfMemory = inr (inr refl)
 reason_cases e = inr (inl refl)
 
-pub Refused-from : (o : Order) (fields : List Field) (old new : ReaderState) (f : Fault) → Starved old f new ⊎ Stopped o fields old f new → Refused f
-Refused-from o fields old new f (inl h) = record { field = h.field; reason = inr (inr h.reason) }
-Refused-from o fields old new f (inr h) = record {
+-- a stream that is seen through another state misleads where that does
+seen_misleads : {R S : Type 0} (f : S → R) (known : R → Option (List ℕ)) (refuses : R → ℕ → ErrorKind → R → Type 0) → Misleads (λ s. known (f s)) (λ s n kind t. refuses (f s) n kind (f t)) → Misleads known refuses
+seen_misleads f known refuses h = record { before = f h.before; after = f h.after; wanted = h.wanted; kind = h.kind; bytes = h.bytes; tells = h.tells; refused = h.refused; untrue = h.untrue }
+
+stops_or_misleads : {R S : Type 0} (f : S → R) (known : R → Option (List ℕ)) (refuses : R → ℕ → ErrorKind → R → Type 0) (o : Order) (fields : List Field) (first : Option (List ℕ)) (places : List GName) (old new : ReaderState) (why : Fault)
+    → old ≡ new_reader_state o first places → Stopped o fields old why new → MisledOnlyBy (λ s. known (f s)) (λ s n kind t. refuses (f s) n kind (f t)) old.misled new.misled
+    → (xs : List ℕ) → first ≡ Some xs → (unpacked o 1 fields 0 (bits o xs) ≡ Stops why) ⊎ Misleads known refuses
+stops_or_misleads f known refuses o fields first places old new why fresh h (inl same) xs told =
+    inl (ap (λ (p : ℕ). unpacked o 1 fields p (bits o xs)) (sym (ap (λ (s : ReaderState). s.taken) fresh)) ∙ h.ended (bits o xs) (ap (λ (s : ReaderState). s.bits) fresh ∙ ap (option_map (λ bs. bits o bs)) told) same)
+stops_or_misleads f known refuses o fields first places old new why fresh h (inr misled) xs told = inr (seen_misleads f known refuses misled)
+
+pub Refused-from : {R S : Type 0} (f : S → R) (known : R → Option (List ℕ)) (refuses : R → ℕ → ErrorKind → R → Type 0) (o : Order) (fields : List Field) (input : R) (places : List GName) (old new : ReaderState) (why : Fault)
+    → old ≡ new_reader_state o (known input) places → Starved old why new ⊎ Stopped o fields old why new → MisledOnlyBy (λ s. known (f s)) (λ s n kind t. refuses (f s) n kind (f t)) old.misled new.misled
+    → Refused known refuses o fields input why
+Refused-from f known refuses o fields input places old new why fresh (inl h) faithful = record { field = h.field; reason = inr (inr h.reason); cause = inl h.reason }
+Refused-from f known refuses o fields input places old new why fresh (inr h) faithful = record {
     field = h.field;
     reason = elim (reason_cases (read_refusal_of h.kind)) [
         inl e ↦ inl (h.reason ∙ ap (fault h.field) e)
       | inr (inl e) ↦ inr (inl (h.reason ∙ ap (fault h.field) e))
       | inr (inr e) ↦ inr (inr (h.reason ∙ ap (fault h.field) e))
       ];
+    cause = inr (stops_or_misleads f known refuses o fields (known input) places old new why fresh h faithful)
   }
 
 pub Holds-reader : (o : Order) (port : PortState) (queue queued : ℕ) (failed : Bool) → queued ≤ 8 * port.fetched → Holds o (reader_state o port queue queued failed)
@@ -336,6 +363,7 @@ Demands-reader o port queue queued failed small few = omega arith
 pub one_place : (n m : GName) → n ∷ [] ≡ m ∷ [] → n ≡ m
 one_place n m e = cc
 
-pub UnpacksBytes-exit : {V : Type 0} (o : Order) (fields : List Field) (old new : Option (List ℕ)) (view : V → List ℕ) (r : Result V Fault) (f : Fault) → IsErrAnd r (λ e. e ≡ f) → Refused f → UnpacksBytes o fields old (seen view r) new
-UnpacksBytes-exit o fields old new view (Ok v) f h k = absurd h
-UnpacksBytes-exit o fields old new view (Err e) f h k = subst Refused (sym h) k
+pub UnpacksBytes-exit : {R V : Type 0} (known : R → Option (List ℕ)) (refuses : R → ℕ → ErrorKind → R → Type 0) (o : Order) (fields : List Field) (old new : R) (view : V → List ℕ) (r : Result V Fault) (f : Fault)
+    → IsErrAnd r (λ e. e ≡ f) → Refused known refuses o fields old f → UnpacksBytes known refuses o fields old (seen view r) new
+UnpacksBytes-exit known refuses o fields old new view (Ok v) f h k = absurd h
+UnpacksBytes-exit known refuses o fields old new view (Err e) f h k = subst (Refused known refuses o fields old) (sym h) k

@@ -6,6 +6,7 @@ use Rattle.bitstream_number.specs.Word.{Order, number, bits}
 use Rattle.bitstream_count.specs.declared.error.Error.{Error}
 use Rattle.bitstream_count.specs.declared.error.Error.TheVariants as errors
 use Rattle.bitstream_order.specs.Fault.{read_refusal_of}
+use Rattle.bitstream_order.specs.Mislead.{Misleads}
 use Rattle.bitstream_stream.specs.Reads.{ReaderState, Loses, Drains}
 use Rattle.bitfields.specs.declared.fault.Reason.{Reason}
 use Rattle.bitfields.specs.declared.fault.Reason.TheVariants.{BitsEnded, StreamFault, OutOfMemory}
@@ -126,12 +127,14 @@ pub record UnpackedBytes (o : Order) (fields : List Field) (old : Option (List �
   pub says : (xs : List ℕ) → old ≡ Some xs → unpacked o 1 fields 0 (bits o gone) ≡ Unpacks values len
   pub prints : text ≡ printed_lines values
 
--- the bits ended at a field, or the stream or memory refused at it
-pub record Refused (f : Fault) : Type 0 where
+-- The bits ended at a field, or the stream or memory refused at it. If it was not memory, and the stream told its bytes, then these
+-- stop with this fault, or the stream misled.
+pub record Refused {R : Type 0} (known : R → Option (List ℕ)) (refuses : R → ℕ → ErrorKind → R → Type 0) (o : Order) (fields : List Field) (old : R) (f : Fault) : Type 0 where
   pub field : ℕ
   pub reason : (f ≡ fault field BitsEnded) ⊎ (f ≡ fault field StreamFault) ⊎ (f ≡ fault field OutOfMemory)
+  pub cause : (f ≡ fault field OutOfMemory) ⊎ ((xs : List ℕ) → known old ≡ Some xs → (unpacked o 1 fields 0 (bits o xs) ≡ Stops f) ⊎ Misleads known refuses)
 
 -- fields, read from a stream's bytes: the lines of their values, or the fault
-abbrev pub UnpacksBytes : Order → List Field → Option (List ℕ) → Result (List ℕ) Fault → Option (List ℕ) → Type 0
-UnpacksBytes o fields old (Ok text) new = UnpackedBytes o fields old text new
-UnpacksBytes o fields old (Err f) new = Refused f
+abbrev pub UnpacksBytes : {R : Type 0} → (R → Option (List ℕ)) → (R → ℕ → ErrorKind → R → Type 0) → Order → List Field → R → Result (List ℕ) Fault → R → Type 0
+UnpacksBytes known refuses o fields old (Ok text) new = UnpackedBytes o fields (known old) text (known new)
+UnpacksBytes known refuses o fields old (Err f) new = Refused known refuses o fields old f

@@ -2,17 +2,13 @@
 
 ghost use Rattle.std.specs.Prelude.{◌≡◌, ◌++◌, false, string_bytes, OnOk};
 ghost use Rattle.bitstream_order.specs.Draw.{seen};
+ghost use Rattle.bitstream_order.specs.Mislead.{MisledOnlyBy};
 ghost use Rattle.bitfields.specs.Layout.{IsField, IsLayout};
 ghost use Rattle.bitfields.specs.Unpacking.{read_reason as read_reason_of, ReadsField, UnpacksFrom, UnpacksBytes};
 ghost use Rattle.bitfields.specs.Value.{value_list, printed_lines};
 
-use bitstream_count::error::Error;
-use bitstream_order::lent::Lent;
-use bitstream_order::order::Endianness;
-use bitstream_stream::read::BitRead;
-use bitstream_stream::reader::BitReader;
+use bitstream_io::{BitCount, BitRead, BitReader, Endianness, Error, Lent, Source};
 use std::alloc::{AllocError, Global};
-use std::io::Read;
 
 use crate::fault::{Fault, Reason};
 use crate::field::Field;
@@ -23,9 +19,10 @@ use crate::printing::print_value;
 /// field's is asked for.
 ///
 /// Refused as `BitsEnded` at the first field whose bits are not all there, and as `StreamFault` or `OutOfMemory` at the field where the
-/// stream or memory refused.
-pub fn unpack<E: Endianness, R: Read>(alloc: Global, layout: &Layout, input: &mut R) -> Result<Vec<u8>, Fault>
-    ensures { UnpacksBytes E.order layout.now (R.remaining input.old) (seen (λ v. v.items) result) (R.remaining input.new) }
+/// stream or memory refused. Where the stream tells its bytes, and refuses a request only as an end and only where fewer bytes are left
+/// than were asked for, the refusals are exactly those of the bits; memory aside.
+pub fn unpack<E: Endianness, R: Source>(alloc: Global, layout: &Layout, input: &mut R) -> Result<Vec<u8>, Fault>
+    ensures { UnpacksBytes R.known R.refuses E.order layout.now input.old (seen (λ v. v.items) result) input.new }
 {
     let mut reader = BitReader::<Lent<R>, E>::new(Lent::new(input));
     let lines = unpack_from(alloc, layout, &mut reader)?;
@@ -34,19 +31,20 @@ pub fn unpack<E: Endianness, R: Read>(alloc: Global, layout: &Layout, input: &mu
 
 /// Unpacks the fields of a layout from a reader: the line of each value, ended by LF.
 ///
-/// Refused as [`unpack`] says. Where the stream tells its bytes and refuses as an end only where fewer bytes are left than were asked for,
-/// it is refused exactly as `BitsEnded` at the first field whose bits are not all there; memory aside.
-pub fn unpack_from<R: BitRead>(alloc: Global, layout: &Layout, reader: &mut R) -> Result<String, Fault>
-    requires { (R.state reader.old).failed ≡ false }
-    ensures { UnpacksFrom R.order layout.now (R.state reader.old) (seen (λ s. string_bytes s) result) (R.state reader.new) }
+/// Refused as [`unpack`] says.
+pub fn unpack_from<R: Source, E: Endianness>(alloc: Global, layout: &Layout, reader: &mut BitReader<R, E>) -> Result<String, Fault>
+    requires { (⟦<BitReader<R, E> as BitRead>⟧.state reader.old).failed ≡ false }
+    ensures unpacks { UnpacksFrom E.order layout.now (⟦<BitReader<R, E> as BitRead>⟧.state reader.old) (seen (λ s. string_bytes s) result) (⟦<BitReader<R, E> as BitRead>⟧.state reader.new) }
+    ensures misled { MisledOnlyBy R.known R.refuses (⟦<BitReader<R, E> as BitRead>⟧.state reader.old).misled (⟦<BitReader<R, E> as BitRead>⟧.state reader.new).misled }
 {
     unpack_fields(alloc, layout.fields(), reader)
 }
 
-fn unpack_fields<R: BitRead>(alloc: Global, fields: &[Field], reader: &mut R) -> Result<String, Fault>
-    requires fine { (R.state reader.old).failed ≡ false }
+fn unpack_fields<R: Source, E: Endianness>(alloc: Global, fields: &[Field], reader: &mut BitReader<R, E>) -> Result<String, Fault>
+    requires fine { (⟦<BitReader<R, E> as BitRead>⟧.state reader.old).failed ≡ false }
     requires is_layout { IsLayout fields.now }
-    ensures { UnpacksFrom R.order fields.now (R.state reader.old) (seen (λ s. string_bytes s) result) (R.state reader.new) }
+    ensures unpacks { UnpacksFrom E.order fields.now (⟦<BitReader<R, E> as BitRead>⟧.state reader.old) (seen (λ s. string_bytes s) result) (⟦<BitReader<R, E> as BitRead>⟧.state reader.new) }
+    ensures misled { MisledOnlyBy R.known R.refuses (⟦<BitReader<R, E> as BitRead>⟧.state reader.old).misled (⟦<BitReader<R, E> as BitRead>⟧.state reader.new).misled }
 {
     let mut lines = String::new(alloc);
     for (index, field) in fields.iter().enumerate() {
@@ -63,13 +61,14 @@ fn unpack_fields<R: BitRead>(alloc: Global, fields: &[Field], reader: &mut R) ->
 }
 
 /// Reads a field: its value, if it has one.
-fn unpack_field<R: BitRead>(field: Field, reader: &mut R) -> Result<Option<u128>, Error>
-    requires fine { (R.state reader.old).failed ≡ false }
+fn unpack_field<R: Source, E: Endianness>(field: Field, reader: &mut BitReader<R, E>) -> Result<Option<u128>, Error>
+    requires fine { (⟦<BitReader<R, E> as BitRead>⟧.state reader.old).failed ≡ false }
     requires in_range { IsField field }
-    ensures { ReadsField R.order field (R.state reader.old) (seen value_list result) (R.state reader.new) }
+    ensures reads { ReadsField E.order field (⟦<BitReader<R, E> as BitRead>⟧.state reader.old) (seen value_list result) (⟦<BitReader<R, E> as BitRead>⟧.state reader.new) }
+    ensures misled { MisledOnlyBy R.known R.refuses (⟦<BitReader<R, E> as BitRead>⟧.state reader.old).misled (⟦<BitReader<R, E> as BitRead>⟧.state reader.new).misled }
 {
     match field {
-        Field::Unsigned(width) => reader.read_unsigned_var::<u128>(width).map(Some),
+        Field::Unsigned(width) => reader.read_unsigned_counted::<_, u128>(BitCount::unknown(width)).map(Some),
         Field::Align => {
             reader.byte_align();
             Ok(None)
