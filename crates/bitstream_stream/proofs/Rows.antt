@@ -1,10 +1,10 @@
 -- Rows of the table of reads, by the definitions alone.
-use Rattle.std.specs.Prelude.{ℤ, pos, negsuc}
-use Rattle.std.proofs.Common.{◌≡◌, ℕ, List, [], ◌∷◌, drop, Bool, Ok, refl}
+use Rattle.std.specs.Prelude.{pos, negsuc}
+use Rattle.std.proofs.Common.{◌≡◌, ℕ, List, [], ◌∷◌, drop, Bool, true, false, Ok, Err, refl}
 use Rattle.bitstream_count.specs.declared.error.Error.TheVariants.{ReadBits, NoSignBit}
 use Rattle.bitstream_count.specs.Entry.{Takes, TooShort}
-use Rattle.bitstream_number.specs.Word.{Order, High, Low, digits, digits_number, bits, count_width}
-use Rattle.bitstream_stream.specs.ReadTable.{unsigned_entry}
+use Rattle.bitstream_number.specs.Word.{Order, High, Low, digits, digits_number, bits}
+use Rattle.bitstream_stream.specs.ReadTable.{bit_entry, unsigned_entry, signed_entry, const_entry, count_entry, align_entry}
 
 -- B1 ED 3B C1
 four_bytes : List ℕ
@@ -131,7 +131,7 @@ unfolding const_entry digits digits_number left_of four_bytes
 other_constant = refl
 
 constant_of_no_bits : (const_entry High 0 1).reads 0 (left_of High 0) ≡ Takes 0 (Ok false)
-unfolding const_entry digits_number left_of four_bytes
+unfolding const_entry digits digits_number left_of four_bytes
 constant_of_no_bits = refl
 
 count_of_seven : (count_entry High 7).reads 0 (bits High (160 ∷ [])) ≡ Takes 3 (Ok 5)
