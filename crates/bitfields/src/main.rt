@@ -9,6 +9,8 @@ mod layout;
 mod lines;
 mod packing;
 mod printing;
+#[cfg(test)]
+mod r01_first_path;
 mod run;
 mod unpacking;
 mod value;
