@@ -55,5 +55,5 @@ result_then (Err e) f = Err e
 unfoldable pub chain : {A B : Type 0} → ReadEntry A → (A → ReadEntry B) → ReadEntry B
 chain e f = record {
   reads = λ p bits. front_then (e.reads p bits) (λ n a. (f a).reads (p + n) (drop n bits));
-  on_failed = result_then e.on_failed (λ a. (f a).on_failed)
+  on_failed = result_then e.on_failed (λ a. (f a).on_failed);
 }

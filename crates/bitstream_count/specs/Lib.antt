@@ -1,3 +1,4 @@
+pub mod Checks
+pub mod Counts
 pub mod Entry
-pub mod Errors
 pub mod Kind

@@ -30,7 +30,7 @@ port_state bytes places port = record {
   requests = port.requests.count;
   refused = port.refused.count;
   misled = port.misled.count;
-  places = places port.stream
+  places = places port.stream;
 }
 
 -- how many bytes were fetched through a port

@@ -7,6 +7,7 @@ pub mod order;
 pub mod port;
 pub mod scatter;
 pub mod send;
+pub mod sign;
 pub mod source;
 pub mod tally;
 pub mod target;

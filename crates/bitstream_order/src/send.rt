@@ -13,7 +13,13 @@ use bitstream_number::number::{Numeric, UnsignedInteger};
 
 /// Hands on the bits behind the first `at` of the n bits of a value, as many as fill a buffer, and
 /// answers how many of the n have gone then.
-pub fn pour<T: Target, E: Endianness, U: UnsignedInteger>(port: &mut Port<T>, value: U, n: u32, at: u32, buf: &mut [u8]) -> Result<u32, Error>
+pub fn pour<T: Target, E: Endianness, U: UnsignedInteger>(
+    port: &mut Port<T>,
+    value: U,
+    n: u32,
+    at: u32,
+    buf: &mut [u8],
+) -> Result<u32, Error>
     requires { at + 8 * length buf.old ≤ n }
     ensures passes { PassesMore E.order (word E.order n (U.value value)) at (port_state T.held T.places port.old) result (port_state T.held T.places port.new) }
     ensures gone { IfOk result (λ done. done ≡ at + 8 * length buf.old) }
@@ -28,7 +34,12 @@ pub fn pour<T: Target, E: Endianness, U: UnsignedInteger>(port: &mut Port<T>, va
 
 /// Hands on the whole bytes behind the first `at` of the n bits of a value, and answers how many of
 /// the n have gone then: all but fewer than 8.
-pub fn send_whole<T: Target, E: Endianness, U: UnsignedInteger>(port: &mut Port<T>, value: U, n: u32, at: u32) -> Result<u32, Error>
+pub fn send_whole<T: Target, E: Endianness, U: UnsignedInteger>(
+    port: &mut Port<T>,
+    value: U,
+    n: u32,
+    at: u32,
+) -> Result<u32, Error>
     requires within { at ≤ n }
     requires room { n ≤ U.BITS_SIZE }
     ensures passes { PassesMore E.order (word E.order n (U.value value)) at (port_state T.held T.places port.old) result (port_state T.held T.places port.new) }
@@ -53,7 +64,13 @@ pub fn send_whole<T: Target, E: Endianness, U: UnsignedInteger>(port: &mut Port<
 
 /// Hands on the byte that begins with a queue of bits and goes on with the first of the n bits of a
 /// value, and answers how many of the n have gone then. From an empty queue nothing goes.
-pub fn send_first<T: Target, E: Endianness, U: UnsignedInteger>(port: &mut Port<T>, queue: u8, queued: u32, value: U, n: u32) -> Result<u32, Error>
+pub fn send_first<T: Target, E: Endianness, U: UnsignedInteger>(
+    port: &mut Port<T>,
+    queue: u8,
+    queued: u32,
+    value: U,
+    n: u32,
+) -> Result<u32, Error>
     requires few { queued < 8 }
     requires small { queue < 2 ^ queued }
     requires full { 8 ≤ queued + n }
@@ -74,7 +91,13 @@ pub fn send_first<T: Target, E: Endianness, U: UnsignedInteger>(port: &mut Port<
 
 /// Hands on as many bytes as a queue of bits makes with the n bits of a value behind it, and answers
 /// how many of the n have gone then: all but fewer than 8. It makes two requests at most.
-pub fn send_front<T: Target, E: Endianness, U: UnsignedInteger>(port: &mut Port<T>, queue: u8, queued: u32, value: U, n: u32) -> Result<u32, Error>
+pub fn send_front<T: Target, E: Endianness, U: UnsignedInteger>(
+    port: &mut Port<T>,
+    queue: u8,
+    queued: u32,
+    value: U,
+    n: u32,
+) -> Result<u32, Error>
     requires few { queued < 8 }
     requires small { queue < 2 ^ queued }
     requires full { 8 ≤ queued + n }

@@ -1,8 +1,14 @@
+pub mod ConstLemmas
 pub mod EntryLemmas
+pub mod LawLemmas
 pub mod ReaderLemmas
 pub mod ReadsLemmas
+pub mod Rows
+pub mod SignedLemmas
 pub mod SinkLemmas
 pub mod SinkParts
 pub mod TableLemmas
+pub mod TakenLemmas
 pub mod WriteLemmas
+pub mod WriteParts
 pub mod WriterLemmas

@@ -1,20 +1,20 @@
 -- What a reader's calls come to.
-use Rattle.std.proofs.Common.{◌≡◌, ℕ, ◌+◌, ◌-◌, ◌*◌, ◌/◌, ◌%◌, ◌^◌, ◌<◌, ◌≤◌, Bool, true, false, List, [], ◌∷◌, ◌++◌, length, Option, Some, None, option_map, Result, Ok, Err, refl, sym, ap, ap₂, ◌∙◌, subst, arith, append_assoc, append-nil, length-append}
+use Rattle.std.proofs.Common.{◌≡◌, ℕ, ◌+◌, ◌-◌, ◌*◌, ◌<◌, ◌≤◌, Bool, true, false, List, [], ◌++◌, length, Option, Some, None, option_map, Ok, Err, refl, sym, ap, ap₂, ◌∙◌, arith, append_assoc, length-append}
 use Rattle.std.specs.Io.KnownBytes.{Consumes}
 use Rattle.std.proofs.KnownBytes.{Consumes-nil}
 use Rattle.std.specs.Borrow.{GName}
 use Rattle.std.proofs.Math.Nat.{mod-eq_of_lt}
-use Rattle.std.proofs.lemmas.Bool.{le-leb, lt-leb}
+use Rattle.std.proofs.lemmas.Bool.{lt-leb}
 use Rattle.bitstream_count.specs.declared.error.Error.{Error}
 use Rattle.bitstream_count.specs.declared.error.Error.TheVariants.{EndOfInput, ReadBits, Failed}
-use Rattle.bitstream_count.specs.Entry.{Takes, TooShort, takes, word_front}
-use Rattle.bitstream_number.specs.Word.{Order, High, Low, word, bits, number}
+use Rattle.bitstream_count.specs.Entry.{Takes}
+use Rattle.bitstream_number.specs.Word.{Order, word, bits, number}
 use Rattle.bitstream_number.proofs.WordLemmas.{length-word, length-bits, number-word, bits-append}
 use Rattle.bitstream_order.specs.Draw.{Draws}
 use Rattle.bitstream_order.specs.Port.{PortState, Refuses}
 use Rattle.bitstream_order.proofs.DrawLemmas.{word-none, draws_lengths}
 use Rattle.bitstream_order.proofs.FaultLemmas.{refused_at_end}
-use Rattle.bitstream_stream.specs.Reads.{ReaderState, Reads, Loses, stays, answers, faults}
+use Rattle.bitstream_stream.specs.Reads.{ReaderState, Reads, Loses, Holds, Demands, stays, answers, faults}
 use Rattle.bitstream_stream.specs.Reader.{reader_state, new_reader_state}
 use Rattle.bitstream_stream.specs.ReadTable.{unsigned_entry, align_entry, to_boundary}
 use Rattle.bitstream_stream.proofs.EntryLemmas.{word_front-some, word_front-none}
@@ -57,14 +57,14 @@ answered o size queued queue n v l q before after old new fine still le few h = 
   fine = fine;
   word = word o n v;
   decides = λ more.
-    let len = length-word o n v in
-    let value : number o (word o n v) ≡ v = number-word o n v ∙ mod-eq_of_lt h.below in
-    word_front-some n (λ w. Ok (number o w)) (word o n v) more len ∙ ap₂ (λ k x. Takes k (Ok x)) (sym len) value;
+      let len = length-word o n v in
+      let value : number o (word o n v) ≡ v = number-word o n v ∙ mod-eq_of_lt h.below in
+      word_front-some n (λ w. Ok (number o w)) (word o n v) more len ∙ ap₂ (λ k x. Takes k (Ok x)) (sym len) value;
   loses = draws_loses o queued queue n v l q old.bytes new.bytes h.bytes h.loses h.word;
   taken =
-    let len = length-word o n v in
-    let sum = draws_lengths o queued queue n v l q h.bytes h.word in
-    let f = h.fetched in omega arith;
+      let len = length-word o n v in
+      let sum = draws_lengths o queued queue n v l q h.bytes h.word in
+      let f = h.fetched in omega arith;
   drains = record { gone = h.bytes; loses = h.loses; fetched = h.fetched };
   refused = h.refused;
   misled = h.misled;
@@ -101,10 +101,9 @@ stopped o size queued queue n m v k q l failed x old mid new fine le more h r = 
   misled = let a = h.misled in let b = r.misled in omega arith;
   places = r.places ∙ h.places;
   ended = λ b known honest.
-    let end = stopped_short o queued queue m v k n x old.bytes mid.bytes h.bytes b known h.loses h.word (λ bs is. refused_at_end x mid new k bs r is (honest ∙ sym h.misled)) more in
-    (end.0, word_front-none n (λ w. Ok (number o w)) b end.1);
+      let end = stopped_short o queued queue m v k n x old.bytes mid.bytes h.bytes b known h.loses h.word (λ bs is. refused_at_end x mid new k bs r is (honest ∙ sym h.misled)) more in
+      (end.0, word_front-none n (λ w. Ok (number o w)) b end.1);
 }))
-
 
 -- ---- alignment
 
@@ -123,9 +122,9 @@ aligned o port queue queued failed fine small few = answers (record {
   fine = fine;
   word = word o queued queue;
   decides = λ more.
-    let len = length-word o queued queue in
-    let gap : to_boundary (8 * port.fetched - queued) ≡ queued = to_boundary_is port.fetched queued (8 * port.fetched - queued) small few refl in
-    word_front-some (to_boundary (8 * port.fetched - queued)) (λ _. Ok tt) (word o queued queue) more (len ∙ sym gap) ∙ rw (gap, len) refl;
+      let len = length-word o queued queue in
+      let gap : to_boundary (8 * port.fetched - queued) ≡ queued = to_boundary_is port.fetched queued (8 * port.fetched - queued) small few refl in
+      word_front-some (to_boundary (8 * port.fetched - queued)) (λ _. Ok tt) (word o queued queue) more (len ∙ sym gap) ∙ rw (gap, len) refl;
   loses = align_loses o queue queued port.bytes;
   taken = let len = length-word o queued queue in omega arith;
   drains = record { gone = []; loses = Consumes-nil port.bytes; fetched = omega arith };
@@ -148,3 +147,11 @@ start_bits o (Some bs) = rw (word-none o 0) refl
 pub start_state : (o : Order) (port : PortState) (known : Option (List ℕ)) (places : List GName) → port.bytes ≡ known → port.places ≡ places → port.fetched ≡ 0 → port.refused ≡ 0 → port.misled ≡ 0
     → reader_state o port 0 0 false ≡ new_reader_state o known places
 start_state o port known places bytes same fetched refused misled = rw (bytes, same, fetched, refused, misled, start_bits o known) refl
+
+-- ---- what a reader holds back
+
+pub Holds-reader : (o : Order) (port : PortState) (queue queued : ℕ) (failed : Bool) → queued ≤ 8 * port.fetched → Holds o (reader_state o port queue queued failed)
+Holds-reader o port queue queued failed few = (word o queued queue, (let len = length-word o queued queue in omega arith), refl)
+
+pub Demands-reader : (o : Order) (port : PortState) (queue queued : ℕ) (failed : Bool) → queued < 8 → queued ≤ 8 * port.fetched → Demands (reader_state o port queue queued failed)
+Demands-reader o port queue queued failed small few = omega arith

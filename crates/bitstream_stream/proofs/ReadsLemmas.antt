@@ -1,15 +1,15 @@
 -- How reads compose.
-use Rattle.std.proofs.Common.{◌≡◌, ℕ, ◌+◌, ◌-◌, ◌<◌, ◌≤◌, Bool, true, false, List, [], ◌∷◌, ◌++◌, length, take, drop, Option, Some, None, Result, Ok, Err, refl, sym, ap, ◌∙◌, subst, append_assoc, length-append, arith, add_assoc, inl, inr, ◌⊎◌}
+use Rattle.std.proofs.Common.{◌≡◌, ℕ, ◌+◌, ◌≤◌, Bool, true, false, List, [], ◌∷◌, ◌++◌, length, drop, Option, Some, None, Result, Ok, Err, refl, sym, ap, ◌∙◌, subst, append_assoc, length-append, arith, add_assoc, inl, inr, ◌⊎◌}
 use Rattle.std.proofs.KnownBytes.{Consumes-nil, Consumes-trans}
 use Rattle.std.proofs.Math.Seq.{drop-append_seam}
 use Rattle.bitstream_count.specs.declared.error.Error.{Error}
 use Rattle.bitstream_count.specs.declared.error.Error.TheVariants.{EndOfInput}
 use Rattle.std.specs.Result.{IsErrAnd}
 use Rattle.bitstream_stream.proofs.EntryLemmas.{Same, chain-ok, chain-err, chain-none, chain-failed}
-use Rattle.bitstream_count.specs.Entry.{ReadEntry, Front, TooShort, Takes, longer, front_then, result_then, chain, gives, call}
+use Rattle.bitstream_count.specs.Entry.{ReadEntry, TooShort, Takes, longer, chain, gives}
 use Rattle.std.specs.Borrow.{GName}
 use Rattle.bitstream_order.specs.Draw.{seen}
-use Rattle.bitstream_stream.specs.Reads.{lent, ReaderState, Reads, Stays, Answers, Faults, stays, answers, faults, Loses, Drains, is_run_too_long}
+use Rattle.bitstream_stream.specs.Reads.{lent, ReaderState, Reads, stays, answers, faults, Loses, Drains, is_run_too_long}
 
 pub Loses-nil : (a : Option (List Bool)) → Loses a a []
 Loses-nil None = tt
@@ -86,14 +86,15 @@ Reads-chain-ok e f {a = a} {r = r} {s = s} {t = t} {z = z} (answers h) (faults k
   misled = subst (λ n. n ≤ z.misled) h.misled k.misled;
   places = k.places ∙ h.places;
   ended = λ b known honest.
-    let parts = Loses-known s.bits t.bits h.word b h.loses known in
-    let end = k.ended parts.0 parts.1 (honest ∙ sym h.misled) in
-    (end.0,
-     let here : (chain e f).reads s.taken (h.word ++ parts.0) ≡ longer (length h.word) ((f a).reads (s.taken + length h.word) (drop (length h.word) (h.word ++ parts.0))) =
-     chain-ok e f s.taken (h.word ++ parts.0) (length h.word) a (h.decides parts.0) in
-     let there : (f a).reads (s.taken + length h.word) (drop (length h.word) (h.word ++ parts.0)) ≡ TooShort =
-     rw (drop_front h.word parts.0, ← h.taken) end.1 in
-     rw (parts.2, here, there) refl);
+      let parts = Loses-known s.bits t.bits h.word b h.loses known in
+      let end = k.ended parts.0 parts.1 (honest ∙ sym h.misled) in (
+        end.0,
+        let here : (chain e f).reads s.taken (h.word ++ parts.0) ≡ longer (length h.word) ((f a).reads (s.taken + length h.word) (drop (length h.word) (h.word ++ parts.0))) =
+            chain-ok e f s.taken (h.word ++ parts.0) (length h.word) a (h.decides parts.0) in
+            let there : (f a).reads (s.taken + length h.word) (drop (length h.word) (h.word ++ parts.0)) ≡ TooShort =
+            rw (drop_front h.word parts.0, ← h.taken) end.1 in
+            rw (parts.2, here, there) refl,
+      );
 })
 Reads-chain-ok e f (faults h) k = let p = h.answer in cc
 
@@ -226,20 +227,34 @@ Reads-known b fine known honest (faults h) =
 -- a call with a front is not answered by the end
 pub not_ended : {A : Type 0} {e : ReadEntry A} {r x : Result A Error} {s t : ReaderState} (b : List Bool) (n : ℕ) → s.failed ≡ false → s.bits ≡ Some b → t.misled ≡ s.misled → e.reads s.taken b ≡ Takes n x → Reads e s r t → r ≡ x
 not_ended {e = e} {r = r} {x = x} {s = s} {t = t} b n fine known honest has h = elim (Reads-known b fine known honest h) [
-    inl told ↦ let same : Takes n x ≡ Takes told.len r = sym has ∙ told.front in cc
+  | inl told ↦ let same : Takes n x ≡ Takes told.len r = sym has ∙ told.front in cc
   | inr ended ↦ let none = ended.front in cc
-  ]
+]
 
 -- a reader that is seen through a reference
 pub Reads-lent : {A : Type 0} {e : ReadEntry A} {r : Result A Error} {s t : ReaderState} (n : GName) → Reads e s r t → Reads e (lent n s) r (lent n t)
 Reads-lent n (stays h) = stays (record { failed = h.failed; answer = h.answer; same = ap (lent n) h.same })
 Reads-lent n (answers h) = answers (record {
-  fine = h.fine; word = h.word; decides = h.decides; loses = h.loses; taken = h.taken; drains = record { gone = h.drains.gone; loses = h.drains.loses; fetched = h.drains.fetched }; refused = h.refused; misled = h.misled;
+  fine = h.fine;
+  word = h.word;
+  decides = h.decides;
+  loses = h.loses;
+  taken = h.taken;
+  drains = record { gone = h.drains.gone; loses = h.drains.loses; fetched = h.drains.fetched };
+  refused = h.refused;
+  misled = h.misled;
   places = ap (λ l. n ∷ l) h.places;
   failed = h.failed;
 })
 Reads-lent n (faults h) = faults (record {
-  fine = h.fine; fault = h.fault; answer = h.answer; kind = h.kind; by_kind = h.by_kind; failed = h.failed; refused = h.refused; misled = h.misled;
+  fine = h.fine;
+  fault = h.fault;
+  answer = h.answer;
+  kind = h.kind;
+  by_kind = h.by_kind;
+  failed = h.failed;
+  refused = h.refused;
+  misled = h.misled;
   places = ap (λ l. n ∷ l) h.places;
   ended = h.ended;
 })
@@ -271,13 +286,43 @@ heads n m k l e = ap (head_of n) e
 pub Reads-back : {A : Type 0} {e : ReadEntry A} {r : Result A Error} {s t : ReaderState} (n m : GName) → Reads e (lent n s) r (lent m t) → (n ≡ m) × Reads e s r t
 Reads-back {s = s} {t = t} n m (stays h) =
     (sym (heads n m s.places t.places (ap (λ (x : ReaderState). x.places) h.same)), stays (record { failed = h.failed; answer = h.answer; same = same_behind n m s t h.same }))
-Reads-back {s = s} {t = t} n m (answers h) = (sym (heads n m s.places t.places h.places), answers (record {
-  fine = h.fine; word = h.word; decides = h.decides; loses = h.loses; taken = h.taken; drains = record { gone = h.drains.gone; loses = h.drains.loses; fetched = h.drains.fetched }; refused = h.refused; misled = h.misled;
-  places = tails n m s.places t.places h.places;
-  failed = h.failed;
-}))
-Reads-back {s = s} {t = t} n m (faults h) = (sym (heads n m s.places t.places h.places), faults (record {
-  fine = h.fine; fault = h.fault; answer = h.answer; kind = h.kind; by_kind = h.by_kind; failed = h.failed; refused = h.refused; misled = h.misled;
-  places = tails n m s.places t.places h.places;
-  ended = h.ended;
-}))
+Reads-back {s = s} {t = t} n m (answers h) = (
+  sym (heads n m s.places t.places h.places),
+  answers (record {
+    fine = h.fine;
+    word = h.word;
+    decides = h.decides;
+    loses = h.loses;
+    taken = h.taken;
+    drains = record { gone = h.drains.gone; loses = h.drains.loses; fetched = h.drains.fetched };
+    refused = h.refused;
+    misled = h.misled;
+    places = tails n m s.places t.places h.places;
+    failed = h.failed;
+  }),
+)
+Reads-back {s = s} {t = t} n m (faults h) = (
+  sym (heads n m s.places t.places h.places),
+  faults (record {
+    fine = h.fine;
+    fault = h.fault;
+    answer = h.answer;
+    kind = h.kind;
+    by_kind = h.by_kind;
+    failed = h.failed;
+    refused = h.refused;
+    misled = h.misled;
+    places = tails n m s.places t.places h.places;
+    ended = h.ended;
+  }),
+)
+
+-- ---- a whole list of reads from a new reader
+
+pub Reads-places : {A : Type 0} {e : ReadEntry A} {r : Result A Error} {s t : ReaderState} → Reads e s r t → t.places ≡ s.places
+Reads-places (stays h) = ap (λ (x : ReaderState). x.places) h.same
+Reads-places (answers h) = h.places
+Reads-places (faults h) = h.places
+
+pub one_place : (n m : GName) → n ∷ [] ≡ m ∷ [] → n ≡ m
+one_place n m e = heads m n [] [] e

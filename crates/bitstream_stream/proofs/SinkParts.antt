@@ -1,9 +1,13 @@
 -- A word written in parts.
-use Rattle.std.proofs.Common.{◌≡◌, ℕ, ◌+◌, ◌<◌, ◌≤◌, Bool, true, false, List, [], ◌∷◌, ◌++◌, length, Result, Ok, Err, refl, sym, ◌∙◌, ap, subst, append_assoc, append-nil, length-append, arith}
+use Rattle.std.proofs.Common.{◌≡◌, ℕ, ◌+◌, ◌%◌, ◌<◌, ◌≤◌, Bool, true, false, List, [], ◌∷◌, ◌++◌, length, replicate, Result, Ok, Err, refl, sym, ◌∙◌, ap, subst, append_assoc, append-nil, length-append, arith}
+use Rattle.std.proofs.lemmas.List.{length-replicate}
+use Rattle.bitstream_number.specs.Word.{Order, word}
 use Rattle.bitstream_count.specs.Entry.{WriteEntry}
 use Rattle.bitstream_count.specs.declared.error.Error.{Error}
 use Rattle.bitstream_count.specs.declared.error.Error.TheVariants.{Failed}
 use Rattle.bitstream_stream.specs.Sink.{Sink, WriteOutcome, Appended, Kept, Faulted, IsWithin, IsBeyond, was_failed, was_refused, passed_limit, had_fault, did_write}
+use Rattle.bitstream_stream.specs.WriteTable.{unsigned, padding, align}
+use Rattle.bitstream_stream.proofs.WriteLemmas.{unsigned-accepted, padded}
 use Rattle.bitstream_stream.proofs.SinkLemmas.{IsBeyond-more, not_beyond, empty}
 
 -- the sink had not failed, and x is appended
@@ -36,6 +40,15 @@ module _ {S : Type 0} (K : Sink S) where
         within = subst (λ (z : List Bool). IsWithin K.limit (K.len old + length z)) same wi;
         done = subst (λ (z : List Bool). Appended K old z new) same a;
       }
+
+  -- and some word, in any case
+  pub written : {T : Type 0} (exact : Bool) (e : WriteEntry) (old : S) (r : Result T Error) (new : S) (t : T)
+      → WriteOutcome K exact e old r new → r ≡ Ok t → (x : List Bool) × (e (K.len old) ≡ Ok x) × Begun K old x new
+  written exact e old r new t (was_failed f re k) q = cc
+  written exact e old r new t (was_refused d f en re k) q = cc
+  written exact e old r new t (passed_limit y u v f en b re s o a) q = cc
+  written exact e old r new t (had_fault y d f en nz re k) q = cc
+  written exact e old r new t (did_write y w f en wi re a) q = (y, en, record { was_sound = f; within = wi; done = a })
 
   -- and the other way
   pub to_ok : {T : Type 0} (exact : Bool) (e : WriteEntry) (old : S) (r : Result T Error) (new : S) (t : T) (x : List Bool)
@@ -132,3 +145,19 @@ module _ {S : Type 0} (K : Sink S) where
       → Begun K old [] new → f (K.len old) ≡ Err d → r' ≡ Err d → WriteOutcome K false f old r' new
   probe_refused f old r' new d b h q =
       was_refused d b.was_sound h q (record { grown = b.done.grown; failed = b.done.sound ∙ sym b.was_sound; refused = b.done.refused; places = b.done.places })
+
+  -- the word of a number that was accepted
+  pub written_unsigned : {T : Type 0} (exact : Bool) (o : Order) (size n v : ℕ) (old : S) (r : Result T Error) (new : S) (t : T)
+      → WriteOutcome K exact (unsigned o size n v) old r new → r ≡ Ok t → Begun K old (word o n v) new
+  written_unsigned exact o size n v old r new t w q =
+      let h = written exact (unsigned o size n v) old r new t w q in
+      subst (λ (x : List Bool). Begun K old x new) (unsigned-accepted o size n v (K.len old) h.0 h.1) h.2
+
+  -- zeros up to a multiple of 8
+  pub written_align : {T : Type 0} (exact : Bool) (old : S) (r : Result T Error) (new : S) (t : T) (len : ℕ)
+      → WriteOutcome K exact align old r new → r ≡ Ok t → K.len old ≡ len → Begun K old (replicate (padding len) false) new × (K.len new % 8 ≡ 0)
+  written_align exact old r new t len w q at =
+      let b = from_ok exact align old r new t (replicate (padding len) false) w q (ap (λ (n : ℕ). Ok (replicate (padding n) false)) at) in
+      let far : K.len new ≡ len + padding len =
+      K.appends_len old new (replicate (padding len) false) b.done.grown ∙ ap (λ (k : ℕ). k + length (replicate (padding len) false)) at ∙ ap (λ (k : ℕ). len + k) (length-replicate (padding len) false) in
+      (b, ap (λ (k : ℕ). k % 8) far ∙ padded len)

@@ -1,10 +1,11 @@
 -- A word behind the queue of a writer.
 use Rattle.std.proofs.KnownBytes.{Appends-nil}
-use Rattle.std.proofs.Common.{◌≡◌, ℕ, ◌+◌, ◌-◌, ◌*◌, ◌/◌, ◌%◌, ◌^◌, ◌<◌, ◌≤◌, Bool, true, false, List, [], ◌∷◌, ◌++◌, length, take, Result, Ok, Err, refl, sym, ap, ap₂, ◌∙◌, subst, arith, append_assoc, append-nil, length-append}
+use Rattle.std.proofs.Common.{◌≡◌, ℕ, ◌+◌, ◌-◌, ◌*◌, ◌/◌, ◌%◌, ◌^◌, ◌<◌, ◌≤◌, Bool, true, false, List, [], ◌∷◌, ◌++◌, length, take, Option, Result, Ok, Err, refl, sym, ap, ap₂, ◌∙◌, subst, arith, append_assoc, append-nil, length-append}
 use Rattle.bitstream_number.specs.Word.{Order, word, bits}
 use Rattle.bitstream_number.proofs.WordLemmas.{length-word}
 use Rattle.bitstream_count.specs.Entry.{WriteEntry}
 use Rattle.bitstream_count.specs.declared.error.Error.{Error}
+use Rattle.bitstream_order.specs.declared.lent.Lent.{Lent}
 use Rattle.bitstream_order.specs.Parts.{piece, put_number}
 use Rattle.bitstream_order.specs.Pass.{Passes, Breaks}
 use Rattle.bitstream_order.specs.Port.{PortState}
@@ -12,7 +13,10 @@ use Rattle.bitstream_order.proofs.DrawLemmas.{word-none}
 use Rattle.bitstream_order.proofs.PartLemmas.{put_word, put_below}
 use Rattle.bitstream_order.proofs.PassLemmas.{piece_below, piece_last}
 use Rattle.bitstream_stream.specs.Sink.{Sink, WriteOutcome, Appended, Faulted, had_fault, did_write}
-use Rattle.bitstream_stream.specs.Writer.{WriterState, Carries, queue_sink, Pushes}
+use Rattle.bitstream_stream.specs.Writer.{WriterState, writer_state, fresh_writer, Carries, Adds, queue_sink, writer_sink, Pushes}
+use Rattle.bitstream_stream.proofs.SinkParts.{Begun}
+use Rattle.bitstream_stream.specs.declared.writer.BitWriter.{BitWriter}
+use Rattle.std.specs.Borrow.{GName}
 
 pub some_bits : (o : Order) (n v : ℕ) → 0 < n → 0 < length (word o n v)
 some_bits o n v h = subst (λ (k : ℕ). 0 < k) (sym (length-word o n v)) h
@@ -49,9 +53,14 @@ pushed_queue o queued queue n v part q p old new below cut put sound = record {
 pub pushed_bytes : (o : Order) (queued queue n v gone q : ℕ) (p r : PortState) (old new : Bool) → Passes o [] p (word o queued queue ++ take gone (word o n v)) r → gone ≤ n → q ≡ piece o n v gone (n - gone) → new ≡ false
     → Appended (queue_sink o) (record { port = p; queued = queued; queue = queue; failed = old }) (word o n v) (record { port = r; queued = n - gone; queue = q; failed = new })
 pushed_bytes o queued queue n v gone q p r old new h le cut sound = record {
-  grown = record { bytes = h.bytes; grows = h.grows; sent = h.sent; word =
-    ap (λ w. word o queued queue ++ w) (piece_last o n v gone le ∙ ap (λ x. take gone (word o n v) ++ word o (n - gone) x) (sym cut))
-    ∙ sym (append_assoc (word o queued queue) (take gone (word o n v)) (word o (n - gone) q)) ∙ ap (λ w. w ++ word o (n - gone) q) h.word };
+  grown = record {
+    bytes = h.bytes;
+    grows = h.grows;
+    sent = h.sent;
+    word =
+        ap (λ w. word o queued queue ++ w) (piece_last o n v gone le ∙ ap (λ x. take gone (word o n v) ++ word o (n - gone) x) (sym cut))
+        ∙ sym (append_assoc (word o queued queue) (take gone (word o n v)) (word o (n - gone) q)) ∙ ap (λ w. w ++ word o (n - gone) q) h.word;
+  };
   sound = sound;
   refused = h.refused;
   places = h.places;
@@ -65,3 +74,35 @@ pub pushes_writes : (o : Order) (x : List Bool) (e : WriteEntry) (old : WriterSt
     → WriteOutcome (queue_sink o) false e old result new
 pushes_writes o x e old (Ok done) new sound is h = did_write x done sound is tt refl h
 pushes_writes o x e old (Err error) new sound is h = had_fault x error sound is h.0 refl h.1
+
+-- what an aligned writer added to its stream, from the first bit on
+pub adds : {W E : Type 0} (held : W → Option (List ℕ)) (places : W → List GName) (o : Order) (a b : BitWriter W E) (x : List Bool) → Carries o (writer_state held places a) x (writer_state held places b) → a.queued ≡ 0
+    → (8 * (writer_state held places b).port.sent + b.queued) % 8 ≡ 0 → Adds o (held a.port.stream) x (held b.port.stream)
+adds held places o a b x h none aligned =
+    let few : b.queued < 8 = b.few in
+    let all : b.queued ≡ 0 = omega arith in
+    record {
+      bytes = h.bytes;
+      grows = h.grows;
+      bits =
+          sym (sym (ap (λ (n : ℕ). word o n a.queue ++ x) none ∙ ap (λ w. w ++ x) (word-none o a.queue)) ∙ h.word
+          ∙ ap (λ w. bits o h.bytes ++ w) (ap (λ (n : ℕ). word o n b.queue) all ∙ word-none o b.queue) ∙ append-nil (bits o h.bytes));
+    }
+
+-- a stream that was lent: what it holds, and the name of the reference to it
+abbrev pub lent_held : {S : Type 0} → (S → Option (List ℕ)) → Lent S → Option (List ℕ)
+lent_held held l = held l.at.now
+
+abbrev pub lent_places : {S : Type 0} → Lent S → List GName
+lent_places l = l.at.ghost_name ∷ []
+
+-- what was added to a stream that was lent, and that it is the same stream still
+pub lent_adds : {S E : Type 0} (held : S → Option (List ℕ)) (o : Order) (stream : Lent S) (a b : BitWriter (Lent S) E) (x : List Bool)
+    → writer_state (lent_held held) lent_places a ≡ fresh_writer (lent_held held stream) (lent_places stream) → Begun (writer_sink (lent_held held) lent_places o) a x b
+    → (writer_sink {E = E} (lent_held held) lent_places o).len b % 8 ≡ 0 → Adds o (held stream.at.now) x (held b.port.stream.at.now) × (b.port.stream.at.ghost_name ≡ stream.at.ghost_name)
+lent_adds held o stream a b x fresh h aligned =
+    let none : a.queued ≡ 0 = ap (λ (s : WriterState). s.queued) fresh in
+    let from : held a.port.stream.at.now ≡ held stream.at.now = ap (λ (s : WriterState). s.port.bytes) fresh in
+    let kept = h.done.places in
+    let first = ap (λ (s : WriterState). s.port.places) fresh in
+    (subst (λ (m : Option (List ℕ)). Adds o m x (held b.port.stream.at.now)) from (adds (lent_held held) lent_places o a b x h.done.grown none aligned), cc (kept, first))

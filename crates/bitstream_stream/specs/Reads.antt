@@ -1,6 +1,7 @@
 -- What one read does to a reader.
-use Rattle.std.specs.Prelude.{◌≡◌, ℕ, ◌+◌, ◌*◌, ◌/◌, ◌≤◌, Bool, true, false, List, ◌∷◌, ◌++◌, length, Option, option_map, Some, None, Result, Ok, Err, ⊤}
+use Rattle.std.specs.Prelude.{◌≡◌, ℕ, ◌+◌, ◌*◌, ◌/◌, ◌<◌, ◌≤◌, Bool, true, false, List, ◌∷◌, ◌++◌, length, Option, option_map, Some, None, Result, Ok, Err, ⊤}
 use Rattle.std.specs.Borrow.{GName}
+use Rattle.std.specs.Result.{IsErrAnd}
 use Rattle.std.specs.Io.KnownBytes.{Consumes}
 use Rattle.std.specs.declared.io.ErrorKind.{ErrorKind}
 use Rattle.bitstream_count.specs.declared.error.Error.{Error}
@@ -94,3 +95,24 @@ failing s = record s { failed = true }
 -- the same reader, seen through a reference of this name
 abbrev pub lent : GName → ReaderState → ReaderState
 lent name s = record s { places = name ∷ s.places }
+
+-- A new reader's stream lost these bytes to calls that answered: they are those of the front, and no
+-- more than it needs.
+pub record TakesBytes {A : Type 0} (o : Order) (entry : ReadEntry A) (old : Option (List ℕ)) (result : Result A Error) (new : Option (List ℕ)) : Type 0 where
+  pub gone : List ℕ
+  pub loses : Consumes old new gone
+  pub len : ℕ
+  pub least : (8 * length gone < len + 8) × (len ≤ 8 * length gone)
+  pub front : (xs : List ℕ) → old ≡ Some xs → entry.reads 0 (bits o gone) ≡ Takes len result
+
+-- the answer of a call that compares, and whose own error is of another type
+abbrev pub ConstAnswer : {E : Type 0} → (Error → E → Type 0) → E → Result Bool Error → Result (Unit {0}) E → Type 0
+ConstAnswer gives err (Ok true) result = result ≡ Ok tt
+ConstAnswer gives err (Ok false) result = result ≡ Err err
+ConstAnswer gives err (Err x) result = IsErrAnd result (gives x)
+
+-- a call that answers `err` where a word is not what it should be, and turns any other refusal into its own type
+pub record ReadsConst {E : Type 0} (gives : Error → E → Type 0) (entry : ReadEntry Bool) (err : E) (old : ReaderState) (result : Result (Unit {0}) E) (new : ReaderState) : Type 0 where
+  pub plain : Result Bool Error
+  pub reads : Reads entry old plain new
+  pub answer : ConstAnswer gives err plain result

@@ -65,11 +65,11 @@ pub data WriteOutcome {S T : Type 0} (K : Sink S) (exact : Bool) (entry : WriteE
   was_failed : K.failed old ≡ true → result ≡ Err Failed → Kept K old new → WriteOutcome K exact entry old result new
   was_refused : (error : Error) → K.failed old ≡ false → entry (K.len old) ≡ Err error → result ≡ Err error → Kept K old new → WriteOutcome K exact entry old result new
   passed_limit : (word front rest : List Bool) → K.failed old ≡ false → entry (K.len old) ≡ Ok word → IsBeyond K.limit (K.len old + length word) → result ≡ Err CounterOverflow
-    → word ≡ front ++ rest → (exact ≡ true → front ≡ []) → Appended K old front new → WriteOutcome K exact entry old result new
+      → word ≡ front ++ rest → (exact ≡ true → front ≡ []) → Appended K old front new → WriteOutcome K exact entry old result new
   had_fault : (word : List Bool) (error : Error) → K.failed old ≡ false → entry (K.len old) ≡ Ok word → 0 < length word → result ≡ Err error → Faulted K old error new
-    → WriteOutcome K exact entry old result new
+      → WriteOutcome K exact entry old result new
   did_write : (word : List Bool) (done : T) → K.failed old ≡ false → entry (K.len old) ≡ Ok word → IsWithin K.limit (K.len old + length word) → result ≡ Ok done → Appended K old word new
-    → WriteOutcome K exact entry old result new
+      → WriteOutcome K exact entry old result new
 
 -- one write call
 abbrev pub Writes : {S T : Type 0} → Sink S → WriteEntry → S → Result T Error → S → Type 0

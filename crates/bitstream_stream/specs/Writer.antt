@@ -24,7 +24,7 @@ writer_state held places w = record {
   port = port_state held places w.port;
   queued = w.queued;
   queue = w.queue;
-  failed = w.failed
+  failed = w.failed;
 }
 
 -- a writer to which nothing was written, by what its stream tells
@@ -33,7 +33,7 @@ fresh_writer held places = record {
   port = record { bytes = held; fetched = 0; sent = 0; requests = 0; refused = 0; misled = 0; places = places };
   queued = 0;
   queue = 0;
-  failed = false
+  failed = false;
 }
 
 -- whole bytes were handed on, and the bits behind them are queued
@@ -53,8 +53,8 @@ module _ (o : Order) where
     grows = Appends-trans a.port.bytes b.port.bytes c.port.bytes p.bytes q.bytes p.grows q.grows;
     sent = omega (arith, p.sent, q.sent, length-append p.bytes q.bytes);
     word = sym (append_assoc (word o a.queued a.queue) x y) ∙ ap (λ (l : List Bool). l ++ y) p.word ∙ append_assoc (bits o p.bytes) (word o b.queued b.queue) y
-      ∙ ap (λ (l : List Bool). bits o p.bytes ++ l) q.word ∙ sym (append_assoc (bits o p.bytes) (bits o q.bytes) (word o c.queued c.queue))
-      ∙ ap (λ (l : List Bool). l ++ word o c.queued c.queue) (sym (bits-append o p.bytes q.bytes));
+        ∙ ap (λ (l : List Bool). bits o p.bytes ++ l) q.word ∙ sym (append_assoc (bits o p.bytes) (bits o q.bytes) (word o c.queued c.queue))
+        ∙ ap (λ (l : List Bool). l ++ word o c.queued c.queue) (sym (bits-append o p.bytes q.bytes));
   }
 
   pub Carries-len : (a b : WriterState) (x : List Bool) → Carries o a x b → 8 * b.port.sent + b.queued ≡ 8 * a.port.sent + a.queued + length x
@@ -76,6 +76,12 @@ module _ (o : Order) where
     within = λ _. tt;
     appends_len = Carries-len;
   }
+
+-- bytes were added to those that a stream holds, where it tells, and these are their bits
+pub record Adds (o : Order) (old : Option (List ℕ)) (x : List Bool) (new : Option (List ℕ)) : Type 0 where
+  pub bytes : List ℕ
+  pub grows : Appends old new bytes
+  pub bits : bits o bytes ≡ x
 
 -- the bits x go behind those that a sound writer has, or a request is refused and it has failed
 abbrev pub Pushes : Order → List Bool → WriterState → Result (Unit {0}) Error → WriterState → Type 0

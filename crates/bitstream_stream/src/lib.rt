@@ -2,7 +2,16 @@
 #![tactic(auto)]
 
 mod check;
+mod complement;
+pub mod laws;
+#[cfg(test)]
+mod lent_reads;
+#[cfg(test)]
+mod lent_writes;
 pub mod read;
 pub mod reader;
+mod width;
 pub mod write;
+#[cfg(test)]
+mod write_tests;
 pub mod writer;

@@ -1,13 +1,14 @@
 //! Calls that read bits.
-ghost use Rattle.std.specs.Prelude.{◌≡◌, ℕ, ◌%◌, ◌↔◌, false, Ok, IsTrue};
+ghost use Rattle.std.specs.Prelude.{◌≡◌, ℕ, ◌+◌, ◌%◌, ◌^◌, ◌<◌, ◌≤◌, ◌⊎◌, ◌↔◌, false, Ok, IsTrue};
 ghost use Rattle.bitstream_number.specs.Word.{Order};
 ghost use Rattle.bitstream_order.specs.Draw.{seen};
-ghost use Rattle.bitstream_stream.specs.Reads.{ReaderState, Reads, Demands, Holds, failing, lent};
-ghost use Rattle.bitstream_stream.specs.ReadTable.{bit_entry, unsigned_entry, align_entry};
+ghost use Rattle.bitstream_stream.specs.Reads.{ReaderState, Reads, ReadsConst, Demands, Holds, failing, lent};
+ghost use Rattle.bitstream_stream.specs.ReadTable.{bit_entry, unsigned_entry, signed_entry, const_entry, count_entry, align_entry};
 
-use bitstream_count::count::{BitCount, Count};
+use crate::width::count_bits;
+use bitstream_count::count::{BitCount, Count, SignedCount};
 use bitstream_count::error::Error;
-use bitstream_number::number::{Numeric, UnsignedInteger};
+use bitstream_number::number::{Numeric, SignedInteger, UnsignedInteger, Width};
 
 /// A reader of bits.
 ///
@@ -24,6 +25,12 @@ pub trait BitRead {
     /// `ReadBits` if the type has fewer bits: nothing is taken then.
     fn read_unsigned_counted<C: Count, U: UnsignedInteger>(&mut self, bits: C) -> Result<U, Error>
         ensures reads { Reads (unsigned_entry order U.BITS_SIZE (C.number bits)) (state self.old) (seen U.value result) (state self.new) };
+
+    /// Reads a signed number of so many bits, of which one is the sign.
+    ///
+    /// `ReadBits` if the type has fewer bits: nothing is taken then.
+    fn read_signed_counted<C: SignedCount, S: SignedInteger>(&mut self, bits: C) -> Result<S, Error>
+        ensures reads { Reads (signed_entry order S.BITS_SIZE (C.number bits)) (state self.old) (seen S.integer result) (state self.new) };
 
     /// Whether the next bit is the first of a byte. Never so of a reader that has failed.
     fn byte_aligned(&self) -> bool
@@ -55,6 +62,62 @@ pub trait BitRead {
         self.read_unsigned_counted(BitCount::unknown(bits))
     }
 
+    /// As [`BitRead::read_unsigned_var`], with as many bits as B says.
+    fn read_unsigned<B: Width, U: UnsignedInteger>(&mut self) -> Result<U, Error>
+        requires { B.BITS ≤ U.BITS_SIZE }
+        ensures reads { Reads (unsigned_entry order U.BITS_SIZE B.BITS) (state self.old) (seen U.value result) (state self.new) }
+    {
+        self.read_unsigned_var(B::BITS)
+    }
+
+    /// Reads a signed number of so many bits, of which one is the sign.
+    ///
+    /// `NoSignBit` at 0 bits, `ReadBits` if the type has fewer bits: nothing is taken then.
+    fn read_signed_var<S: SignedInteger>(&mut self, bits: u32) -> Result<S, Error>
+        ensures reads { Reads (signed_entry order S.BITS_SIZE bits) (state self.old) (seen S.integer result) (state self.new) }
+    {
+        match BitCount::unknown(bits).signed_count() {
+            Some(count) => self.read_signed_counted(count),
+            None => {
+                let _: u8 = self.read_unsigned_var(0)?;
+                Err(Error::NoSignBit)
+            }
+        }
+    }
+
+    /// As [`BitRead::read_signed_var`], with as many bits as B says.
+    fn read_signed<B: Width, S: SignedInteger>(&mut self) -> Result<S, Error>
+        requires some { 1 ≤ B.BITS }
+        requires within { B.BITS ≤ S.BITS_SIZE }
+        ensures reads { Reads (signed_entry order S.BITS_SIZE B.BITS) (state self.old) (seen S.integer result) (state self.new) }
+    {
+        self.read_signed_var(B::BITS)
+    }
+
+    /// Reads a number of as many bits as B says, and answers `err` where it is not the one that V
+    /// says. The bits are taken then too.
+    fn read_const<B: Width, V: Width, E: From<Error> + Drop>(&mut self, err: E) -> Result<(), E>
+        requires word { B.BITS ≤ 32 }
+        requires value { (V.BITS < 2 ^ B.BITS) ⊎ (B.BITS ≡ 0) }
+        ensures reads { ReadsConst E.from_gives (const_entry order B.BITS V.BITS) err (state self.old) result (state self.new) }
+    {
+        let value: u32 = self.read_unsigned::<B, u32>()?;
+        if value == V::BITS { Ok(()) } else { Err(err) }
+    }
+
+    /// Reads a count with as few bits as its greatest number takes.
+    fn read_count<C: Count>(&mut self) -> Result<C, Error>
+        requires some { 0 < C.MAX }
+        requires full { (n : ℕ) × (C.MAX + 1 ≡ 2 ^ n) }
+        ensures reads { Reads (count_entry order C.MAX) (state self.old) (seen C.number result) (state self.new) }
+    {
+        let number = self.read_unsigned_var(count_bits(C::MAX))?;
+        match C::of(number) {
+            Some(count) => Ok(count),
+            None => unreachable!(),
+        }
+    }
+
     /// The reader itself, lent.
     fn by_ref(&mut self) -> &mut Self
         ensures value { result.now ≡ self.old }
@@ -79,6 +142,13 @@ impl<R: BitRead> BitRead for &mut R {
         (**self).read_unsigned_counted(bits)
     }
 
+    fn read_signed_counted<C: SignedCount, S: SignedInteger>(
+        &mut self,
+        bits: C,
+    ) -> Result<S, Error> {
+        (**self).read_signed_counted(bits)
+    }
+
     fn byte_aligned(&self) -> bool {
         (**self).byte_aligned()
     }
@@ -97,6 +167,26 @@ impl<R: BitRead> BitRead for &mut R {
 
     fn read_unsigned_var<U: UnsignedInteger>(&mut self, bits: u32) -> Result<U, Error> {
         (**self).read_unsigned_var(bits)
+    }
+
+    fn read_unsigned<B: Width, U: UnsignedInteger>(&mut self) -> Result<U, Error> {
+        (**self).read_unsigned::<B, U>()
+    }
+
+    fn read_signed_var<S: SignedInteger>(&mut self, bits: u32) -> Result<S, Error> {
+        (**self).read_signed_var(bits)
+    }
+
+    fn read_signed<B: Width, S: SignedInteger>(&mut self) -> Result<S, Error> {
+        (**self).read_signed::<B, S>()
+    }
+
+    fn read_const<B: Width, V: Width, F: From<Error> + Drop>(&mut self, err: F) -> Result<(), F> {
+        (**self).read_const::<B, V, F>(err)
+    }
+
+    fn read_count<C: Count>(&mut self) -> Result<C, Error> {
+        (**self).read_count()
     }
 
     ghost demands = { λ reader. R.demands reader.now };

@@ -1,4 +1,4 @@
-use Rattle.std.proofs.Common.{rules, arith, ◌≡◌, ◌<◌, ◌≤◌, ◌+◌, ◌-◌, ◌*◌, ◌/◌, ◌%◌, ◌^◌, ◌∙◌, subst, sym, refl}
+use Rattle.std.proofs.Common.{rules, arith, ◌<◌, ◌+◌, ◌-◌, ◌*◌, ◌/◌, ◌%◌, ◌^◌, subst, sym, refl}
 use Rattle.bitstream_order.specs.Port.{port_state}
 use Rattle.bitstream_order.proofs.DrawLemmas.{draws_none, draws_byte, draws_as}
 use Rattle.bitstream_order.proofs.PartLemmas.{first_below, rest_below}
@@ -15,7 +15,7 @@ returns-in_err-value-clause-reads g c =
     let o = g.E.Endianness.order in
     rw (seen_err g.U.UnsignedInteger.value c.from_residual.result c.from_residual.ensures.1)
     (stopped o _ queued queue c.args.bits queued queue ((c.args.bits - queued) / 8) _ _ _ _ p p new c.requires.fine c.requires.room (omega arith)
-      (draws_none o queued queue queued p c.args.self.now.small refl) c.in_err-value.ensures.gathers)
+    (draws_none o queued queue queued p c.args.self.now.small refl) c.in_err-value.ensures.gathers)
 
 pub returns-then-shared-eq0-clause-reads : goal.returns-then-shared-eq0-clause-reads
 returns-then-shared-eq0-clause-reads g c =
@@ -24,7 +24,7 @@ returns-then-shared-eq0-clause-reads g c =
     let byte : c.args.self.now.queue < 256 = search rules in
     let same = g.met.U.UnsignedInteger.byte_law _ _ c.from_u8-queue.ensures byte in
     answered _ _ _ _ _ _ _ _ _ _ p mid c.requires.fine refl c.requires.room c.args.self.now.fetched
-      (draws_as _ c.args.self.now.queued _ _ _ c.args.bits _ p mid same (omega arith) c.in_ok-value.ensures.gathers)
+    (draws_as _ c.args.self.now.queued _ _ _ c.args.bits _ p mid same (omega arith) c.in_ok-value.ensures.gathers)
 
 pub returns-in_err-byte-clause-reads : goal.returns-in_err-byte-clause-reads
 returns-in_err-byte-clause-reads g c =
@@ -38,7 +38,7 @@ returns-in_err-byte-clause-reads g c =
     let same = g.met.U.UnsignedInteger.byte_law _ _ c.from_u8-queue.ensures byte in
     rw (seen_err g.U.UnsignedInteger.value c.from_residual-in_err-byte.result c.from_residual-in_err-byte.ensures.1)
     (stopped o _ queued queue c.args.bits (queued + 8 * ((c.args.bits - queued) / 8)) _ 1 _ _ _ _ p mid new c.requires.fine c.requires.room (omega arith)
-      (draws_as o queued _ queue _ _ _ p mid same refl c.in_ok-value.ensures.gathers) c.in_err-byte.ensures.byte)
+    (draws_as o queued _ queue _ _ _ p mid same refl c.in_ok-value.ensures.gathers) c.in_err-byte.ensures.byte)
 
 pub put-requires-clause-small : goal.put-requires-clause-small
 put-requires-clause-small g c =
@@ -59,9 +59,9 @@ returns-clause-reads g c =
     let byte : c.in_ok-byte.byte < 256 = search rules in
     let same = g.met.U.UnsignedInteger.byte_law _ _ c.from_u8-queue.ensures small in
     answered _ _ _ _ _ _ _ _ _ _ p new c.requires.fine refl c.requires.room c.args.self.now.fetched
-      (draws_byte o queued queue (c.args.bits - shared) _ shared c.args.bits _ _ _ c.in_ok-byte.byte p mid new
-        (draws_as o queued _ queue _ (c.args.bits - shared) _ p mid same (omega arith) c.in_ok-value.ensures.gathers)
-        c.in_ok-byte.ensures.byte byte (omega arith) (omega arith) c.first.ensures c.rest-self.ensures c.put.ensures)
+    (draws_byte o queued queue (c.args.bits - shared) _ shared c.args.bits _ _ _ c.in_ok-byte.byte p mid new
+    (draws_as o queued _ queue _ (c.args.bits - shared) _ p mid same (omega arith) c.in_ok-value.ensures.gathers)
+    c.in_ok-byte.ensures.byte byte (omega arith) (omega arith) c.first.ensures c.rest-self.ensures c.put.ensures)
 
 pub invariant_of-self-2-clause-small : goal.invariant_of-self-2-clause-small
 invariant_of-self-2-clause-small g c =

@@ -1,4 +1,4 @@
-use Rattle.std.proofs.Common.{rules, arith, ◌<◌, ◌≤◌, ◌-◌, ◌^◌, ◌∙◌, subst, sym}
+use Rattle.std.proofs.Common.{rules, arith, ◌<◌, ◌-◌, ◌^◌, ◌∙◌, subst, sym}
 use Rattle.bitstream_order.specs.Port.{port_state}
 use Rattle.bitstream_order.proofs.DrawLemmas.{draws_queue}
 use Rattle.bitstream_order.proofs.PartLemmas.{rest_below}
@@ -18,7 +18,7 @@ returns-clause-reads g c =
     let p = port_state g.R.Source.known g.R.Source.places c.args.self.now.port in
     rw (← c.bits-bits.ensures.value)
     (answered _ _ _ _ _ _ _ _ _ _ p p c.if-self.false c.if-self.false (omega arith) c.args.self.now.fetched
-      (draws_queue _ _ _ _ _ _ p c.args.self.now.small (omega arith) value c.rest-self.ensures))
+    (draws_queue _ _ _ _ _ _ p c.args.self.now.small (omega arith) value c.rest-self.ensures))
 
 pub invariant_of-self-clause-small : goal.invariant_of-self-clause-small
 invariant_of-self-clause-small g c = subst (λ q. q < 2 ^ (c.args.self.now.queued - c.bits-bits.result)) (sym c.rest-self.ensures) (rest_below _ _ _ _ c.args.self.now.small (omega arith))

@@ -6,9 +6,11 @@ use Rattle.bitstream_stream.proofs.WriteLemmas.{unsigned-none, replicate-split, 
 use Rattle.bitstream_stream.proofs.write.BitWrite.byte_align.Goals as goal
 
 pub returns-in_err-write_unsigned_var : goal.returns-in_err-write_unsigned_var
-returns-in_err-write_unsigned_var g c = record { writes =
-    let p = err_from_is_err_and c.from_residual.result c.from_residual.ensures.1 in
-    probe_failed g.Self.BitWrite.sink _ _ _ _ _ _ _ _ c.in_err-write_unsigned_var.ensures.writes refl (p.1 ∙ ap Err p.2) (unsigned-none _ _ _ _) }
+returns-in_err-write_unsigned_var g c = record {
+  writes =
+      let p = err_from_is_err_and c.from_residual.result c.from_residual.ensures.1 in
+      probe_failed g.Self.BitWrite.sink _ _ _ _ _ _ _ _ c.in_err-write_unsigned_var.ensures.writes refl (p.1 ∙ ap Err p.2) (unsigned-none _ _ _ _);
+}
 
 pub loop-self-init : goal.loop-self-init
 loop-self-init g c =
@@ -49,20 +51,24 @@ loop-self-smaller g c =
     smaller
 
 pub returns-in_err-write_bit : goal.returns-in_err-write_bit
-returns-in_err-write_bit g c = record { writes =
-    let K = g.Self.BitWrite.sink in
-    let k = c.loop-self.invariant.0 in
-    let p = err_from_is_err_and c.from_residual-in_err-write_bit.result c.from_residual-in_err-write_bit.ensures.1 in
-    let n = padding (K.len c.args.self.now) in
-    let step = padding-step (K.len c.loop-self.self) (off _ _ _ c.byte_aligned.ensures.aligned c.loop-self-test.true c.loop-self.invariant.1.done.sound) in
-    let within : k < n = sum_less k _ n (ap (λ (m : ℕ). k + m) (sym step) ∙ c.loop-self.invariant.2) in
-    stop_later K false _ align _ _ _ _ _ _ (replicate k false) (false ∷ []) (replicate (n - (k + 1)) false)
-    c.loop-self.invariant.1 c.in_err-write_bit.ensures.writes refl (p.1 ∙ ap Err p.2) refl (ap Ok (replicate-split k n false within)) }
+returns-in_err-write_bit g c = record {
+  writes =
+      let K = g.Self.BitWrite.sink in
+      let k = c.loop-self.invariant.0 in
+      let p = err_from_is_err_and c.from_residual-in_err-write_bit.result c.from_residual-in_err-write_bit.ensures.1 in
+      let n = padding (K.len c.args.self.now) in
+      let step = padding-step (K.len c.loop-self.self) (off _ _ _ c.byte_aligned.ensures.aligned c.loop-self-test.true c.loop-self.invariant.1.done.sound) in
+      let within : k < n = sum_less k _ n (ap (λ (m : ℕ). k + m) (sym step) ∙ c.loop-self.invariant.2) in
+      stop_later K false _ align _ _ _ _ _ _ (replicate k false) (false ∷ []) (replicate (n - (k + 1)) false)
+      c.loop-self.invariant.1 c.in_err-write_bit.ensures.writes refl (p.1 ∙ ap Err p.2) refl (ap Ok (replicate-split k n false within));
+}
 
 pub returns : goal.returns
-returns g c = record { writes =
-    let K = g.Self.BitWrite.sink in
-    let k = c.loop-self.invariant.0 in
-    let aligned : K.len c.loop-self.self % 8 ≡ 0 = (c.byte_aligned.ensures.aligned.0 c.loop-self-test.false).1 in
-    let all : k ≡ padding (K.len c.args.self.now) = all_done k _ _ aligned c.loop-self.invariant.2 in
-    to_ok K false align _ _ _ _ (replicate k false) c.loop-self.invariant.1 refl (ap (λ (n : ℕ). Ok (replicate n false)) (sym all)) }
+returns g c = record {
+  writes =
+      let K = g.Self.BitWrite.sink in
+      let k = c.loop-self.invariant.0 in
+      let aligned : K.len c.loop-self.self % 8 ≡ 0 = (c.byte_aligned.ensures.aligned.0 c.loop-self-test.false).1 in
+      let all : k ≡ padding (K.len c.args.self.now) = all_done k _ _ aligned c.loop-self.invariant.2 in
+      to_ok K false align _ _ _ _ (replicate k false) c.loop-self.invariant.1 refl (ap (λ (n : ℕ). Ok (replicate n false)) (sym all));
+}

@@ -1,0 +1,51 @@
+//! Counts of bits, whatever their greatest number is.
+
+ghost use Rattle.std.specs.Prelude.{◌≡◌, ℕ, ◌<◌, ◌≤◌, MatchOption};
+ghost use Rattle.bitstream_count.specs.Counts.{IsOutside};
+
+mod sealed {
+    pub trait Sealed {}
+
+    impl<const MAX: u32> Sealed for crate::count::BitCount<MAX> {}
+
+    impl<const MAX: u32> Sealed for crate::count::SignedBitCount<MAX> {}
+}
+
+/// A number of bits from 0 to `MAX`. `BitCount<MAX>` alone is one.
+pub trait Count: sealed::Sealed + Copy {
+    /// The greatest number of bits.
+    const MAX: u32;
+
+    ghost MAX: { ℕ };
+
+    ghost number: { Self → ℕ };
+
+    /// The number of bits.
+    fn bits(self) -> u32
+        ensures value { result ≡ number self }
+        ensures bound { result ≤ MAX };
+
+    /// A count of so many bits, or `None` where that is above `MAX`.
+    fn of(bits: u32) -> Option<Self>
+        ensures { MatchOption result (MAX < bits) (λ n. (bits ≤ MAX) × (number n ≡ bits)) };
+}
+
+/// A number of bits from 1 to `MAX`, of which one is the sign. `SignedBitCount<MAX>` alone is one.
+pub trait SignedCount: sealed::Sealed + Copy {
+    /// The greatest number of bits.
+    const MAX: u32;
+
+    ghost MAX: { ℕ };
+
+    ghost number: { Self → ℕ };
+
+    /// The number of bits, the sign among them.
+    fn bits(self) -> u32
+        ensures value { result ≡ number self }
+        ensures some { 1 ≤ result }
+        ensures bound { result ≤ MAX };
+
+    /// A count of so many bits, or `None` where that is 0 or above `MAX`.
+    fn of(bits: u32) -> Option<Self>
+        ensures { MatchOption result (IsOutside 1 MAX bits) (λ n. (1 ≤ bits) × (bits ≤ MAX) × (number n ≡ bits)) };
+}

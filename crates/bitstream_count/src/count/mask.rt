@@ -1,0 +1,58 @@
+//! Splits of numbers at a count of bits.
+
+ghost use Rattle.std.specs.Prelude.{◌≡◌, ℕ, ◌+◌, ◌-◌, ◌*◌, ◌%◌, ◌^◌, ◌≤◌, min};
+
+use crate::count::bit_count::BitCount;
+use crate::count::checked::{Checked, CheckedUnsigned};
+use crate::count::kinds::Count;
+use bitstream_number::number::{Numeric, UnsignedInteger};
+use std::marker::{Model, PhantomData};
+
+/// A split of numbers of type U into their lowest bits and those above.
+#[derive(Drop)]
+pub struct LsbMask<const MAX: u32, U: UnsignedInteger> {
+    count: BitCount<MAX>,
+    numbers: PhantomData<U>,
+}
+
+impl<const MAX: u32, U: UnsignedInteger> Model for LsbMask<MAX, U> {
+    ghost Value = { ℕ };
+
+    ghost view = { λ a. a.count };
+
+    ghost invariant = { λ a. a.count ≤ U.BITS_SIZE };
+}
+
+/// The number whose lowest bits, so many of them, are set, and no others.
+pub(crate) fn lowest_bits<U: UnsignedInteger>(bits: u32) -> U
+    requires { bits ≤ U.BITS_SIZE }
+    ensures { U.value result ≡ 2 ^ bits - 1 }
+{
+    U::ALL.shr_default(U::BITS_SIZE - bits)
+}
+
+impl<const MAX: u32> BitCount<MAX> {
+    /// A split at this number of bits, or at the type's size where that is less.
+    pub fn mask_lsb<U: UnsignedInteger>(self) -> LsbMask<MAX, U>
+        ensures { result ≡ min self.entry U.BITS_SIZE }
+    {
+        LsbMask {
+            count: self.min(U::BITS_SIZE),
+            numbers: PhantomData,
+        }
+    }
+}
+
+impl<const MAX: u32, U: UnsignedInteger> LsbMask<MAX, U> {
+    /// The number above the lowest bits, and the lowest bits.
+    pub fn split(&self, v: U) -> (U, CheckedUnsigned<MAX, U>)
+        ensures count { result.1.0 ≡ self.now }
+        ensures split { U.value v ≡ U.value result.0 * 2 ^ self.now + U.value result.1.1 }
+        ensures low { U.value result.1.1 ≡ U.value v % 2 ^ self.now }
+    {
+        let bits = self.count.bits();
+        let high = v.shr_default(bits);
+        let low = v & lowest_bits(bits);
+        (high, Checked::of_unsigned(self.count, low))
+    }
+}

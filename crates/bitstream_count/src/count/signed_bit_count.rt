@@ -1,0 +1,173 @@
+//! Numbers of bits of signed values.
+
+ghost use Rattle.std.specs.Prelude.{◌≡◌, ℕ, pos, ◌+◌, ◌-◌, ◌^◌, ◌<◌, ◌≤◌, ◌-ℤ◌, false, min, Option, Some, MatchResult, decimal};
+ghost use Rattle.std.specs.Option.{SomeIff};
+ghost use Rattle.bitstream_count.specs.Counts.{IsOutside, in_range};
+
+use crate::count::bit_count::BitCount;
+use crate::count::kinds::{Count, SignedCount};
+use crate::count::mask::lowest_bits;
+use bitstream_number::number::{Numeric, SignedInteger, UnsignedInteger};
+use std::fmt;
+use std::marker::Model;
+use std::ops::RangeInclusive;
+
+/// A number of bits from 1 to MAX, of which one is the sign.
+#[derive(Copy, Clone, Debug, Hash, PartialEq, Eq)]
+pub struct SignedBitCount<const MAX: u32> {
+    count: BitCount<MAX>,
+}
+
+impl<const MAX: u32> Model for SignedBitCount<MAX> {
+    ghost Value = { ℕ };
+
+    ghost view = { λ a. a.count };
+
+    ghost invariant = { λ a. 1 ≤ a.count };
+
+    ghost inverse = { λ n. record { count = n } };
+}
+
+impl<const MAX: u32> BitCount<MAX> {
+    /// This number of bits with one for the sign, or `None` where it is 0.
+    pub fn signed_count(&self) -> Option<SignedBitCount<MAX>>
+        ensures { SomeIff result (0 < self.now) self.now }
+    {
+        let count = *self;
+        if count.bits() == 0 {
+            None
+        } else {
+            Some(SignedBitCount { count })
+        }
+    }
+}
+
+impl<const MAX: u32> SignedBitCount<MAX> {
+    /// BITS bits.
+    pub fn new<const BITS: u32>() -> Self
+        requires some { 1 ≤ BITS }
+        requires most { BITS ≤ MAX }
+        ensures { result ≡ BITS }
+    {
+        SignedBitCount {
+            count: BitCount::new::<BITS>(),
+        }
+    }
+
+    /// So many bits more, or `None` where that is above NEW_MAX.
+    pub fn checked_add<const NEW_MAX: u32>(self, bits: u32) -> Option<SignedBitCount<NEW_MAX>>
+        ensures { SomeIff result (self.entry + bits ≤ NEW_MAX) (self.entry + bits) }
+    {
+        let sum = self.count.checked_add::<NEW_MAX>(bits)?;
+        sum.signed_count()
+    }
+
+    /// So many bits fewer, or `None` where that is below 1 or above NEW_MAX.
+    pub fn checked_sub<const NEW_MAX: u32>(self, bits: u32) -> Option<SignedBitCount<NEW_MAX>>
+        ensures { SomeIff result ((bits < self.entry) × (self.entry - bits ≤ NEW_MAX)) (self.entry - bits) }
+    {
+        let left = self.count.checked_sub::<NEW_MAX>(bits)?;
+        left.signed_count()
+    }
+
+    /// The number of bits that f makes of this one, or `None` where f does or that is 0 or above NEW_MAX.
+    pub fn try_map<const NEW_MAX: u32, F: FnOnce(u32) -> Option<u32>>(
+        self,
+        f: F,
+    ) -> Option<SignedBitCount<NEW_MAX>>
+        requires { F.pre f self }
+        ensures { (made : Option ℕ) × F.post f self.entry made × (result ≡ in_range 1 NEW_MAX made) }
+    {
+        let made = self.count.try_map::<NEW_MAX, F>(f)?;
+        made.signed_count()
+    }
+
+    /// The greatest number of bits, MAX.
+    pub fn max(&self) -> u32
+        ensures { result ≡ MAX }
+    {
+        MAX
+    }
+
+    /// This number of bits, the sign's among them.
+    pub fn count(&self) -> BitCount<MAX>
+        ensures { result ≡ self.now }
+    {
+        self.count
+    }
+
+    /// The number of bits beside the sign's, one less.
+    pub fn unsigned_count(&self) -> BitCount<MAX>
+        ensures { result ≡ self.now - 1 }
+    {
+        self.count.min(self.count.bits() - 1)
+    }
+
+    /// The numbers of so many bits that S has: -2^(n-1) to 2^(n-1) - 1, or all of S where n is its size or more.
+    pub fn range<S: SignedInteger>(&self) -> RangeInclusive<S>
+        ensures start { S.integer result.start ≡ pos 0 -ℤ pos (2 ^ (min self.now S.BITS_SIZE - 1)) }
+        ensures end { S.integer result.end ≡ pos (2 ^ (min self.now S.BITS_SIZE - 1) - 1) }
+        ensures open { result.exhausted ≡ false }
+    {
+        let bits = self.count.min(S::BITS_SIZE).bits();
+        let start = S::Unsigned::ZERO.as_negative(bits);
+        let end = lowest_bits::<S::Unsigned>(bits - 1).as_non_negative();
+        start..=end
+    }
+}
+
+impl<const MAX: u32> SignedCount for SignedBitCount<MAX> {
+    const MAX: u32 = MAX;
+
+    ghost MAX = { MAX };
+
+    ghost number = { λ n. n };
+
+    fn bits(self) -> u32 {
+        self.count.bits()
+    }
+
+    fn of(bits: u32) -> Option<SignedBitCount<MAX>> {
+        let count = BitCount::of(bits)?;
+        count.signed_count()
+    }
+}
+
+impl<const MAX: u32> TryFrom<BitCount<MAX>> for SignedBitCount<MAX> {
+    type Error = ();
+
+    ghost try_from_gives = { λ c r. MatchResult r (λ s. (0 < c) × (s ≡ c)) (λ _. c ≡ 0) };
+
+    /// The count with one bit for the sign, refused at 0 bits.
+    fn try_from(count: BitCount<MAX>) -> Result<SignedBitCount<MAX>, ()> {
+        count.signed_count().ok_or(())
+    }
+}
+
+impl<const MAX: u32> TryFrom<u32> for SignedBitCount<MAX> {
+    type Error = u32;
+
+    ghost try_from_gives = { λ n r. MatchResult r (λ c. (1 ≤ n) × (n ≤ MAX) × (c ≡ n)) (λ e. IsOutside 1 MAX n × (e ≡ n)) };
+
+    /// So many bits, or the number again where it is 0 or above MAX.
+    fn try_from(bits: u32) -> Result<SignedBitCount<MAX>, u32> {
+        SignedBitCount::of(bits).ok_or(bits)
+    }
+}
+
+impl<const MAX: u32> From<SignedBitCount<MAX>> for u32 {
+    ghost from_gives = { λ c r. r ≡ c };
+
+    fn from(count: SignedBitCount<MAX>) -> u32 {
+        count.bits()
+    }
+}
+
+impl<const MAX: u32> fmt::Display for SignedBitCount<MAX> {
+    ghost output = { λ c. Some (decimal c) };
+
+    fn fmt<W: fmt::Write>(&self, f: &mut fmt::Formatter<W>) -> fmt::Result {
+        let count = self.count;
+        fmt::Display::fmt(&count, f)
+    }
+}

@@ -1,0 +1,148 @@
+-- Calls that read a number and make another of it.
+use Rattle.std.specs.Prelude.{ℤ, pos, negsuc, ◌-ℤ◌}
+use Rattle.std.proofs.Common.{◌≡◌, ℕ, zero, suc, ◌+◌, ◌-◌, ◌*◌, ◌%◌, ◌^◌, ◌<◌, ◌≤◌, [], ◌++◌, length, false, Result, Ok, Err, refl, sym, ap, ◌∙◌, subst, arith, inl, inr}
+use Rattle.std.specs.Result.{IsErrAnd}
+use Rattle.std.proofs.lemmas.Bool.{cases_lt, le-ltb}
+use Rattle.std.proofs.Math.Nat.{mod-eq_of_lt}
+use Rattle.std.proofs.Math.Pow.{pow-lt}
+use Rattle.std.proofs.lemmas.Int.{ints}
+use Rattle.std.proofs.lemmas.Nat.{leading_length}
+use Rattle.std.specs.Int.Count.{count_leading_zeros}
+use Rattle.bitstream_count.specs.declared.error.Error.{Error}
+use Rattle.bitstream_count.specs.declared.error.Error.TheVariants.{Failed, NoSignBit, ReadBits}
+use Rattle.bitstream_count.specs.Entry.{ReadEntry, Takes, gives, refuses, takes, word_front}
+use Rattle.bitstream_number.specs.Word.{Order, number, signed_from, count_width}
+use Rattle.bitstream_number.proofs.WordLemmas.{number-lt, half}
+use Rattle.bitstream_order.specs.Draw.{seen}
+use Rattle.bitstream_stream.specs.Reads.{ReaderState, Reads, stays, answers, faults, is_run_too_long}
+use Rattle.bitstream_stream.specs.ReadTable.{unsigned_entry, signed_entry, count_entry}
+use Rattle.bitstream_stream.proofs.EntryLemmas.{split, word_front-some, word_front-none}
+use Rattle.bitstream_stream.proofs.ReadsLemmas.{Reads-same, Reads-chain-ok, Reads-gives, exit, Loses-nil, Drains-nil}
+use Rattle.bitstream_stream.proofs.TableLemmas.{unsigned-takes, unsigned-count, count_width_is, full_count, unsigned-on_failed, unsigned-wide, none-signed, unsigned-signed}
+
+-- ---- a word that was read
+
+-- a reader that answered with a value has not failed
+pub Reads-fine : {A : Type 0} {e : ReadEntry A} {a : A} {s t : ReaderState} → e.on_failed ≡ Err Failed → Reads e s (Ok a) t → t.failed ≡ false
+Reads-fine failed (stays h) = let p = h.answer in cc
+Reads-fine failed (answers h) = h.failed
+Reads-fine failed (faults h) = let p = h.answer in cc
+
+-- a call that is refused, on a reader that has not failed
+pub Reads-refuses : {A : Type 0} (x : Error) (s : ReaderState) → s.failed ≡ false → is_run_too_long {A = A} (Err x) ≡ false → Reads (refuses {A = A} x) s (Err x) s
+Reads-refuses x s fine short = answers (record {
+  fine = fine;
+  word = [];
+  decides = λ more. refl;
+  loses = Loses-nil s.bits;
+  taken = omega arith;
+  drains = Drains-nil s;
+  refused = refl;
+  misled = refl;
+  places = refl;
+  failed = fine ∙ sym short;
+})
+
+takes-below : (o : Order) (n v : ℕ) {s t : ReaderState} → Reads (takes n (λ w. Ok (number o w))) s (Ok v) t → v < 2 ^ n
+takes-below o n v (stays h) = let p = h.answer in cc
+takes-below o n v (faults h) = let p = h.answer in cc
+takes-below o n v (answers h) = elim (split n (h.word ++ [])) [
+  | inl short ↦ let none = word_front-none n (λ w. Ok (number o w)) (h.word ++ []) short in let some = h.decides [] in cc
+  | inr cut ↦
+      let found : Takes n (Ok (number o cut.word)) ≡ Takes (length h.word) (Ok v) =
+      sym (word_front-some n (λ w. Ok (number o w)) cut.word cut.rest cut.len) ∙ ap (word_front n (λ w. Ok (number o w))) (sym cut.parts) ∙ h.decides [] in
+      let is : number o cut.word ≡ v = cc in
+      subst (λ k. v < 2 ^ k) cut.len (subst (λ k. k < 2 ^ length cut.word) is (number-lt o cut.word))
+]
+
+-- a number that was read is no wider than its type
+wide_refuses : (size n v : ℕ) {s t : ReaderState} → Reads (refuses {A = ℕ} ReadBits) s (Ok v) t → ⊥
+wide_refuses size n v (stays h) = let p = h.answer in cc
+wide_refuses size n v (answers h) = let p = h.decides [] in cc
+wide_refuses size n v (faults h) = let p = h.answer in cc
+
+pub unsigned-within : (o : Order) (size n v : ℕ) {s t : ReaderState} → Reads (unsigned_entry o size n) s (Ok v) t → n ≤ size
+unsigned-within o size n v {s = s} {t = t} h = elim (cases_lt size n) [
+  | inl wide ↦ absurd (wide_refuses size n v (subst (λ e. Reads e s (Ok v) t) (unsigned-wide o size n wide) h))
+  | inr le ↦ le
+]
+
+-- a number that was read fits its width
+pub unsigned-below : (o : Order) (size n v : ℕ) {s t : ReaderState} → Reads (unsigned_entry o size n) s (Ok v) t → v < 2 ^ n
+unsigned-below o size n v {s = s} {t = t} h = let le = unsigned-within o size n v h in takes-below o n v (subst (λ e. Reads e s (Ok v) t) (unsigned-takes o size n le) h)
+
+-- ---- signed numbers
+
+-- the exit of a `?`, seen by a view
+pub seen_is : {B C : Type 0} (x : Error) (view : B → C) (r : Result B Error) → IsErrAnd r (λ y. y ≡ x) → IsErrAnd (seen view r) (λ y. y ≡ x)
+seen_is x view (Ok b) h = absurd h
+seen_is x view (Err y) h = h
+
+pub signed-stops : (o : Order) (size n : ℕ) {x : Error} {r : Result ℤ Error} {s t : ReaderState} → 0 < n → IsErrAnd r (λ y. y ≡ x) → Reads (unsigned_entry o size n) s (Err x) t → Reads (signed_entry o size n) s r t
+signed-stops o size n {r = r} some h k = Reads-same (unsigned-signed o size n some) (exit (λ v. gives (signed_from n v)) r h k)
+
+-- a word of no bits in front of the refusal: on a reader that has failed it answers that
+pub signed-none_stops : (o : Order) (k size n : ℕ) {x : Error} {r : Result ℤ Error} {s t : ReaderState} → n ≡ 0 → IsErrAnd r (λ y. y ≡ x) → Reads (unsigned_entry o k 0) s (Err x) t → Reads (signed_entry o size n) s r t
+signed-none_stops o k size n {r = r} {s = s} {t = t} none h read =
+    subst (λ m. Reads (signed_entry o size m) s r t) (sym none) (Reads-same (none-signed o k size) (exit (λ _. refuses NoSignBit) r h read))
+
+pub signed-refused : (o : Order) (k size n v : ℕ) {s t : ReaderState} → n ≡ 0 → Reads (unsigned_entry o k 0) s (Ok v) t → Reads (signed_entry o size n) s (Err NoSignBit) t
+signed-refused o k size n v {s = s} {t = t} none read =
+    subst (λ m. Reads (signed_entry o size m) s (Err NoSignBit) t) (sym none)
+    (Reads-same (none-signed o k size) (Reads-chain-ok _ (λ _. refuses NoSignBit) read (Reads-refuses NoSignBit t (Reads-fine (unsigned-on_failed o k 0) read) refl)))
+
+pub signed-answers : (o : Order) (size n v : ℕ) (z : ℤ) {s t : ReaderState} → 0 < n → z ≡ signed_from n v → Reads (unsigned_entry o size n) s (Ok v) t → Reads (signed_entry o size n) s (Ok z) t
+signed-answers o size n v z {s = s} {t = t} some is h =
+    subst (λ x. Reads (signed_entry o size n) s (Ok x) t) (sym is) (Reads-same (unsigned-signed o size n some) (Reads-chain-ok _ (λ k. gives (signed_from n k)) h (Reads-gives _ _)))
+
+-- ---- two's complements
+
+minus-is : (v q : ℕ) → v < q → pos v -ℤ pos q ≡ negsuc (q - 1 - v)
+minus-is v q h = omega (arith, ints)
+
+negative_is : (k h n : ℕ) → h + h ≡ n → h ≤ k → k < n → h - 1 - (k - h) ≡ n - 1 - k
+negative_is k h n e le lt = omega arith
+
+-- the number of a word that begins with the sign
+pub signed_from-negative : (n k v : ℕ) (z : ℤ) → 0 < n → k < 2 ^ n → 2 ^ (n - 1) ≤ k → v ≡ k - 2 ^ (n - 1) → z ≡ pos v -ℤ pos (2 ^ (n - 1)) → z ≡ signed_from n k
+signed_from-negative n k v z some below high rest is =
+    let two = half n some in
+    let small : v < 2 ^ (n - 1) = omega (arith, two) in
+    let same : 2 ^ (n - 1) - 1 - v ≡ 2 ^ n - 1 - k = ap (λ x. 2 ^ (n - 1) - 1 - x) rest ∙ negative_is k (2 ^ (n - 1)) (2 ^ n) two high below in
+    is ∙ minus-is v (2 ^ (n - 1)) small ∙ rw (le-ltb k (2 ^ (n - 1)) high) (ap negsuc same)
+
+times_one : (x : ℕ) → 1 * x ≡ x
+times_one x = omega arith
+
+pub half_is : (one k size h : ℕ) → one ≡ 1 → k < size → h ≡ (one * 2 ^ k) % 2 ^ size → h ≡ 2 ^ k
+half_is one k size h unit less is =
+    let below : 2 ^ k < 2 ^ size = pow-lt less in
+    is ∙ ap (λ x. (x * 2 ^ k) % 2 ^ size) unit ∙ ap (λ x. x % 2 ^ size) (times_one (2 ^ k)) ∙ mod-eq_of_lt below
+
+-- ---- counts
+
+-- a count's width, as its greatest number's leading zeros tell it
+pub width_by_zeros : (max zeros : ℕ) → max < 2 ^ 32 → zeros ≡ count_leading_zeros 32 max → 32 - zeros ≡ count_width max
+width_by_zeros max zeros fits is =
+    let parts = leading_length 32 max fits in
+    let m : parts.0 ≡ 32 - zeros = let sum = parts.1 in omega (arith, sum, is) in
+    sym (count_width_is max parts.0 parts.2 parts.3 ∙ m)
+
+width_least : (max : ℕ) → max < 2 ^ 32 → 2 ^ count_width max ≤ 2 * max + 1
+width_least max fits =
+    let parts = leading_length 32 max fits in
+    subst (λ k. 2 ^ k ≤ 2 * max + 1) (sym (count_width_is max parts.0 parts.2 parts.3)) parts.3
+
+pub count-stops : (o : Order) (max n : ℕ) {x : Error} {r : Result ℕ Error} {s t : ReaderState} → n ≡ count_width max → n ≤ 32 → IsErrAnd r (λ y. y ≡ x) → Reads (unsigned_entry o 32 n) s (Err x) t → Reads (count_entry o max) s r t
+count-stops o max n {r = r} is le h k = Reads-same (unsigned-count o 32 max n (sym is) le) (exit (λ v. gives v) r h k)
+
+pub count-answers : (o : Order) (max n v c : ℕ) {s t : ReaderState} → n ≡ count_width max → n ≤ 32 → c ≡ v → Reads (unsigned_entry o 32 n) s (Ok v) t → Reads (count_entry o max) s (Ok c) t
+count-answers o max n v c {s = s} {t = t} is le same h = subst (λ k. Reads (count_entry o max) s (Ok k) t) (sym same) (Reads-same (unsigned-count o 32 max n (sym is) le) (Reads-chain-ok _ (λ k. gives k) h (Reads-gives _ _)))
+
+-- a number of a full count's width is a count
+pub count_never_above : (o : Order) (max n m v : ℕ) {s t : ReaderState} → max < 2 ^ 32 → max + 1 ≡ 2 ^ n → m ≡ count_width max → Reads (unsigned_entry o 32 m) s (Ok v) t → max < v → ⊥
+count_never_above o max n m v fits full is h above =
+    let below = unsigned-below o 32 m v h in
+    let least : 2 ^ m ≤ 2 * max + 1 = subst (λ k. 2 ^ k ≤ 2 * max + 1) (sym is) (width_least max fits) in
+    let most = full_count max n m full least in
+    omega (arith, below, most, above)
