@@ -6,6 +6,10 @@ ghost use Rattle.bitfields.specs.Layout.{IsField, IsLayout};
 ghost use Rattle.bitfields.specs.Unpacking.{read_reason as read_reason_of, ReadsField, UnpacksFrom, UnpacksBytes};
 ghost use Rattle.bitfields.specs.Value.{value_list, printed_lines};
 
+use crate::fault::{Fault, Reason};
+use crate::field::Field;
+use crate::layout::Layout;
+use crate::printing::print_value;
 use bitstream_count::error::Error;
 use bitstream_order::lent::Lent;
 use bitstream_order::order::Endianness;
@@ -14,17 +18,16 @@ use bitstream_stream::reader::BitReader;
 use std::alloc::{AllocError, Global};
 use std::io::Read;
 
-use crate::fault::{Fault, Reason};
-use crate::field::Field;
-use crate::layout::Layout;
-use crate::printing::print_value;
-
 /// Unpacks the fields of a layout from the first byte of a stream on: the line of each value, ended by LF. No byte after the last
 /// field's is asked for.
 ///
 /// Refused as `BitsEnded` at the first field whose bits are not all there, and as `StreamFault` or `OutOfMemory` at the field where the
 /// stream or memory refused.
-pub fn unpack<E: Endianness, R: Read>(alloc: Global, layout: &Layout, input: &mut R) -> Result<Vec<u8>, Fault>
+pub fn unpack<E: Endianness, R: Read>(
+    alloc: Global,
+    layout: &Layout,
+    input: &mut R,
+) -> Result<Vec<u8>, Fault>
     ensures { UnpacksBytes E.order layout.now (R.remaining input.old) (seen (λ v. v.items) result) (R.remaining input.new) }
 {
     let mut reader = BitReader::<Lent<R>, E>::new(Lent::new(input));
@@ -36,14 +39,22 @@ pub fn unpack<E: Endianness, R: Read>(alloc: Global, layout: &Layout, input: &mu
 ///
 /// Refused as [`unpack`] says. Where the stream tells its bytes and refuses as an end only where fewer bytes are left than were asked for,
 /// it is refused exactly as `BitsEnded` at the first field whose bits are not all there; memory aside.
-pub fn unpack_from<R: BitRead>(alloc: Global, layout: &Layout, reader: &mut R) -> Result<String, Fault>
+pub fn unpack_from<R: BitRead>(
+    alloc: Global,
+    layout: &Layout,
+    reader: &mut R,
+) -> Result<String, Fault>
     requires { (R.state reader.old).failed ≡ false }
     ensures { UnpacksFrom R.order layout.now (R.state reader.old) (seen (λ s. string_bytes s) result) (R.state reader.new) }
 {
     unpack_fields(alloc, layout.fields(), reader)
 }
 
-fn unpack_fields<R: BitRead>(alloc: Global, fields: &[Field], reader: &mut R) -> Result<String, Fault>
+fn unpack_fields<R: BitRead>(
+    alloc: Global,
+    fields: &[Field],
+    reader: &mut R,
+) -> Result<String, Fault>
     requires fine { (R.state reader.old).failed ≡ false }
     requires is_layout { IsLayout fields.now }
     ensures { UnpacksFrom R.order fields.now (R.state reader.old) (seen (λ s. string_bytes s) result) (R.state reader.new) }
