@@ -54,8 +54,8 @@ unfolding checked_below
 wider_at false v limit more e h k = k
 wider_at true v limit more e h k =
     elim (cases_lt v more) [
-      inl low ↦ (let no : Ok v ≡ Err e = rw (lt-ltb v more low) at k in cc)
-    | inr high ↦ rw (le-ltb v limit (omega arith)) (rw (le-ltb v more high) at k)
+      | inl low ↦ (let no : Ok v ≡ Err e = rw (lt-ltb v more low) at k in cc)
+      | inr high ↦ rw (le-ltb v limit (omega arith)) (rw (le-ltb v more high) at k)
     ]
 
 pub wider : (text : List ℕ) (width : ℕ) (e : Reason) → width ≤ 128 → decimal_below (2 ^ 128) text ≡ Err e → decimal_below (2 ^ width) text ≡ Err e
@@ -76,11 +76,11 @@ is_ascii_digit-of d h = grind (arith, common_steps)
 
 Spells-one : (n : ℕ) → n < 10 → Spells n ((48 + n) ∷ [])
 Spells-one n h = record {
-    digits = rw (is_ascii_digit-of n h) refl;
-    some = lit< tt;
-    leading = λ p. omega arith;
-    single = λ p. refl;
-  }
+  digits = rw (is_ascii_digit-of n h) refl;
+  some = lit< tt;
+  leading = λ p. omega arith;
+  single = λ p. refl;
+}
 
 Spells-more : (n : ℕ) (ds : List ℕ) → 10 ≤ n → Spells (n / 10) ds → Spells n (ds ++ (48 + n % 10) ∷ [])
 Spells-more n ds h s =
@@ -99,9 +99,9 @@ Spells-decimal n h = decimal_by_steps_wide Spells Spells-one Spells-more n h
 
 is_decimal-of : (n : ℕ) (ds : List ℕ) → Spells n ds → is_decimal ds ≡ true
 is_decimal-of n ds s = elim (cases_lt 0 n) [
-    inl some ↦ (let first : 48 < get_or ds 0 0 = s.leading some in let nonempty = s.some in let all = s.digits in grind (arith, common_steps))
+  | inl some ↦ (let first : 48 < get_or ds 0 0 = s.leading some in let nonempty = s.some in let all = s.digits in grind (arith, common_steps))
   | inr none ↦ (let one : length ds ≡ 1 = s.single (omega arith) in let all = s.digits in grind (arith, common_steps))
-  ]
+]
 
 -- what is printed of a number is a decimal
 pub is_decimal-decimal : (n : ℕ) → n < 10 ^ 64 → is_decimal (decimal n) ≡ true
@@ -133,10 +133,10 @@ both false b h = absurd (cc)
 
 list_all-IsDigitsTest : IsDigitsTest (λ ds. list_all is_ascii_digit ds ≡ true)
 list_all-IsDigitsTest = record {
-    empty = refl;
-    parts = λ c cs h. (let p = both (is_ascii_digit c) (list_all is_ascii_digit cs) h in (in_range c p.0, p.1));
-    more = λ c cs h k. (let first : is_ascii_digit c ≡ true = grind (arith, common_steps) in rw first k);
-  }
+  empty = refl;
+  parts = λ c cs h. (let p = both (is_ascii_digit c) (list_all is_ascii_digit cs) h in (in_range c p.0, p.1));
+  more = λ c cs h k. (let first : is_ascii_digit c ≡ true = grind (arith, common_steps) in rw first k);
+}
 
 -- a decimal is what is printed of its number
 pub decimal-decimal_value : (text : List ℕ) → is_decimal text ≡ true → decimal_value text < 2 ^ 64 → decimal (decimal_value text) ≡ text

@@ -42,20 +42,20 @@ Appended-nil K s sound = record { grown = K.appends_nil s; sound = sound; refuse
 
 Appended-trans : {S : Type 0} (K : Sink S) (s t z : S) (x y : List Bool) → Appended K s x t → Appended K t y z → Appended K s (x ++ y) z
 Appended-trans K s t z x y h k = record {
-    grown = K.appends_trans s t z x y h.grown k.grown;
-    sound = k.sound;
-    refused = k.refused ∙ h.refused;
-    places = k.places ∙ h.places;
-  }
+  grown = K.appends_trans s t z x y h.grown k.grown;
+  sound = k.sound;
+  refused = k.refused ∙ h.refused;
+  places = k.places ∙ h.places;
+}
 
 Faulted-later : {S : Type 0} (K : Sink S) (s t z : S) (x : List Bool) (error : Error) → Appended K s x t → Faulted K t error z → Faulted K s error z
 Faulted-later K s t z x error h k = record {
-    kind = k.kind;
-    by_kind = k.by_kind;
-    refused = k.refused ∙ ap (λ (n : ℕ). n + 1) h.refused;
-    broken = k.broken;
-    places = k.places ∙ h.places;
-  }
+  kind = k.kind;
+  by_kind = k.by_kind;
+  refused = k.refused ∙ ap (λ (n : ℕ). n + 1) h.refused;
+  broken = k.broken;
+  places = k.places ∙ h.places;
+}
 
 -- what follows bits that were added
 Adds-later : {S : Type 0} (K : Sink S) (x y : List Bool) (old mid : S) (r : Result (Unit {0}) Error) (new : S) → Appended K old x mid → Adds K y mid r new → Adds K (x ++ y) old r new
@@ -98,11 +98,11 @@ Packing-more K fields vs i d old rest behind now new h known a is =
       added = Appended-trans K old now new known.word w known.added a;
       fit = subst (λ (us : List ℕ). Fit (drop (i + 1) fields) us) (sym is) (Packing-fits K fields vs i d old rest now h known).1;
       others =
-        known.others
-        ∙ ap (λ (fs : List Field). known.word ++ words K.order fs rest (K.len now)) cut
-        ∙ ap (λ (p : ℕ). known.word ++ (w ++ words K.order (drop (i + 1) fields) (drop (value_count f) rest) p)) place
-        ∙ ap (λ (us : List ℕ). known.word ++ (w ++ words K.order (drop (i + 1) fields) us (K.len new))) (sym is)
-        ∙ sym (append_assoc known.word w (words K.order (drop (i + 1) fields) behind (K.len new)));
+          known.others
+          ∙ ap (λ (fs : List Field). known.word ++ words K.order fs rest (K.len now)) cut
+          ∙ ap (λ (p : ℕ). known.word ++ (w ++ words K.order (drop (i + 1) fields) (drop (value_count f) rest) p)) place
+          ∙ ap (λ (us : List ℕ). known.word ++ (w ++ words K.order (drop (i + 1) fields) us (K.len new))) (sym is)
+          ∙ sym (append_assoc known.word w (words K.order (drop (i + 1) fields) behind (K.len new)));
     }
 
 pub Packing-fault : {S : Type 0} (K : Sink S) (fields : List Field) (vs : List ℕ) (i : ℕ) (old : S) (rest : List ℕ) (now : S) (error : Error) (new : S) → Packing K fields vs i old rest now → Faulted K now error new → Faulted K old error new

@@ -62,7 +62,10 @@ impl Reason {
     {
         match self {
             Reason::BadArguments | Reason::TooManyFields | Reason::BadLayout => 2,
-            Reason::ValueMissing | Reason::ValueMisspelt | Reason::ValueDoesNotFit | Reason::ValueLeftOver => 3,
+            Reason::ValueMissing
+            | Reason::ValueMisspelt
+            | Reason::ValueDoesNotFit
+            | Reason::ValueLeftOver => 3,
             Reason::BitsEnded | Reason::ConstantDiffers | Reason::LimitPassed => 4,
             Reason::StreamFault | Reason::OutOfMemory => 5,
         }

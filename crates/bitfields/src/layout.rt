@@ -3,11 +3,10 @@
 ghost use Rattle.std.specs.Prelude.{◌≡◌, ◌≤◌, length, map, IfOk};
 ghost use Rattle.bitfields.specs.Layout.{layout_of, fields_of, pieces as pieces_of, IsLayout, IsUnlessMemory};
 
-use std::alloc::{AllocError, Global};
-use std::marker::Model;
-
 use crate::fault::{Fault, Reason};
 use crate::field::{Field, parse_field};
+use std::alloc::{AllocError, Global};
+use std::marker::Model;
 
 /// A list of 1 to 256 fields, the numbers of each in their ranges.
 #[derive(Debug, Drop)]

@@ -11,7 +11,9 @@ pub fn lines(alloc: Global, input: &[u8]) -> Result<Vec<&[u8]>, AllocError>
     ensures { IfOk result (λ v. map (λ x. x.now) v.items ≡ lines_of input.now) }
 {
     let mut lines = parts(alloc, input)?;
-    if let Some(last) = lines.last() && last.is_empty() {
+    if let Some(last) = lines.last()
+        && last.is_empty()
+    {
         let _ = lines.pop();
     }
     Ok(lines)

@@ -9,17 +9,17 @@ mod layout;
 mod lines;
 mod packing;
 mod printing;
+#[cfg(test)]
+mod r01_first_path;
 mod run;
 mod unpacking;
 mod value;
 
-use std::env;
-use std::io;
-use std::io::ErrorKind;
-use std::process::ExitCode;
-
 use fault::{Fault, Reason};
 use run::{report, run};
+use std::io::ErrorKind;
+use std::process::ExitCode;
+use std::{env, io};
 
 /// The program's arguments, without its name.
 fn words(rt: &HostRuntime) -> io::Result<Vec<String>> {
@@ -37,7 +37,10 @@ fn main(rt: HostRuntime) -> ExitCode {
     let mut faults = rt.stderr();
     let status = match words(&rt) {
         Ok(words) => run(alloc, &words, &mut input, &mut output, &mut faults),
-        Err(error) if error.kind() == ErrorKind::OutOfMemory => report(Fault::new(0, Reason::OutOfMemory), &mut faults),
+        Err(error) if error.kind() == ErrorKind::OutOfMemory => report(
+            Fault::new(0, Reason::OutOfMemory),
+            &mut faults,
+        ),
         Err(_) => run(alloc, &[], &mut input, &mut output, &mut faults),
     };
     ExitCode::from(status)

@@ -6,6 +6,10 @@ ghost use Rattle.bitfields.specs.Layout.{IsField};
 ghost use Rattle.bitfields.specs.Packing.{field_word, words, packed, write_reason as write_reason_of, Adds, Packs};
 ghost use Rattle.bitfields.specs.Value.{lines as lines_of, values as values_of, FitsField, Fit};
 
+use crate::fault::{Fault, Reason};
+use crate::field::Field;
+use crate::layout::Layout;
+use crate::value::{behind_value, values};
 use bitstream_count::error::Error;
 use bitstream_order::lent::Lent;
 use bitstream_order::order::Endianness;
@@ -14,16 +18,16 @@ use bitstream_stream::writer::BitWriter;
 use std::alloc::Global;
 use std::io::Write;
 
-use crate::fault::{Fault, Reason};
-use crate::field::Field;
-use crate::layout::Layout;
-use crate::value::{behind_value, values};
-
 /// Packs the values that an input spells for a layout: writes the bytes of the fields' words, the last of them filled with zeros.
 ///
 /// All values are read before the first byte is written: where `values` refuses the input, the stream is as it was. After that only the
 /// stream or memory refuses, as `StreamFault` or `OutOfMemory` (field 0).
-pub fn pack<E: Endianness, W: Write>(alloc: Global, layout: &Layout, input: &[u8], output: &mut W) -> Result<(), Fault>
+pub fn pack<E: Endianness, W: Write>(
+    alloc: Global,
+    layout: &Layout,
+    input: &[u8],
+    output: &mut W,
+) -> Result<(), Fault>
     ensures { Packs W.contents E.order layout.now (values_of 1 layout.now (lines_of input.now)) output.old result output.new }
 {
     let values = values(alloc, layout, input)?;
@@ -47,7 +51,11 @@ pub fn pack_to<W: BitWrite>(layout: &Layout, values: &[u128], writer: &mut W) ->
     writer.byte_align()
 }
 
-fn append_fields<W: BitWrite>(fields: &[Field], values: &[u128], writer: &mut W) -> Result<(), Error>
+fn append_fields<W: BitWrite>(
+    fields: &[Field],
+    values: &[u128],
+    writer: &mut W,
+) -> Result<(), Error>
     requires in_range { All IsField fields.now }
     requires fit { Fit fields.now values.now }
     requires sound { W.sink.failed writer.old ≡ false }

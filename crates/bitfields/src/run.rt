@@ -5,15 +5,14 @@ ghost use Rattle.std.specs.IoError.{error_kind};
 ghost use Rattle.bitfields.specs.Call.{is_call, command_of, order_of, refusal_reason};
 ghost use Rattle.bitfields.specs.Fault.{fault};
 
-use bitstream_order::order::{BigEndian, Endianness, LittleEndian};
-use std::alloc::Global;
-use std::io;
-use std::io::{ErrorKind, Read, Write};
-
 use crate::fault::{Fault, Reason};
 use crate::layout::{Layout, parse_layout};
 use crate::packing::pack;
 use crate::unpacking::unpack;
+use bitstream_order::order::{BigEndian, Endianness, LittleEndian};
+use std::alloc::Global;
+use std::io;
+use std::io::{ErrorKind, Read, Write};
 
 /// What is done with a layout.
 #[derive(Clone, Copy, Debug, PartialEq, Eq, Drop)]
@@ -35,7 +34,13 @@ pub enum NamedOrder {
 /// whose line is then printed on `faults`. A line that can't be printed leaves the status as it is.
 ///
 /// The output is written and flushed only where the whole layout succeeded: at a status of 2, 3 or 4 nothing was written.
-pub fn run<R: Read, W: Write, X: Write>(alloc: Global, words: &[String], input: &mut R, output: &mut W, faults: &mut X) -> u8
+pub fn run<R: Read, W: Write, X: Write>(
+    alloc: Global,
+    words: &[String],
+    input: &mut R,
+    output: &mut W,
+    faults: &mut X,
+) -> u8
     ensures arguments { is_call (map string_bytes words.now) ≡ false → result ≡ 2 }
     ensures unwritten { 0 < result → result < 5 → output.new ≡ output.old }
 {
@@ -53,7 +58,12 @@ pub fn report<X: Write>(fault: Fault, faults: &mut X) -> u8
     fault.status
 }
 
-fn call<R: Read, W: Write>(alloc: Global, words: &[String], input: &mut R, output: &mut W) -> Result<(), Fault>
+fn call<R: Read, W: Write>(
+    alloc: Global,
+    words: &[String],
+    input: &mut R,
+    output: &mut W,
+) -> Result<(), Fault>
     ensures arguments { is_call (map string_bytes words.now) ≡ false → IsErrOf result (fault 0 Reason.BadArguments) }
     ensures unwritten { IfErr result (λ f. f.status < 5 → output.new ≡ output.old) }
 {
@@ -93,7 +103,13 @@ fn parse_order(word: &str) -> Option<NamedOrder>
     }
 }
 
-fn perform<E: Endianness, R: Read, W: Write>(alloc: Global, command: Command, layout: &Layout, input: &mut R, output: &mut W) -> Result<(), Fault>
+fn perform<E: Endianness, R: Read, W: Write>(
+    alloc: Global,
+    command: Command,
+    layout: &Layout,
+    input: &mut R,
+    output: &mut W,
+) -> Result<(), Fault>
     ensures { IfErr result (λ f. f.status < 5 → output.new ≡ output.old) }
 {
     match command {
@@ -102,7 +118,12 @@ fn perform<E: Endianness, R: Read, W: Write>(alloc: Global, command: Command, la
     }
 }
 
-fn pack_input<E: Endianness, R: Read, W: Write>(alloc: Global, layout: &Layout, input: &mut R, output: &mut W) -> Result<(), Fault>
+fn pack_input<E: Endianness, R: Read, W: Write>(
+    alloc: Global,
+    layout: &Layout,
+    input: &mut R,
+    output: &mut W,
+) -> Result<(), Fault>
     ensures { IfErr result (λ f. f.status < 5 → output.new ≡ output.old) }
 {
     let mut bytes = Vec::new(alloc);
@@ -113,7 +134,12 @@ fn pack_input<E: Endianness, R: Read, W: Write>(alloc: Global, layout: &Layout, 
     flush(output)
 }
 
-fn unpack_input<E: Endianness, R: Read, W: Write>(alloc: Global, layout: &Layout, input: &mut R, output: &mut W) -> Result<(), Fault>
+fn unpack_input<E: Endianness, R: Read, W: Write>(
+    alloc: Global,
+    layout: &Layout,
+    input: &mut R,
+    output: &mut W,
+) -> Result<(), Fault>
     ensures { IfErr result (λ f. f.status < 5 → output.new ≡ output.old) }
 {
     let lines = unpack::<E, R>(alloc, layout, input)?;

@@ -7,13 +7,12 @@ ghost use Rattle.bitfields.specs.Fault.{fault};
 ghost use Rattle.bitfields.specs.Layout.{IsField, IsLayout};
 ghost use Rattle.bitfields.specs.Value.{lines as lines_of, values as values_of, value_in as value_in_of, value_count as value_count_of, Fit, value_list, IsOrMemory};
 
-use std::alloc::Global;
-
 use crate::decimal::decimal;
 use crate::fault::{Fault, Reason};
 use crate::field::Field;
 use crate::layout::Layout;
 use crate::lines::lines;
+use std::alloc::Global;
 
 /// The values that an input spells for the value fields of a layout, in their order.
 ///
@@ -82,7 +81,9 @@ fn push_value(values: &mut Vec<u128>, value: Option<u128>) -> Result<(), Fault>
     ensures pushed { OnOk result (values.new.items ≡ values.old.items ++ value_list value) }
     ensures memory { IsOkUnless result (fault 0 Reason.OutOfMemory) }
 {
-    if let Some(value) = value && values.push(value).is_err() {
+    if let Some(value) = value
+        && values.push(value).is_err()
+    {
         return Err(Fault::new(0, Reason::OutOfMemory));
     }
     Ok(())

@@ -27,7 +27,7 @@ loop-index-preserved c =
     let more = one_field (map (λ (x : Bor (List ℕ)). x.now) c.args.parts.now) i c.loop-index.fields.items c.in-Some.field (rw length-map h) c.loop-index.invariant.spelt piece in
     let pushed : c.push.new.self.items ≡ c.loop-index.fields.items ++ c.in-Some.field ∷ [] = search rules in
     record {
-        spelt = rw pushed more;
-        count = rw pushed (rw length-append (omega (arith, c.loop-index.invariant.count)));
-        in_range = rw pushed (All-append IsField _ _ c.loop-index.invariant.in_range (All-one IsField c.in-Some.field (field_of-IsField (get_or (map (λ (x : Bor (List ℕ)). x.now) c.args.parts.now) i []) c.in-Some.field piece)));
+      spelt = rw pushed more;
+      count = rw pushed (rw length-append (omega (arith, c.loop-index.invariant.count)));
+      in_range = rw pushed (All-append IsField _ _ c.loop-index.invariant.in_range (All-one IsField c.in-Some.field (field_of-IsField (get_or (map (λ (x : Bor (List ℕ)). x.now) c.args.parts.now) i []) c.in-Some.field piece)));
     }
