@@ -141,6 +141,27 @@ impl<W: Target, E: Endianness> BitWrite for BitWriter<W, E> {
         self.write_unsigned_var(B::BITS, value)
     }
 
+    fn write_signed_var<S: SignedInteger>(&mut self, bits: u32, value: S) -> Result<(), Error>
+        ensures writes { Writes (writer_sink W.held W.places E.order) (signed E.order S.BITS_SIZE bits (S.integer value)) self.old result self.new }
+        ensures requests { requests_made self.new ≤ requests_made self.old + 2 }
+        ensures queued { queued_bits self.old + bits < 8 → requests_made self.new ≡ requests_made self.old }
+    {
+        if self.failed {
+            return Err(Error::Failed);
+        }
+        check_signed(bits, value)?;
+        let word = complement(value, bits);
+        self.push(word, bits)
+    }
+
+    fn write_signed<B: Width, S: SignedInteger>(&mut self, value: S) -> Result<(), Error>
+        ensures writes { Writes (writer_sink W.held W.places E.order) (signed E.order S.BITS_SIZE B.BITS (S.integer value)) self.old result self.new }
+        ensures requests { requests_made self.new ≤ requests_made self.old + 2 }
+        ensures queued { queued_bits self.old + B.BITS < 8 → requests_made self.new ≡ requests_made self.old }
+    {
+        self.write_signed_var(B::BITS, value)
+    }
+
     fn write_bit(&mut self, bit: bool) -> Result<(), Error>
         ensures writes { Writes (writer_sink W.held W.places E.order) (one_bit bit) self.old result self.new }
         ensures requests { requests_made self.new ≤ requests_made self.old + 1 }
