@@ -16,7 +16,8 @@ use Rattle.std.proofs.lemmas.List.{length-replicate}
 use Rattle.bitstream_number.specs.Word.{High, Low, bits, digits}
 use Rattle.bitstream_number.proofs.WordLemmas.{length-word, length-bits}
 use Rattle.bitstream_stream.specs.Writer.{WriterState, fresh_writer, Carries}
-use Rattle.bitfields.specs.Packing.{to_boundary, PackedBytes}
+use Rattle.bitstream_stream.specs.Alignment.{to_boundary}
+use Rattle.bitfields.specs.Packing.{PackedBytes}
 use Rattle.bitfields.specs.declared.field.Field.{Field}
 use Rattle.bitfields.specs.declared.field.Field.TheVariants.{Unsigned, Align}
 use Rattle.bitfields.specs.Layout.{IsField}
@@ -148,5 +149,5 @@ PackedBytes-from o fields vs held places s t few fresh was =
       says = sym (whole ∙ ap (λ (u : List Bool). bits o c.bytes ++ u) (word-none o t.queued t.queue rest) ∙ append-nil (bits o c.bytes));
     }
 
-pub one_place : (n m : GName) → n ∷ [] ≡ m ∷ [] → n ≡ m
-one_place n m e = cc
+pub first_place : (n m : GName) (ns ms : List GName) → n ∷ ns ≡ m ∷ ms → n ≡ m
+first_place n m ns ms e = cc

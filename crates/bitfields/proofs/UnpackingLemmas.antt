@@ -12,7 +12,8 @@ use Rattle.std.proofs.lemmas.List.{length-replicate, drop_all}
 use Rattle.bitstream_number.specs.Word.{Order, word}
 use Rattle.bitstream_number.proofs.WordLemmas.{length-word, number-word}
 use Rattle.bitfields.specs.declared.field.Field.TheVariants.{Unsigned, Align}
-use Rattle.bitfields.specs.Packing.{to_boundary, alignment, field_word, words}
+use Rattle.bitstream_stream.specs.Alignment.{to_boundary}
+use Rattle.bitfields.specs.Packing.{alignment, field_word, words}
 use Rattle.bitfields.specs.declared.field.Field.{Field}
 use Rattle.bitfields.specs.declared.fault.Reason.TheVariants.{BitsEnded}
 use Rattle.bitfields.specs.Fault.{fault}
@@ -359,9 +360,6 @@ Holds-reader o port queue queued failed few = (word o queued queue, (let len = l
 
 pub Demands-reader : (o : Order) (port : PortState) (queue queued : ℕ) (failed : Bool) → queued < 8 → queued ≤ 8 * port.fetched → Demands (reader_state o port queue queued failed)
 Demands-reader o port queue queued failed small few = omega arith
-
-pub one_place : (n m : GName) → n ∷ [] ≡ m ∷ [] → n ≡ m
-one_place n m e = cc
 
 pub UnpacksBytes-exit : {R V : Type 0} (known : R → Option (List ℕ)) (refuses : R → ℕ → ErrorKind → R → Type 0) (o : Order) (fields : List Field) (old new : R) (view : V → List ℕ) (r : Result V Fault) (f : Fault)
     → IsErrAnd r (λ e. e ≡ f) → Refused known refuses o fields old f → UnpacksBytes known refuses o fields old (seen view r) new

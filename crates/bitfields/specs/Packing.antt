@@ -6,6 +6,7 @@ use Rattle.bitstream_number.specs.Word.{Order, word, bits}
 use Rattle.bitstream_count.specs.declared.error.Error.{Error}
 use Rattle.bitstream_count.specs.declared.error.Error.TheVariants as errors
 use Rattle.bitstream_stream.specs.Sink.{Sink, Appended, Faulted}
+use Rattle.bitstream_stream.specs.Alignment.{to_boundary}
 use Rattle.bitfields.specs.declared.fault.Reason.{Reason}
 use Rattle.bitfields.specs.declared.fault.Reason.TheVariants.{OutOfMemory, StreamFault}
 use Rattle.bitfields.specs.declared.fault.Fault.{Fault}
@@ -13,10 +14,6 @@ use Rattle.bitfields.specs.declared.field.Field.{Field}
 use Rattle.bitfields.specs.declared.field.Field.TheVariants.{Unsigned, Align}
 use Rattle.bitfields.specs.Fault.{fault}
 use Rattle.bitfields.specs.Value.{value_count}
-
--- how many bits lead from a place to the next multiple of 8
-abbrev pub to_boundary : ℕ → ℕ
-to_boundary at = (8 - at % 8) % 8
 
 -- zeros up to the next multiple of 8
 abbrev pub alignment : ℕ → List Bool

@@ -14,7 +14,7 @@ use Rattle.bitfields.specs.declared.fault.Fault.{Fault}
 use Rattle.bitfields.specs.declared.field.Field.{Field}
 use Rattle.bitfields.specs.declared.field.Field.TheVariants.{Unsigned, Align}
 use Rattle.bitfields.specs.Fault.{fault}
-use Rattle.bitfields.specs.Packing.{to_boundary}
+use Rattle.bitstream_stream.specs.Alignment.{to_boundary}
 use Rattle.bitfields.specs.Value.{printed_lines}
 
 -- what bits say for fields: the values of those that have one, and the place behind the last; or the first fault

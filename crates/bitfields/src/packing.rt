@@ -10,25 +10,20 @@ use crate::fault::{Fault, Reason};
 use crate::field::Field;
 use crate::layout::Layout;
 use crate::value::{behind_value, values};
-use bitstream_count::error::Error;
-use bitstream_order::lent::Lent;
-use bitstream_order::order::Endianness;
-use bitstream_stream::write::BitWrite;
-use bitstream_stream::writer::BitWriter;
+use bitstream_io::{BitWrite, BitWriter, Endianness, Error, Lent, Target};
 use std::alloc::Global;
-use std::io::Write;
 
 /// Packs the values that an input spells for a layout: writes the bytes of the fields' words, the last of them filled with zeros.
 ///
 /// All values are read before the first byte is written: where `values` refuses the input, the stream is as it was. After that only the
 /// stream or memory refuses, as `StreamFault` or `OutOfMemory` (field 0).
-pub fn pack<E: Endianness, W: Write>(
+pub fn pack<E: Endianness, W: Target>(
     alloc: Global,
     layout: &Layout,
     input: &[u8],
     output: &mut W,
 ) -> Result<(), Fault>
-    ensures { Packs W.contents E.order layout.now (values_of 1 layout.now (lines_of input.now)) output.old result output.new }
+    ensures { Packs W.held E.order layout.now (values_of 1 layout.now (lines_of input.now)) output.old result output.new }
 {
     let values = values(alloc, layout, input)?;
     let mut writer = BitWriter::<Lent<W>, E>::new(Lent::new(output));

@@ -24,3 +24,6 @@ returns-in-Err-clause-unpacks g c =
 pub returns-in-Err-clause-misled : goal.returns-in-Err-clause-misled
 returns-in-Err-clause-misled g c =
     misled_after g.R.Source.known g.R.Source.refuses _ _ _ c.loop-index.invariant.took.misled c.in-Err.ensures.misled
+
+pub returns-clause-unpacks : goal.returns-clause-unpacks
+returns-clause-unpacks g c = UnpackedAll-from g.E.Endianness.order c.args.fields.now c.loop-index.index _ _ _ (omega arith) c.loop-index.invariant
