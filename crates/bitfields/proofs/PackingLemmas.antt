@@ -1,12 +1,12 @@
 -- Packing, field by field.
-use Rattle.std.specs.Prelude.{false, true, Bool, IsErrAnd, slice_index}
-use Rattle.std.proofs.Common.{◌≡◌, ◌⊎◌, inl, inr, ℕ, ◌+◌, ◌<◌, ◌≤◌, ◌^◌, List, [], ◌∷◌, ◌++◌, length, drop, get_or, Option, None, Result, Ok, Err, refl, sym, ap, subst, ◌∙◌, arith, append_assoc, add-one, drop-cons}
+use Rattle.std.specs.Prelude.{false, Bool, IsErrAnd, slice_index}
+use Rattle.std.proofs.Common.{◌≡◌, ℕ, ◌+◌, ◌<◌, ◌≤◌, List, [], ◌∷◌, ◌++◌, length, drop, get_or, Option, None, Result, Ok, Err, refl, sym, ap, subst, ◌∙◌, arith, append_assoc, add-one, drop-cons}
 use Rattle.bitstream_count.specs.declared.error.Error.{Error}
 use Rattle.bitstream_count.specs.Entry.{WriteEntry}
 use Rattle.std.proofs.Common.{append-nil}
 use Rattle.std.proofs.lemmas.List.{drop_all}
 use Rattle.bitstream_number.specs.Word.{Order, word}
-use Rattle.bitstream_stream.specs.Sink.{Sink, IsBeyond, Appended, Faulted, Writes, WriteOutcome, was_failed, was_refused, passed_limit, had_fault, did_write}
+use Rattle.bitstream_stream.specs.Sink.{Sink, IsBeyond, Appended, Faulted, Writes, was_failed, was_refused, passed_limit, had_fault, did_write}
 use Rattle.bitstream_stream.specs.WriteTable.{unsigned, align}
 use Rattle.bitstream_stream.proofs.WriteLemmas.{unsigned-fits}
 use Rattle.std.specs.Prelude.{◌*◌, ◌%◌}
@@ -19,8 +19,7 @@ use Rattle.bitstream_stream.specs.Writer.{WriterState, fresh_writer, Carries}
 use Rattle.bitstream_stream.specs.Alignment.{to_boundary}
 use Rattle.bitfields.specs.Packing.{PackedBytes}
 use Rattle.bitfields.specs.declared.field.Field.{Field}
-use Rattle.bitfields.specs.declared.field.Field.TheVariants.{Unsigned, Align}
-use Rattle.bitfields.specs.Layout.{IsField}
+use Rattle.bitfields.specs.declared.field.Field.TheVariants.{Unsigned}
 use Rattle.bitfields.specs.Packing.{field_word, words, packed, alignment, Adds}
 use Rattle.bitfields.specs.Value.{value_count, FitsField, Fit}
 

@@ -1,20 +1,19 @@
 -- The lines that are printed of values spell these values.
-use Rattle.std.specs.Prelude.{Bool, true, false, ◌==◌, if◌then◌else◌, map, slice_index_or}
-use Rattle.std.specs.List.{slice_split, flat_map, All, AllByRecursion}
+use Rattle.std.specs.Prelude.{◌==◌, if◌then◌else◌, map, slice_index_or}
+use Rattle.std.specs.List.{slice_split, All, AllByRecursion}
 use Rattle.std.specs.Fmt.{decimal}
-use Rattle.std.proofs.Common.{rules, ◌≡◌, ℕ, ◌+◌, ◌-◌, ◌<◌, ◌≤◌, ◌^◌, List, [], ◌∷◌, ◌++◌, length, take, drop, get_or, Option, Some, None, Result, Ok, Err, refl, sym, ap, subst, ◌∙◌, arith, lit<, append_assoc, length-append}
+use Rattle.std.proofs.Common.{◌≡◌, ℕ, ◌+◌, ◌-◌, ◌<◌, ◌≤◌, ◌^◌, List, [], ◌∷◌, ◌++◌, length, take, Result, Ok, refl, sym, ap, subst, ◌∙◌, arith, lit<, append_assoc, length-append}
 use Rattle.std.proofs.lemmas.Bool.{lt-ltb}
 use Rattle.std.proofs.lemmas.List.Elements.{All-nil, All-cons, All-tail, recursion_from_All}
 use Rattle.std.proofs.lemmas.List.Splits.{slice_split_at}
 use Rattle.std.proofs.Math.Seq.{take-append_seam, get_or-append_seam}
 use Rattle.std.proofs.Math.Pow.{pow_mono}
-use Rattle.bitfields.specs.declared.fault.Fault.{Fault}
 use Rattle.bitfields.specs.declared.fault.Reason.{Reason}
 use Rattle.bitfields.specs.declared.field.Field.{Field}
 use Rattle.bitfields.specs.declared.field.Field.TheVariants.{Unsigned, Align}
 use Rattle.bitfields.specs.Decimal.{decimal_below}
 use Rattle.bitfields.specs.Layout.{IsField, one_more}
-use Rattle.bitfields.specs.Value.{ended, lines, values, value_and, some_value, Fit, printed_line, printed_lines}
+use Rattle.bitfields.specs.Value.{ended, lines, values, value_and, some_value, Fit, printed_lines}
 use Rattle.bitfields.proofs.DecimalLemmas.{is_decimal-decimal, decimal_value-decimal, decimal_lacks}
 
 -- the parts of lines are the lines, and an empty part at the end

@@ -1,6 +1,6 @@
 -- What is written where a call of the program fails.
 use Rattle.std.specs.Prelude.{IfErr, IsErrAnd, Option}
-use Rattle.std.proofs.Common.{◌≡◌, ◌⊎◌, inl, inr, ℕ, ◌<◌, List, Result, Ok, Err, sym, subst, arith, ap}
+use Rattle.std.proofs.Common.{◌≡◌, inl, inr, ℕ, ◌<◌, List, Result, Ok, Err, sym, subst, arith, ap}
 use Rattle.bitstream_number.specs.Word.{Order}
 use Rattle.bitfields.specs.declared.fault.Fault.{Fault}
 use Rattle.bitfields.specs.declared.field.Field.{Field}

@@ -1,11 +1,10 @@
 -- Unpacking, field by field.
 use Rattle.std.specs.Prelude.{Bool, true, false, if◌then◌else◌, nat_lt}
-use Rattle.std.specs.List.{flat_map}
-use Rattle.std.proofs.Common.{◌≡◌, ℕ, suc, ◌+◌, ◌<◌, ◌≤◌, List, [], ◌∷◌, ◌++◌, length, take, drop, get_or, Result, Ok, Err, refl, sym, ap, ◌∙◌, arith, append_assoc, add-one, drop-cons}
+use Rattle.std.proofs.Common.{◌≡◌, ℕ, ◌+◌, ◌<◌, ◌≤◌, List, [], ◌∷◌, ◌++◌, length, take, drop, get_or, Result, Ok, Err, refl, sym, ap, ◌∙◌, arith, append_assoc, add-one, drop-cons}
 use Rattle.std.proofs.lemmas.Bool.{le-ltb}
 use Rattle.std.proofs.lemmas.List.Concat.{flat_map-append}
 use Rattle.std.specs.Prelude.{slice_index}
-use Rattle.std.proofs.Common.{◌%◌, ◌^◌, subst, length-append}
+use Rattle.std.proofs.Common.{subst, length-append}
 use Rattle.std.proofs.Math.Nat.{mod-eq_of_lt}
 use Rattle.std.proofs.Math.Seq.{take-append_seam, drop-append_seam}
 use Rattle.std.proofs.lemmas.List.{length-replicate, drop_all}
@@ -17,7 +16,7 @@ use Rattle.bitfields.specs.Packing.{alignment, field_word, words}
 use Rattle.bitfields.specs.declared.field.Field.{Field}
 use Rattle.bitfields.specs.declared.fault.Reason.TheVariants.{BitsEnded}
 use Rattle.bitfields.specs.Fault.{fault}
-use Rattle.bitfields.specs.Value.{printed_line, printed_lines, value_count, FitsField, Fit}
+use Rattle.bitfields.specs.Value.{printed_line, printed_lines, value_count, Fit}
 use Rattle.std.specs.Prelude.{nat_le, Option, Some, replicate, ◌*◌}
 use Rattle.std.proofs.Common.{append-nil}
 use Rattle.std.proofs.lemmas.Bool.{le-leb, leb-false, lt-ltb}
@@ -87,11 +86,11 @@ unpacked-words o k [] vs at rest h =
 unpacked-words o k (Unsigned n ∷ fields) [] at rest h = absurd h.0
 unpacked-words o k (Unsigned n ∷ fields) (v ∷ vs) at rest h =
     unpacked-first o k (Unsigned n) fields (v ∷ vs) (v ∷ []) vs at rest
-        (ap (λ (m : ℕ). m ∷ []) (number-word o n v ∙ mod-eq_of_lt h.0))
-        (unpacked-words o (k + 1) fields vs (at + length (word o n v)) rest h.1)
+    (ap (λ (m : ℕ). m ∷ []) (number-word o n v ∙ mod-eq_of_lt h.0))
+    (unpacked-words o (k + 1) fields vs (at + length (word o n v)) rest h.1)
 unpacked-words o k (Align ∷ fields) vs at rest h =
     unpacked-first o k Align fields vs [] vs at rest refl
-        (unpacked-words o (k + 1) fields vs (at + length (alignment at)) rest h.1)
+    (unpacked-words o (k + 1) fields vs (at + length (alignment at)) rest h.1)
 
 -- ---- a loop over fields
 
@@ -101,25 +100,25 @@ values_and-nil (Stops f) = refl
 
 Took-nil : (s : ReaderState) → s.failed ≡ false → Took s [] s
 Took-nil s fine = record {
-    fine = fine;
-    loses = Loses-nil s.bits;
-    taken = omega arith;
-    drains = Drains-nil s;
-    refused = refl;
-    misled = refl;
-    places = refl;
-  }
+  fine = fine;
+  loses = Loses-nil s.bits;
+  taken = omega arith;
+  drains = Drains-nil s;
+  refused = refl;
+  misled = refl;
+  places = refl;
+}
 
 Took-trans : (s t z : ReaderState) (u v : List Bool) → Took s u t → Took t v z → Took s (u ++ v) z
 Took-trans s t z u v h k = record {
-    fine = k.fine;
-    loses = Loses-trans s.bits t.bits z.bits u v h.loses k.loses;
-    taken = omega (arith, h.taken, k.taken, length-append u v);
-    drains = Drains-trans s t z h.drains k.drains;
-    refused = k.refused ∙ h.refused;
-    misled = k.misled ∙ h.misled;
-    places = k.places ∙ h.places;
-  }
+  fine = k.fine;
+  loses = Loses-trans s.bits t.bits z.bits u v h.loses k.loses;
+  taken = omega (arith, h.taken, k.taken, length-append u v);
+  drains = Drains-trans s t z h.drains k.drains;
+  refused = k.refused ∙ h.refused;
+  misled = k.misled ∙ h.misled;
+  places = k.places ∙ h.places;
+}
 
 -- the first i fields were taken, and these lines printed
 pub record Unpacking (o : Order) (fields : List Field) (i : ℕ) (old : ReaderState) (text : List ℕ) (now : ReaderState) : Type 0 where
@@ -131,12 +130,12 @@ pub record Unpacking (o : Order) (fields : List Field) (i : ℕ) (old : ReaderSt
 
 pub Unpacking-start : (o : Order) (fields : List Field) (s : ReaderState) (text : List ℕ) → s.failed ≡ false → text ≡ [] → Unpacking o fields 0 s text s
 Unpacking-start o fields s text fine none = record {
-    word = [];
-    values = [];
-    took = Took-nil s fine;
-    says = λ more. sym (values_and-nil (unpacked o 1 fields s.taken more));
-    prints = none;
-  }
+  word = [];
+  values = [];
+  took = Took-nil s fine;
+  says = λ more. sym (values_and-nil (unpacked o 1 fields s.taken more));
+  prints = none;
+}
 
 -- one more field was taken, and its lines printed
 pub Unpacking-more : (o : Order) (fields : List Field) (i : ℕ) (d : Field) (old now new : ReaderState) (text more vs : List ℕ) → i < length fields → Unpacking o fields i old text now → TookField o (get_or fields i d) now vs new → more ≡ text ++ printed_lines vs → Unpacking o fields (i + 1) old more new
@@ -149,34 +148,34 @@ Unpacking-more o fields i d old now new text more vs h known t printed =
       values = known.values ++ vs;
       took = Took-trans old now new known.word t.word known.took t.took;
       says = λ rest.
-        ap (λ (bs : List Bool). unpacked o 1 fields old.taken bs) (append_assoc known.word t.word rest)
-        ∙ known.says (t.word ++ rest)
-        ∙ ap (λ (fs : List Field). values_and known.values (unpacked o (i + 1) fs now.taken (t.word ++ rest))) cut
-        ∙ ap (values_and known.values) (unpacked-word o (i + 1) f (drop (i + 1) fields) now.taken (field_length f now.taken) t.word rest t.size)
-        ∙ values_and-append known.values (field_values o f t.word) (others (now.taken + length t.word) rest)
-        ∙ ap (λ (ws : List ℕ). values_and (known.values ++ ws) (others (now.taken + length t.word) rest)) t.says
-        ∙ ap (λ (p : ℕ). values_and (known.values ++ vs) (others p rest)) (sym t.took.taken);
+          ap (λ (bs : List Bool). unpacked o 1 fields old.taken bs) (append_assoc known.word t.word rest)
+          ∙ known.says (t.word ++ rest)
+          ∙ ap (λ (fs : List Field). values_and known.values (unpacked o (i + 1) fs now.taken (t.word ++ rest))) cut
+          ∙ ap (values_and known.values) (unpacked-word o (i + 1) f (drop (i + 1) fields) now.taken (field_length f now.taken) t.word rest t.size)
+          ∙ values_and-append known.values (field_values o f t.word) (others (now.taken + length t.word) rest)
+          ∙ ap (λ (ws : List ℕ). values_and (known.values ++ ws) (others (now.taken + length t.word) rest)) t.says
+          ∙ ap (λ (p : ℕ). values_and (known.values ++ vs) (others p rest)) (sym t.took.taken);
       prints = printed ∙ ap (λ (bs : List ℕ). bs ++ printed_lines vs) known.prints ∙ sym (printed_lines-append known.values vs);
     }
 
 pub UnpackedAll-from : (o : Order) (fields : List Field) (i : ℕ) (old now : ReaderState) (text : List ℕ) → length fields ≤ i → Unpacking o fields i old text now → UnpackedAll o fields old text now
 UnpackedAll-from o fields i old now text end known = record {
-    word = known.word;
-    values = known.values;
-    took = known.took;
-    says = λ more.
+  word = known.word;
+  values = known.values;
+  took = known.took;
+  says = λ more.
       known.says more
       ∙ ap (λ (fs : List Field). values_and known.values (unpacked o (i + 1) fs now.taken more)) (drop_all i fields end)
       ∙ ap (λ (vs : List ℕ). Unpacks vs now.taken) (append-nil known.values);
-    prints = known.prints;
-  }
+  prints = known.prints;
+}
 
 pub Starved-from : (o : Order) (fields : List Field) (i k : ℕ) (d : Field) (old now new : ReaderState) (text vs : List ℕ) (f : Fault) → Unpacking o fields i old text now → TookField o d now vs new → f ≡ fault k OutOfMemory → Starved old f new
 Starved-from o fields i k d old now new text vs f known t is = record {
-    field = k;
-    reason = is;
-    refused = t.took.refused ∙ known.took.refused;
-  }
+  field = k;
+  reason = is;
+  refused = t.took.refused ∙ known.took.refused;
+}
 
 -- where too few bits are left for a field, it stops
 too_few : (o : Order) (k : ℕ) (f : Field) (fs : List Field) (at : ℕ) (bs : List Bool) → length bs < field_length f at → unpacked o k (f ∷ fs) at bs ≡ Stops (fault k BitsEnded)
@@ -192,14 +191,14 @@ stops_there o fields i d old now text rest h known few =
 
 pub Stopped-from : (o : Order) (fields : List Field) (i : ℕ) (d : Field) (old now new : ReaderState) (text : List ℕ) (error : Error) (f : Fault) → i < length fields → Unpacking o fields i old text now → Broke (field_length (get_or fields i d) now.taken) now error new → f ≡ fault (i + 1) (read_reason error) → Stopped o fields old f new
 Stopped-from o fields i d old now new text error f h known broke is = record {
-    field = i + 1;
-    kind = broke.kind;
-    reason = is ∙ ap (λ (e : Error). fault (i + 1) (read_reason e)) broke.by_kind;
-    failed = broke.failed;
-    refused = omega (arith, broke.refused, known.took.refused);
-    misled = omega (arith, broke.misled, known.took.misled);
-    places = broke.places ∙ known.took.places;
-    ended = λ b there honest.
+  field = i + 1;
+  kind = broke.kind;
+  reason = is ∙ ap (λ (e : Error). fault (i + 1) (read_reason e)) broke.by_kind;
+  failed = broke.failed;
+  refused = omega (arith, broke.refused, known.took.refused);
+  misled = omega (arith, broke.misled, known.took.misled);
+  places = broke.places ∙ known.took.places;
+  ended = λ b there honest.
       (let q = Loses-known old.bits now.bits known.word b known.took.loses there in
       let same : new.misled ≡ now.misled = honest ∙ sym known.took.misled in
       let e = broke.ended q.0 q.1 same in
@@ -207,7 +206,7 @@ Stopped-from o fields i d old now new text error f h known broke is = record {
       ∙ stops_there o fields i d old now text q.0 h known e.1
       ∙ ap (λ (x : Error). Stops (fault (i + 1) (read_reason x))) (sym e.0)
       ∙ ap Stops (sym is));
-  }
+}
 
 -- ---- the calls of a reader
 
@@ -243,14 +242,14 @@ Broke-from n g e old new r error is was h =
 
 Took-from : {A : Type 0} (e : ReadEntry A) (old new : ReaderState) (a : A) (h : Answers e old (Ok a) new) → Took old h.word new
 Took-from e old new a h = record {
-    fine = h.failed;
-    loses = h.loses;
-    taken = h.taken;
-    drains = h.drains;
-    refused = h.refused;
-    misled = h.misled;
-    places = h.places;
-  }
+  fine = h.failed;
+  loses = h.loses;
+  taken = h.taken;
+  drains = h.drains;
+  refused = h.refused;
+  misled = h.misled;
+  places = h.places;
+}
 
 unsigned_reads : (o : Order) (n p : ℕ) (b : List Bool) → n ≤ 128 → (unsigned_entry o 128 n).reads p b ≡ word_front n (λ w. Ok (number o w)) b
 unsigned_reads o n p b h = ap (λ (e : ReadEntry ℕ). e.reads p b) (unsigned-takes o 128 n h)
@@ -319,9 +318,9 @@ UnpackedBytes-from o fields known places old t text holds demands new h0 =
       len = t.taken;
       least = (let fetched = h.took.drains.fetched in (omega (arith, demands), omega (arith, demands)));
       says = λ xs is.
-        (let losing : Loses (option_map (λ bs. bits o bs) known) (option_map (λ bs. holds.0 ++ bits o bs) t.bytes) h.word = subst (λ z. Loses (option_map (λ bs. bits o bs) known) z h.word) holds.2 h.took.loses in
-        ap (λ (bs : List Bool). unpacked o 1 fields 0 bs) (front_bytes o known t.bytes gone h.word holds.0 h.took.drains.loses losing xs is)
-        ∙ h.says holds.0);
+          (let losing : Loses (option_map (λ bs. bits o bs) known) (option_map (λ bs. holds.0 ++ bits o bs) t.bytes) h.word = subst (λ z. Loses (option_map (λ bs. bits o bs) known) z h.word) holds.2 h.took.loses in
+          ap (λ (bs : List Bool). unpacked o 1 fields 0 bs) (front_bytes o known t.bytes gone h.word holds.0 h.took.drains.loses losing xs is)
+          ∙ h.says holds.0);
       prints = h.prints;
     }
 
@@ -346,14 +345,14 @@ pub Refused-from : {R S : Type 0} (f : S → R) (known : R → Option (List ℕ)
     → Refused known refuses o fields input why
 Refused-from f known refuses o fields input places old new why fresh (inl h) faithful = record { field = h.field; reason = inr (inr h.reason); cause = inl h.reason }
 Refused-from f known refuses o fields input places old new why fresh (inr h) faithful = record {
-    field = h.field;
-    reason = elim (reason_cases (read_refusal_of h.kind)) [
-        inl e ↦ inl (h.reason ∙ ap (fault h.field) e)
-      | inr (inl e) ↦ inr (inl (h.reason ∙ ap (fault h.field) e))
-      | inr (inr e) ↦ inr (inr (h.reason ∙ ap (fault h.field) e))
-      ];
-    cause = inr (stops_or_misleads f known refuses o fields (known input) places old new why fresh h faithful)
-  }
+  field = h.field;
+  reason = elim (reason_cases (read_refusal_of h.kind)) [
+    | inl e ↦ inl (h.reason ∙ ap (fault h.field) e)
+    | inr (inl e) ↦ inr (inl (h.reason ∙ ap (fault h.field) e))
+    | inr (inr e) ↦ inr (inr (h.reason ∙ ap (fault h.field) e))
+  ];
+  cause = inr (stops_or_misleads f known refuses o fields (known input) places old new why fresh h faithful);
+}
 
 pub Holds-reader : (o : Order) (port : PortState) (queue queued : ℕ) (failed : Bool) → queued ≤ 8 * port.fetched → Holds o (reader_state o port queue queued failed)
 Holds-reader o port queue queued failed few = (word o queued queue, (let len = length-word o queued queue in omega arith), refl)

@@ -17,7 +17,9 @@ pub mod number {
 
 /// Numbers of bits, and values that are known to fit one.
 pub mod count {
-    pub use bitstream_count::count::{BitCount, Checked, CheckedError, CheckedUnsigned, Count, LsbMask};
+    pub use bitstream_count::count::{
+        BitCount, Checked, CheckedError, CheckedUnsigned, Count, LsbMask,
+    };
 }
 
 /// The two orders of bits.

@@ -1,15 +1,15 @@
 -- A word written in parts.
-use Rattle.std.proofs.Common.{◌≡◌, ℕ, ◌+◌, ◌%◌, ◌<◌, ◌≤◌, Bool, true, false, List, [], ◌∷◌, ◌++◌, length, replicate, Result, Ok, Err, refl, sym, ◌∙◌, ap, subst, append_assoc, append-nil, length-append, arith}
+use Rattle.std.proofs.Common.{◌≡◌, ℕ, ◌+◌, ◌%◌, Bool, true, false, List, [], ◌++◌, length, replicate, Result, Ok, Err, refl, sym, ◌∙◌, ap, subst, append_assoc, append-nil, length-append, arith}
 use Rattle.std.proofs.lemmas.List.{length-replicate}
 use Rattle.bitstream_number.specs.Word.{Order, word}
 use Rattle.bitstream_count.specs.Entry.{WriteEntry}
 use Rattle.bitstream_count.specs.declared.error.Error.{Error}
 use Rattle.bitstream_count.specs.declared.error.Error.TheVariants.{Failed}
-use Rattle.bitstream_stream.specs.Sink.{Sink, WriteOutcome, Appended, Kept, Faulted, IsWithin, IsBeyond, was_failed, was_refused, passed_limit, had_fault, did_write}
+use Rattle.bitstream_stream.specs.Sink.{Sink, WriteOutcome, Appended, IsWithin, was_failed, was_refused, passed_limit, had_fault, did_write}
 use Rattle.bitstream_stream.specs.Alignment.{to_boundary}
 use Rattle.bitstream_stream.specs.WriteTable.{unsigned, align}
 use Rattle.bitstream_stream.proofs.WriteLemmas.{unsigned-accepted, padded}
-use Rattle.bitstream_stream.proofs.SinkLemmas.{IsBeyond-more, not_beyond, empty}
+use Rattle.bitstream_stream.proofs.SinkLemmas.{IsBeyond-more, empty}
 
 -- the sink had not failed, and x is appended
 pub record Begun {S : Type 0} (K : Sink S) (old : S) (x : List Bool) (new : S) : Type 0 where

@@ -1,12 +1,11 @@
 -- The table of write calls.
-use Rattle.std.proofs.Common.{◌≡◌, ◌≢◌, ◌⊎◌, inl, inr, subst, ap₂, lt_of_le_of_lt, ℕ, zero, suc, ◌+◌, ◌-◌, ◌*◌, ◌/◌, ◌%◌, ◌^◌, ◌<◌, ◌≤◌, Bool, true, false, cond, List, [], ◌∷◌, ◌++◌, length, replicate, Ok, Err, Result, refl, sym, ◌∙◌, ap, arith}
+use Rattle.std.proofs.Common.{◌≡◌, ◌≢◌, ◌⊎◌, inl, inr, subst, ap₂, lt_of_le_of_lt, ℕ, zero, suc, ◌+◌, ◌-◌, ◌%◌, ◌^◌, ◌<◌, ◌≤◌, Bool, true, false, cond, List, [], ◌∷◌, ◌++◌, replicate, Ok, Err, refl, sym, ◌∙◌, ap, arith}
 use Rattle.std.specs.Prelude.{ℤ, pos, negsuc}
 use Rattle.std.proofs.lemmas.Bool.Decides.{nat_tests}
 use Rattle.std.proofs.lemmas.List.{replicate-append-replicate}
 use Rattle.bitstream_number.specs.Word.{Order, High, Low, digits, word, signed_word, count_width}
 use Rattle.bitstream_number.proofs.WordLemmas.{count_fits}
 use Rattle.bitstream_order.proofs.DrawLemmas.{word-none}
-use Rattle.bitstream_count.specs.declared.error.Error.{Error}
 use Rattle.bitstream_count.specs.declared.error.Error.TheVariants.{Checked, NoSignBit}
 use Rattle.bitstream_count.specs.Checks.{AcceptsUnsigned, RefusesUnsigned, HoldsSigned, RefusesSigned}
 use Rattle.bitstream_count.specs.declared.checked_error.CheckedError.{CheckedError}

@@ -1,5 +1,5 @@
 -- The table of reads: what each call takes from the bits to read, and what it answers.
-use Rattle.std.specs.Prelude.{ℕ, ◌-◌, ◌%◌, Bool, false, List, [], ◌∷◌, nat_le, ◌==◌, ℤ, if◌then◌else◌, Ok, Err}
+use Rattle.std.specs.Prelude.{ℕ, Bool, false, List, [], ◌∷◌, nat_le, ◌==◌, ℤ, if◌then◌else◌, Ok, Err}
 use Rattle.bitstream_count.specs.declared.error.Error.TheVariants.{ReadBits, NoSignBit}
 use Rattle.bitstream_count.specs.Entry.{ReadEntry, Takes, word_front, call, takes}
 use Rattle.bitstream_stream.specs.Alignment.{to_boundary}

@@ -1,5 +1,5 @@
 -- The table of write calls: what each means behind so many bits written before.
-use Rattle.std.specs.Prelude.{ℕ, ℤ, pos, negsuc, ◌-◌, ◌%◌, ◌^◌, ◌==◌, ◌||◌, nat_lt, if◌then◌else◌, Bool, false, List, [], ◌∷◌, replicate, Result, Ok, Err}
+use Rattle.std.specs.Prelude.{ℕ, ℤ, pos, negsuc, ◌-◌, ◌^◌, ◌==◌, ◌||◌, nat_lt, if◌then◌else◌, Bool, false, List, [], ◌∷◌, replicate, Ok, Err}
 use Rattle.bitstream_stream.specs.Alignment.{to_boundary}
 use Rattle.bitstream_number.specs.Word.{Order, word, signed_word, count_width}
 use Rattle.bitstream_count.specs.Entry.{WriteEntry}

@@ -1,5 +1,5 @@
-use Rattle.std.proofs.Common.{◌≡◌, ℕ, ◌+◌, ◌-◌, ◌*◌, ◌^◌, ◌<◌, ◌≤◌, length, take, get_or, true, arith}
-use Rattle.bitfields.specs.Decimal.{is_decimal, decimal_value}
+use Rattle.std.proofs.Common.{◌≡◌, ◌+◌, ◌^◌, ◌<◌, length, true, arith}
+use Rattle.bitfields.specs.Decimal.{is_decimal}
 use Rattle.bitfields.proofs.DecimalLemmas.{one_more, too_great, digit_at}
 use Rattle.std.proofs.lemmas.Str.Parse.{digits_value-take-le}
 use Rattle.bitfields.proofs.decimal.decimal.Goals as goal

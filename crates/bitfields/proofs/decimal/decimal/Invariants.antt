@@ -1,4 +1,4 @@
-use Rattle.std.proofs.Common.{◌≡◌, ℕ, ◌+◌, take}
+use Rattle.std.proofs.Common.{◌≡◌, take}
 use Rattle.bitfields.specs.Decimal.{decimal_value}
 use Rattle.bitfields.proofs.decimal.decimal.Given as goal
 

@@ -1,4 +1,4 @@
-use Rattle.std.proofs.Common.{◌≤◌, subst}
+use Rattle.std.proofs.Common.{subst}
 use Rattle.bitfields.specs.declared.field.Field.{Field}
 use Rattle.bitfields.specs.Layout.{IsField}
 use Rattle.bitfields.specs.Value.{FitsField}

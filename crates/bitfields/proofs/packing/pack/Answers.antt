@@ -1,6 +1,5 @@
-use Rattle.std.proofs.Common.{rules, ◌≡◌, [], ◌∷◌, ◌∙◌, sym, ap, Ok}
+use Rattle.std.proofs.Common.{◌∷◌, ◌∙◌, sym, ap}
 use Rattle.bitstream_stream.specs.Writer.{WriterState, writer_state}
-use Rattle.bitfields.specs.Value.{values, lines}
 use Rattle.bitfields.proofs.PackingLemmas.{PackedBytes-from, first_place}
 use Rattle.bitfields.proofs.packing.pack.Goals as goal
 

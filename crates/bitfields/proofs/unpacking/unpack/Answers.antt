@@ -1,5 +1,4 @@
-use Rattle.std.proofs.Common.{rules, ◌≡◌, [], ◌∷◌, ap, sym, ◌∙◌, string_bytes}
-use Rattle.std.specs.Prelude.{length}
+use Rattle.std.proofs.Common.{rules, ◌≡◌, ◌∷◌, ap, sym, ◌∙◌, string_bytes}
 use Rattle.bitstream_order.specs.Port.{port_state}
 use Rattle.bitstream_stream.specs.Reads.{ReaderState}
 use Rattle.bitfields.proofs.PackingLemmas.{first_place}

@@ -1,7 +1,5 @@
-use Rattle.std.proofs.Common.{rules, ◌≡◌, [], ◌∷◌, ◌≤◌, Ok, inl, subst, sym}
+use Rattle.std.proofs.Common.{rules, ◌≡◌, [], ◌∷◌, ◌≤◌, inl, subst}
 use Rattle.bitstream_order.specs.Draw.{seen}
-use Rattle.bitfields.specs.declared.field.Field.{Field}
-use Rattle.bitfields.specs.declared.field.Field.TheVariants.{Unsigned, Align}
 use Rattle.bitfields.specs.Value.{value_list}
 use Rattle.bitfields.specs.Layout.{IsField}
 use Rattle.bitfields.proofs.UnpackingLemmas.{ReadsField-unsigned, ReadsField-align, align_misled}

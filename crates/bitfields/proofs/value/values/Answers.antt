@@ -1,5 +1,4 @@
-use Rattle.std.proofs.Common.{map, sym, IfOk}
-use Rattle.bitfields.specs.Value.{Fit}
+use Rattle.std.proofs.Common.{map}
 use Rattle.bitfields.proofs.ValueLemmas.{IfOk-Fit}
 use Rattle.bitfields.proofs.value.values.Goals as goal
 

@@ -1,8 +1,8 @@
-use Rattle.std.proofs.Common.{zero-add, add_assoc, IsTrue, ◌≡◌, ◌≢◌, ◌<◌, ℕ, ◌-◌, ◌+◌, ◌%◌, Bool, List, true, false, replicate, [], ◌∷◌, ◌++◌, Ok, Err, refl, sym, ap, ◌∙◌, subst, arith}
+use Rattle.std.proofs.Common.{zero-add, add_assoc, IsTrue, ◌≡◌, ◌<◌, ℕ, ◌-◌, ◌+◌, ◌%◌, Bool, true, false, replicate, [], ◌∷◌, Ok, Err, refl, sym, ap, ◌∙◌, arith}
 use Rattle.std.proofs.lemmas.Result.{err_from_is_err_and}
 use Rattle.bitstream_stream.specs.Alignment.{to_boundary}
 use Rattle.bitstream_stream.specs.WriteTable.{align}
-use Rattle.bitstream_stream.proofs.SinkParts.{Begun, from_ok, to_ok, probe_failed, stop_later, Begun-more}
+use Rattle.bitstream_stream.proofs.SinkParts.{from_ok, to_ok, probe_failed, stop_later, Begun-more}
 use Rattle.bitstream_stream.proofs.WriteLemmas.{unsigned-none, replicate-split, replicate-more, to_boundary-step}
 use Rattle.bitstream_stream.proofs.write.BitWrite.byte_align.Goals as goal
 
