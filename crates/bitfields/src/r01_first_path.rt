@@ -160,7 +160,7 @@ fn check<R: Read>(rt: &impl Abort, alloc: Global, row: &Row, input: &mut R) -> R
 }
 
 #[test]
-fn first_path(rt: HostRuntime) -> Result<(), Fail> {
+fn r01_first_path(rt: HostRuntime) -> Result<(), Fail> {
     let alloc = rt.alloc();
     for row in &ROWS {
         let mut whole = row.input;
@@ -235,5 +235,79 @@ fn keeps_its_status_where_no_fault_can_be_printed(rt: HostRuntime) -> Result<(),
         kind: ErrorKind::ConnectionReset,
     };
     assert_eq!(rt; run(alloc, &words, &mut input, &mut output, &mut faults), 2);
+    Ok(())
+}
+
+/// Runs a row over an input that serves so many requests and then refuses with a kind.
+fn run_refused(
+    rt: &impl Abort,
+    alloc: Global,
+    row: &Row,
+    served: u32,
+    kind: ErrorKind,
+    fault: &str,
+) -> Result<u8, Fail> {
+    let words = split(alloc, row.words)?;
+    let mut input = Refuse {
+        inner: row.input,
+        left: served,
+        kind,
+    };
+    let mut output = Vec::new(alloc);
+    let mut faults = Vec::new(alloc);
+    let status = run(alloc, &words, &mut input, &mut output, &mut faults);
+    let wanted = if status == 0 {
+        row.output
+    } else {
+        b"".as_slice()
+    };
+    assert!(rt; output.as_slice() == wanted, "{served}");
+    assert!(rt; faults.as_slice() == fault.as_bytes(), "{served}");
+    Ok(status)
+}
+
+const UNPACKED: Row = Row {
+    words: "unpack be u2,u3,u5,u3,u19",
+    input: D,
+    output: b"2\n6\n7\n5\n342977\n",
+    faults: "",
+    status: 0,
+};
+
+#[test]
+fn names_the_field_at_which_a_request_is_refused(rt: HostRuntime) -> Result<(), Fail> {
+    let alloc = rt.alloc();
+    let kinds = [
+        (ErrorKind::ConnectionReset, "stream fault", 5),
+        (ErrorKind::OutOfMemory, "out of memory", 5),
+        (ErrorKind::UnexpectedEof, "bits ended", 4),
+    ];
+    for (kind, reason, status) in kinds {
+        for (served, field) in [(0, 1), (1, 3), (2, 5)] {
+            let fault = format!(in alloc; "bitfields: field {field}: {reason}\n")?;
+            let answer = run_refused(&rt, alloc, &UNPACKED, served, kind, fault.as_str())?;
+            assert_eq!(rt; answer, status);
+        }
+        assert_eq!(rt; run_refused(&rt, alloc, &UNPACKED, 3, kind, "")?, 0);
+    }
+    Ok(())
+}
+
+#[test]
+fn packs_nothing_of_an_input_that_is_refused(rt: HostRuntime) -> Result<(), Fail> {
+    let alloc = rt.alloc();
+    let kinds = [
+        (ErrorKind::TimedOut, "bitfields: field 0: stream fault\n"),
+        (
+            ErrorKind::OutOfMemory,
+            "bitfields: field 0: out of memory\n",
+        ),
+    ];
+    for (kind, fault) in kinds {
+        for served in 0..2 {
+            assert_eq!(rt; run_refused(&rt, alloc, &ROWS[0], served, kind, fault)?, 5);
+        }
+        assert_eq!(rt; run_refused(&rt, alloc, &ROWS[0], 9, kind, "")?, 0);
+    }
     Ok(())
 }
