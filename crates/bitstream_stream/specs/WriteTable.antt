@@ -1,8 +1,8 @@
 -- The table of write calls: what each means behind so many bits written before.
-use Rattle.std.specs.Prelude.{ℕ, ◌-◌, ◌%◌, ◌^◌, ◌==◌, ◌||◌, nat_lt, if◌then◌else◌, Bool, false, List, [], ◌∷◌, replicate, Result, Ok, Err}
-use Rattle.bitstream_number.specs.Word.{Order, word}
+use Rattle.std.specs.Prelude.{ℕ, ℤ, pos, negsuc, ◌-◌, ◌%◌, ◌^◌, ◌==◌, ◌||◌, nat_lt, if◌then◌else◌, Bool, false, List, [], ◌∷◌, replicate, Result, Ok, Err}
+use Rattle.bitstream_number.specs.Word.{Order, word, signed_word, count_width}
 use Rattle.bitstream_count.specs.Entry.{WriteEntry}
-use Rattle.bitstream_count.specs.declared.error.Error.TheVariants.{Checked}
+use Rattle.bitstream_count.specs.declared.error.Error.TheVariants.{Checked, NoSignBit}
 use Rattle.bitstream_count.specs.declared.checked_error.CheckedError.TheVariants.{ExcessiveBits, ExcessiveValue}
 
 -- these bits, whatever was written before
@@ -17,6 +17,20 @@ bit b = plain (b ∷ [])
 unfoldable pub unsigned : Order → ℕ → ℕ → ℕ → WriteEntry
 unsigned o size n v _ =
     if nat_lt size n then Err (Checked ExcessiveBits) else (if (n == 0) || nat_lt v (2 ^ n) then Ok (word o n v) else Err (Checked ExcessiveValue))
+
+-- whether n bits hold x as a two's complement
+abbrev pub fits_signed : ℕ → ℤ → Bool
+fits_signed n (pos k) = nat_lt k (2 ^ (n - 1))
+fits_signed n (negsuc k) = nat_lt k (2 ^ (n - 1))
+
+-- the two's complement in n bits of x, a number of a type of `size` bits
+unfoldable pub signed : Order → ℕ → ℕ → ℤ → WriteEntry
+signed o size n x _ =
+    if n == 0 then Err NoSignBit else (if nat_lt size n then Err (Checked ExcessiveBits) else (if fits_signed n x then Ok (signed_word o n x) else Err (Checked ExcessiveValue)))
+
+-- a count, in as few bits as its greatest number takes
+abbrev pub count : Order → ℕ → ℕ → WriteEntry
+count o max n = plain (word o (count_width max) n)
 
 -- how many bits there are up to a multiple of 8
 abbrev pub padding : ℕ → ℕ

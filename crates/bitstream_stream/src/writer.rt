@@ -1,14 +1,15 @@
 //! The writer of bits to a stream of bytes.
 ghost use Rattle.std.specs.Prelude.{◌≡◌, ℕ, ◌+◌, ◌<◌, ◌≤◌, ◌^◌, false};
 
-use crate::check::check;
+use crate::check::{check, check_signed};
 use crate::write::BitWrite;
-use bitstream_count::count::Count;
+use bitstream_count::count::{Count, SignedCount};
 use bitstream_count::error::Error;
-use bitstream_number::number::{Numeric, UnsignedInteger};
+use bitstream_number::number::{Numeric, SignedInteger, UnsignedInteger};
 use bitstream_order::order::Endianness;
 use bitstream_order::port::Port;
 use bitstream_order::send::send_front;
+use bitstream_order::sign::complement;
 use bitstream_order::target::Target;
 use std::marker::PhantomData;
 
@@ -85,7 +86,7 @@ impl<W: Target, E: Endianness> BitWriter<W, E> {
 impl<W: Target, E: Endianness> BitWrite for BitWriter<W, E> {
     ghost use Rattle.bitstream_stream.specs.Writer.{writer_state, writer_sink};
     ghost use Rattle.bitstream_stream.specs.Sink.{Writes};
-    ghost use Rattle.bitstream_stream.specs.WriteTable.{unsigned};
+    ghost use Rattle.bitstream_stream.specs.WriteTable.{unsigned, signed};
 
     ghost sink = { writer_sink W.held W.places E.order };
 
@@ -104,6 +105,23 @@ impl<W: Target, E: Endianness> BitWrite for BitWriter<W, E> {
         let bits = count.bits();
         check(bits, value)?;
         self.push(value, bits)
+    }
+
+    fn write_signed_counted<C: SignedCount, S: SignedInteger>(
+        &mut self,
+        count: C,
+        value: S,
+    ) -> Result<(), Error>
+        ensures writes { Writes (writer_sink W.held W.places E.order) (signed E.order S.BITS_SIZE (C.number count) (S.integer value)) self.old result self.new }
+        ensures requests { (writer_state W.held W.places self.new).port.requests ≤ (writer_state W.held W.places self.old).port.requests + 2 }
+        ensures unasked { (writer_state W.held W.places self.old).queued + C.number count < 8 → (writer_state W.held W.places self.new).port ≡ (writer_state W.held W.places self.old).port }
+    {
+        if self.failed {
+            return Err(Error::Failed);
+        }
+        let bits = count.bits();
+        check_signed(bits, value)?;
+        self.push(complement(value, bits), bits)
     }
 
     fn byte_aligned(&self) -> bool {
