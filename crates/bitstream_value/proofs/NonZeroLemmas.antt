@@ -35,11 +35,11 @@ module _ {A : Type 0} (after : ℕ → A) where
   option-stops o size n {r = r} h k = exit (λ v. gives (if_any after v)) r h k
 
   -- the value of a number, or none of 0
-  pub if_any-is : (number : A → ℕ) (v : ℕ) (x : Option A) → ((y : A) (k : ℕ) → number y ≡ k + 1 → after k ≡ y) → MatchOption x (v ≡ 0) (λ y. number y ≡ v) → ((y : A) → x ≡ Some y → 0 < v) → if_any after v ≡ x
-  if_any-is number zero None law h some = refl
-  if_any-is number zero (Some y) law h some = absurd (let less = some y refl in omega arith)
-  if_any-is number (suc k) None law h some = absurd (omega (arith, h))
-  if_any-is number (suc k) (Some y) law h some = ap Some (law y k (h ∙ let e : suc k ≡ k + 1 = omega arith in e))
+  pub if_any-is : (number : A → ℕ) (v : ℕ) (x : Option A) → ((y : A) → 0 < number y) → ((y : A) (k : ℕ) → number y ≡ k + 1 → after k ≡ y) → MatchOption x (v ≡ 0) (λ y. number y ≡ v) → if_any after v ≡ x
+  if_any-is number zero None some law h = refl
+  if_any-is number zero (Some y) some law h = absurd (let less = some y in omega (arith, less, h))
+  if_any-is number (suc k) None some law h = absurd (omega (arith, h))
+  if_any-is number (suc k) (Some y) some law h = ap Some (law y k (h ∙ (let e : suc k ≡ k + 1 = omega arith in e)))
 
   pub option-answers : (o : Order) (size n v : ℕ) (x : Option A) {s t : ReaderState} → if_any after v ≡ x → Reads (unsigned_entry o size n) s (Ok v) t → Reads (option_entry after o size n) s (Ok x) t
   unfolding option_entry
@@ -53,10 +53,10 @@ next_fits n size v less below =
     omega (arith, more, twice, below)
 
 module _ {S : Type 0} (K : Sink S) where
-  pub writes-less : (o : Order) (size n v k : ℕ) {r : Result (Unit {0}) Error} {s t : S} → n < size → k ≡ v - 1 → WritesAll K (unsigned o size n k ∷ []) s r t → WritesAll K (non_zero o size n v ∷ []) s r t
+  pub writes-less : (o : Order) (size n v k : ℕ) (r : Result (Unit {0}) Error) (s t : S) → n < size → k ≡ v - 1 → WritesAll K (unsigned o size n k ∷ []) s r t → WritesAll K (non_zero o size n v ∷ []) s r t
   unfolding non_zero
-  writes-less o size n v k less is h = rw (lt-ltb n size less, ← is) h
+  writes-less o size n v k r s t less is h = rw (lt-ltb n size less, ← is) h
 
-  pub writes-wide : (o : Order) (size n v : ℕ) {r : Result (Unit {0}) Error} {s t : S} → size ≤ n → Writes K (λ _. Err NonZeroWidth) s r t → Writes K (non_zero o size n v) s r t
+  pub writes-wide : (o : Order) (size n v : ℕ) (r : Result (Unit {0}) Error) (s t : S) → size ≤ n → Writes K (λ _. Err NonZeroWidth) s r t → Writes K (non_zero o size n v) s r t
   unfolding non_zero
-  writes-wide o size n v wide h = rw (le-ltb n size wide) h
+  writes-wide o size n v r s t wide h = rw (le-ltb n size wide) h

@@ -1,10 +1,9 @@
 -- Truth values.
-use Rattle.std.proofs.Common.{◌≡◌, ◌≢◌, ℕ, Bool, Result}
+use Rattle.std.proofs.Common.{◌≡◌, ◌≢◌, ℕ, Bool, Result, Err}
 use Rattle.std.proofs.lemmas.Bool.{ne_eqb}
 use Rattle.bitstream_count.specs.declared.error.Error.{Error}
 use Rattle.bitstream_count.specs.declared.error.Error.TheVariants.{BoolWidth}
 use Rattle.bitstream_count.specs.Entry.{refuses}
-use Rattle.std.proofs.Common.{Err}
 use Rattle.bitstream_stream.specs.ReadTable.{bit_entry}
 use Rattle.bitstream_stream.specs.Reads.{ReaderState, Reads}
 use Rattle.bitstream_stream.specs.Sink.{Sink, Writes}
@@ -20,10 +19,10 @@ unfolding truth_entry
 truth-refused n other h = rw (ne_eqb n 1 other) h
 
 module _ {S : Type 0} (K : Sink S) where
-  pub writes-bit : (n : ℕ) (b : Bool) {r : Result (Unit {0}) Error} {s t : S} → n ≡ 1 → Writes K (bit b) s r t → Writes K (truth n b) s r t
+  pub writes-bit : (n : ℕ) (b : Bool) (r : Result (Unit {0}) Error) (s t : S) → n ≡ 1 → Writes K (bit b) s r t → Writes K (truth n b) s r t
   unfolding truth
-  writes-bit n b one h = rw one h
+  writes-bit n b r s t one h = rw one h
 
-  pub writes-refused : (n : ℕ) (b : Bool) {r : Result (Unit {0}) Error} {s t : S} → n ≢ 1 → Writes K (λ _. Err BoolWidth) s r t → Writes K (truth n b) s r t
+  pub writes-refused : (n : ℕ) (b : Bool) (r : Result (Unit {0}) Error) (s t : S) → n ≢ 1 → Writes K (λ _. Err BoolWidth) s r t → Writes K (truth n b) s r t
   unfolding truth
-  writes-refused n b other h = rw (ne_eqb n 1 other) h
+  writes-refused n b r s t other h = rw (ne_eqb n 1 other) h

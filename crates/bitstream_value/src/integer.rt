@@ -8,7 +8,7 @@ ghost use Rattle.bitstream_stream.specs.Sink.{WritesAll};
 mod array;
 mod boolean;
 mod non_zero;
-//mod signed;
+mod signed;
 mod unsigned;
 
 use bitstream_count::count::{BitCount, Count};

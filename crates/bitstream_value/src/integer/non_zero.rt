@@ -41,6 +41,8 @@ pub trait NonZeroInteger: Copy {
         ensures value { Self.Base.value result ≡ number self }
         ensures some { 0 < Self.Base.value result };
 
+    ghost some_law: { (x : Self) → 0 < number x };
+
     ghost after_law: { (x : Self) (n : ℕ) → number x ≡ n + 1 → after n ≡ x };
 }
 
@@ -114,6 +116,8 @@ impl NonZeroInteger for NonZero<u8> {
         self.get()
     }
 
+    ghost some_law = { λ x. x.ok };
+
     ghost after_law = { λ x n e. made-same (λ k p. record { value = k; ok = p }) (n + 1) x.value _ x.ok (sym e) };
 }
 
@@ -151,6 +155,8 @@ impl NonZeroInteger for NonZero<u16> {
     fn base(self) -> u16 {
         self.get()
     }
+
+    ghost some_law = { λ x. x.ok };
 
     ghost after_law = { λ x n e. made-same (λ k p. record { value = k; ok = p }) (n + 1) x.value _ x.ok (sym e) };
 }
@@ -190,6 +196,8 @@ impl NonZeroInteger for NonZero<u32> {
         self.get()
     }
 
+    ghost some_law = { λ x. x.ok };
+
     ghost after_law = { λ x n e. made-same (λ k p. record { value = k; ok = p }) (n + 1) x.value _ x.ok (sym e) };
 }
 
@@ -228,6 +236,8 @@ impl NonZeroInteger for NonZero<u64> {
         self.get()
     }
 
+    ghost some_law = { λ x. x.ok };
+
     ghost after_law = { λ x n e. made-same (λ k p. record { value = k; ok = p }) (n + 1) x.value _ x.ok (sym e) };
 }
 
@@ -265,6 +275,8 @@ impl NonZeroInteger for NonZero<u128> {
     fn base(self) -> u128 {
         self.get()
     }
+
+    ghost some_law = { λ x. x.ok };
 
     ghost after_law = { λ x n e. made-same (λ k p. record { value = k; ok = p }) (n + 1) x.value _ x.ok (sym e) };
 }

@@ -1,0 +1,7 @@
+use Rattle.std.proofs.Common.{subst, ℕ}
+use Rattle.bitstream_stream.specs.Sink.{WritesAll}
+use Rattle.bitstream_stream.proofs.WriteParts.{all_one}
+use Rattle.bitstream_value.proofs.integer.signed.write_signed.Goals as goal
+
+pub returns : goal.returns
+returns g c = record { writes = all_one g.W.BitWrite.sink _ _ _ _ (rw c.bits.ensures.value at c.write_signed_var.ensures.writes) }
