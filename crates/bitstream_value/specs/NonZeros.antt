@@ -1,6 +1,6 @@
 -- Numbers that are not 0, and the numbers that stand for them.
 use Rattle.std.specs.Coded.{le_prop}
-use Rattle.std.specs.Prelude.{◌≡◌, ℕ, zero, suc, ◌+◌, ◌-◌, ◌<◌, nat_lt, if◌then◌else◌, Option, Some, None, Err}
+use Rattle.std.specs.Prelude.{◌≡◌, ℕ, zero, suc, ◌-◌, ◌<◌, nat_lt, if◌then◌else◌, Option, Some, None, Err}
 use Rattle.std.proofs.Common.{ap, subst}
 use Rattle.bitstream_count.specs.declared.error.Error.TheVariants.{NonZeroWidth}
 use Rattle.bitstream_count.specs.Entry.{ReadEntry, WriteEntry, chain, refuses, gives}

@@ -1,5 +1,3 @@
-use Rattle.std.proofs.Common.{subst, ℕ}
-use Rattle.bitstream_stream.specs.Sink.{WritesAll}
 use Rattle.bitstream_stream.proofs.WriteParts.{all_one}
 use Rattle.bitstream_value.proofs.integer.signed.write_signed.Goals as goal
 

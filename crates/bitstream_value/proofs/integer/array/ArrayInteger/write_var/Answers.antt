@@ -1,4 +1,4 @@
-use Rattle.std.proofs.Common.{◌≡◌, ◌<◌, ◌≤◌, ℕ, ◌+◌, List, [], ◌∷◌, ◌++◌, length, take, drop, get_or, Ok, Err, refl, sym, ap, ◌∙◌, subst, arith}
+use Rattle.std.proofs.Common.{◌≡◌, ◌<◌, ℕ, ◌+◌, List, ◌++◌, length, take, drop, get_or, Ok, Err, sym, ap, ◌∙◌, subst, arith}
 use Rattle.std.specs.Prelude.{flat_map}
 use Rattle.std.proofs.lemmas.Result.{err_from_is_err_and}
 use Rattle.std.proofs.Math.Seq.{take-length}
@@ -21,8 +21,8 @@ returns-in_err-write_var g c =
     let fits : k < length xs = omega arith in
     record {
       writes = subst (λ (es : List WriteEntry). WritesAll K es c.args.writer.now c.from_residual.result c.write_var.new.writer) (sym (flat_map-split f xs k c.item-item.result fits))
-        (all_append K (flat_map f (take k xs)) (f x ++ flat_map f (drop (k + 1) xs)) _ _ _ _ c.loop-item.invariant
-        (all_stop K (f x) (flat_map f (drop (k + 1) xs)) _ _ _ _ (p.1 ∙ ap Err p.2) c.in_err-write_var.ensures.writes));
+          (all_append K (flat_map f (take k xs)) (f x ++ flat_map f (drop (k + 1) xs)) _ _ _ _ c.loop-item.invariant
+          (all_stop K (f x) (flat_map f (drop (k + 1) xs)) _ _ _ _ (p.1 ∙ ap Err p.2) c.in_err-write_var.ensures.writes));
     }
 
 pub loop-item-preserved : goal.loop-item-preserved

@@ -1,4 +1,4 @@
-use Rattle.std.proofs.Common.{take, Ok, ◌<◌, ◌≤◌, ◌≡◌, length, ◌+◌}
+use Rattle.std.proofs.Common.{take, Ok}
 use Rattle.std.specs.Prelude.{flat_map}
 use Rattle.bitstream_stream.specs.Sink.{WritesAll}
 use Rattle.bitstream_value.proofs.integer.array.ArrayInteger.write_var.Given as goal

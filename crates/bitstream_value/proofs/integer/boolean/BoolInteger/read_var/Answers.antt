@@ -1,4 +1,4 @@
-use Rattle.std.proofs.Common.{arith, ◌≡◌, ◌≢◌, ℕ}
+use Rattle.std.proofs.Common.{arith}
 use Rattle.bitstream_value.proofs.TruthLemmas.{truth-bit, truth-refused}
 use Rattle.bitstream_value.proofs.integer.boolean.BoolInteger.read_var.Goals as goal
 
