@@ -4,3 +4,7 @@
 mod checked_error;
 pub mod count;
 pub mod error;
+pub mod laws;
+
+#[cfg(test)]
+mod tests;

@@ -1,5 +1,6 @@
 pub mod ConstLemmas
 pub mod EntryLemmas
+pub mod LawLemmas
 pub mod ReaderLemmas
 pub mod ReadsLemmas
 pub mod Rows

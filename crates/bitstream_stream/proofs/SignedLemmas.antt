@@ -78,15 +78,18 @@ pub seen_is : {B C : Type 0} (x : Error) (view : B → C) (r : Result B Error) �
 seen_is x view (Ok b) h = absurd h
 seen_is x view (Err y) h = h
 
-pub signed-stops : (o : Order) (size n : ℕ) {x : Error} {r : Result ℤ Error} {s t : ReaderState} → IsErrAnd r (λ y. y ≡ x) → Reads (unsigned_entry o size n) s (Err x) t → Reads (signed_entry o size n) s r t
-signed-stops o size zero {r = r} h k = Reads-same (none-signed o size) (exit (λ _. refuses NoSignBit) r h k)
-signed-stops o size (suc n) {r = r} h k = Reads-same (unsigned-signed o size (suc n) (omega arith)) (exit (λ v. gives (signed_from (suc n) v)) r h k)
+pub signed-stops : (o : Order) (size n : ℕ) {x : Error} {r : Result ℤ Error} {s t : ReaderState} → 0 < n → IsErrAnd r (λ y. y ≡ x) → Reads (unsigned_entry o size n) s (Err x) t → Reads (signed_entry o size n) s r t
+signed-stops o size n {r = r} some h k = Reads-same (unsigned-signed o size n some) (exit (λ v. gives (signed_from n v)) r h k)
 
-pub signed-refused : (o : Order) (size n v : ℕ) {s t : ReaderState} → n ≡ 0 → Reads (unsigned_entry o size n) s (Ok v) t → Reads (signed_entry o size n) s (Err NoSignBit) t
-signed-refused o size n v {s = s} {t = t} none h =
-    let read : Reads (unsigned_entry o size 0) s (Ok v) t = subst (λ k. Reads (unsigned_entry o size k) s (Ok v) t) none h in
-    subst (λ k. Reads (signed_entry o size k) s (Err NoSignBit) t) (sym none)
-    (Reads-same (none-signed o size) (Reads-chain-ok _ (λ _. refuses NoSignBit) read (Reads-refuses NoSignBit t (Reads-fine (unsigned-on_failed o size 0) read) refl)))
+-- a word of no bits in front of the refusal: on a reader that has failed it answers that
+pub signed-none_stops : (o : Order) (k size n : ℕ) {x : Error} {r : Result ℤ Error} {s t : ReaderState} → n ≡ 0 → IsErrAnd r (λ y. y ≡ x) → Reads (unsigned_entry o k 0) s (Err x) t → Reads (signed_entry o size n) s r t
+signed-none_stops o k size n {r = r} {s = s} {t = t} none h read =
+    subst (λ m. Reads (signed_entry o size m) s r t) (sym none) (Reads-same (none-signed o k size) (exit (λ _. refuses NoSignBit) r h read))
+
+pub signed-refused : (o : Order) (k size n v : ℕ) {s t : ReaderState} → n ≡ 0 → Reads (unsigned_entry o k 0) s (Ok v) t → Reads (signed_entry o size n) s (Err NoSignBit) t
+signed-refused o k size n v {s = s} {t = t} none read =
+    subst (λ m. Reads (signed_entry o size m) s (Err NoSignBit) t) (sym none)
+    (Reads-same (none-signed o k size) (Reads-chain-ok _ (λ _. refuses NoSignBit) read (Reads-refuses NoSignBit t (Reads-fine (unsigned-on_failed o k 0) read) refl)))
 
 pub signed-answers : (o : Order) (size n v : ℕ) (z : ℤ) {s t : ReaderState} → 0 < n → z ≡ signed_from n v → Reads (unsigned_entry o size n) s (Ok v) t → Reads (signed_entry o size n) s (Ok z) t
 signed-answers o size n v z {s = s} {t = t} some is h =

@@ -1,5 +1,5 @@
 -- What a reader's fields say.
-use Rattle.std.specs.Prelude.{ℕ, ◌-◌, ◌*◌, Bool, false, List, ◌++◌, Option, option_map}
+use Rattle.std.specs.Prelude.{◌≡◌, ℕ, ◌+◌, ◌≤◌, ◌-◌, ◌*◌, Bool, false, List, ◌++◌, Option, option_map}
 use Rattle.std.specs.Borrow.{GName}
 use Rattle.bitstream_number.specs.Word.{Order, word, bits}
 use Rattle.bitstream_order.specs.Port.{PortState, requests_count}
@@ -39,3 +39,7 @@ queued_bits reader = reader.queued
 -- how many requests a reader made
 abbrev pub requests_made : {R E : Type 0} → BitReader R E → ℕ
 requests_made reader = requests_count reader.port
+
+-- a call for a word of n bits made two requests at most, and none where the reader held its bits back
+abbrev pub AsksForWord : {R E : Type 0} → ℕ → BitReader R E → BitReader R E → Type 0
+AsksForWord n old new = (requests_made new ≤ requests_made old + 2) × (n ≤ queued_bits old → requests_made new ≡ requests_made old)

@@ -3,6 +3,9 @@
 
 mod check;
 mod complement;
+pub mod laws;
+#[cfg(test)]
+mod lent_reads;
 #[cfg(test)]
 mod lent_writes;
 pub mod read;

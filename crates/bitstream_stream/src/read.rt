@@ -5,9 +5,8 @@ ghost use Rattle.bitstream_order.specs.Draw.{seen};
 ghost use Rattle.bitstream_stream.specs.Reads.{ReaderState, Reads, ReadsConst, Demands, Holds, failing, lent};
 ghost use Rattle.bitstream_stream.specs.ReadTable.{bit_entry, unsigned_entry, signed_entry, const_entry, count_entry, align_entry};
 
-use crate::complement::signed_of;
 use crate::width::count_bits;
-use bitstream_count::count::{BitCount, Count};
+use bitstream_count::count::{BitCount, Count, SignedCount};
 use bitstream_count::error::Error;
 use bitstream_number::number::{Numeric, SignedInteger, UnsignedInteger, Width};
 
@@ -26,6 +25,12 @@ pub trait BitRead {
     /// `ReadBits` if the type has fewer bits: nothing is taken then.
     fn read_unsigned_counted<C: Count, U: UnsignedInteger>(&mut self, bits: C) -> Result<U, Error>
         ensures reads { Reads (unsigned_entry order U.BITS_SIZE (C.number bits)) (state self.old) (seen U.value result) (state self.new) };
+
+    /// Reads a signed number of so many bits, of which one is the sign.
+    ///
+    /// `ReadBits` if the type has fewer bits: nothing is taken then.
+    fn read_signed_counted<C: SignedCount, S: SignedInteger>(&mut self, bits: C) -> Result<S, Error>
+        ensures reads { Reads (signed_entry order S.BITS_SIZE (C.number bits)) (state self.old) (seen S.integer result) (state self.new) };
 
     /// Whether the next bit is the first of a byte. Never so of a reader that has failed.
     fn byte_aligned(&self) -> bool
@@ -71,11 +76,12 @@ pub trait BitRead {
     fn read_signed_var<S: SignedInteger>(&mut self, bits: u32) -> Result<S, Error>
         ensures reads { Reads (signed_entry order S.BITS_SIZE bits) (state self.old) (seen S.integer result) (state self.new) }
     {
-        let word: S::Unsigned = self.read_unsigned_var(bits)?;
-        if bits == 0 {
-            Err(Error::NoSignBit)
-        } else {
-            Ok(signed_of(word, bits))
+        match BitCount::unknown(bits).signed_count() {
+            Some(count) => self.read_signed_counted(count),
+            None => {
+                let _: u8 = self.read_unsigned_var(0)?;
+                Err(Error::NoSignBit)
+            }
         }
     }
 
@@ -134,6 +140,13 @@ impl<R: BitRead> BitRead for &mut R {
 
     fn read_unsigned_counted<C: Count, U: UnsignedInteger>(&mut self, bits: C) -> Result<U, Error> {
         (**self).read_unsigned_counted(bits)
+    }
+
+    fn read_signed_counted<C: SignedCount, S: SignedInteger>(
+        &mut self,
+        bits: C,
+    ) -> Result<S, Error> {
+        (**self).read_signed_counted(bits)
     }
 
     fn byte_aligned(&self) -> bool {

@@ -1,5 +1,5 @@
 //! A reader of bits over a stream of bytes.
-ghost use Rattle.std.specs.Prelude.{◌≡◌, ℕ, ◌+◌, ◌-◌, ◌*◌, ◌^◌, ◌<◌, ◌≤◌, false};
+ghost use Rattle.std.specs.Prelude.{◌≡◌, ℕ, ◌+◌, ◌-◌, ◌*◌, ◌^◌, ◌<◌, ◌≤◌, false, Ok};
 ghost use Rattle.std.proofs.Common.{rules, arith, refl};
 ghost use Rattle.bitstream_number.proofs.WordLemmas.{length-word};
 ghost use Rattle.bitstream_number.specs.Word.{word};
@@ -7,12 +7,13 @@ ghost use Rattle.bitstream_order.specs.Draw.{seen};
 ghost use Rattle.bitstream_order.specs.Mislead.{MisledOnlyBy};
 ghost use Rattle.bitstream_order.specs.Port.{port_state, fetched_count};
 ghost use Rattle.bitstream_stream.specs.Reads.{Reads};
-ghost use Rattle.bitstream_stream.specs.ReadTable.{unsigned_entry};
+ghost use Rattle.bitstream_stream.specs.ReadTable.{unsigned_entry, signed_entry, align_entry};
 
+use crate::complement::signed_of;
 use crate::read::BitRead;
-use bitstream_count::count::Count;
+use bitstream_count::count::{BitCount, Count, SignedCount};
 use bitstream_count::error::Error;
-use bitstream_number::number::{Numeric, UnsignedInteger};
+use bitstream_number::number::{Numeric, SignedInteger, UnsignedInteger};
 use bitstream_order::gather::{one_byte, whole_bytes};
 use bitstream_order::order::Endianness;
 use bitstream_order::port::Port;
@@ -87,7 +88,7 @@ impl<R: Source, E: Endianness> BitReader<R, E> {
 }
 
 impl<R: Source, E: Endianness> BitRead for BitReader<R, E> {
-    ghost use Rattle.bitstream_stream.specs.Reader.{reader_state, queued_bits, requests_made};
+    ghost use Rattle.bitstream_stream.specs.Reader.{reader_state, requests_made, AsksForWord};
 
     ghost order = { E.order };
 
@@ -95,9 +96,8 @@ impl<R: Source, E: Endianness> BitRead for BitReader<R, E> {
 
     fn read_unsigned_counted<C: Count, U: UnsignedInteger>(&mut self, bits: C) -> Result<U, Error>
         ensures reads { Reads (unsigned_entry E.order U.BITS_SIZE (C.number bits)) (⟦<BitReader<R, E> as BitRead>⟧.state self.old) (seen U.value result) (⟦<BitReader<R, E> as BitRead>⟧.state self.new) }
-        ensures requests { requests_made self.new ≤ requests_made self.old + 2 }
+        ensures asks { AsksForWord (C.number bits) self.old self.new }
         ensures misled { MisledOnlyBy R.known R.refuses (⟦<BitReader<R, E> as BitRead>⟧.state self.old).misled (⟦<BitReader<R, E> as BitRead>⟧.state self.new).misled }
-        ensures queued { C.number bits ≤ queued_bits self.old → requests_made self.new ≡ requests_made self.old }
     {
         let bits = bits.bits();
         if self.failed {
@@ -116,11 +116,32 @@ impl<R: Source, E: Endianness> BitRead for BitReader<R, E> {
         Ok(U::from_u8(first))
     }
 
+    fn read_signed_counted<C: SignedCount, S: SignedInteger>(&mut self, bits: C) -> Result<S, Error>
+        ensures reads { Reads (signed_entry E.order S.BITS_SIZE (C.number bits)) (⟦<BitReader<R, E> as BitRead>⟧.state self.old) (seen S.integer result) (⟦<BitReader<R, E> as BitRead>⟧.state self.new) }
+        ensures asks { AsksForWord (C.number bits) self.old self.new }
+        ensures misled { MisledOnlyBy R.known R.refuses (⟦<BitReader<R, E> as BitRead>⟧.state self.old).misled (⟦<BitReader<R, E> as BitRead>⟧.state self.new).misled }
+    {
+        let bits = bits.bits();
+        let word: S::Unsigned = self.read_unsigned_var(bits)?;
+        Ok(signed_of(word, bits))
+    }
+
+    fn read_unsigned_var<U: UnsignedInteger>(&mut self, bits: u32) -> Result<U, Error>
+        ensures reads { Reads (unsigned_entry E.order U.BITS_SIZE bits) (⟦<BitReader<R, E> as BitRead>⟧.state self.old) (seen U.value result) (⟦<BitReader<R, E> as BitRead>⟧.state self.new) }
+        ensures asks { AsksForWord bits self.old self.new }
+        ensures misled { MisledOnlyBy R.known R.refuses (⟦<BitReader<R, E> as BitRead>⟧.state self.old).misled (⟦<BitReader<R, E> as BitRead>⟧.state self.new).misled }
+    {
+        self.read_unsigned_counted(BitCount::unknown(bits))
+    }
+
     fn byte_aligned(&self) -> bool {
         !self.failed && self.queued == 0
     }
 
-    fn byte_align(&mut self) {
+    fn byte_align(&mut self)
+        ensures reads { Reads align_entry (⟦<BitReader<R, E> as BitRead>⟧.state self.old) (Ok tt) (⟦<BitReader<R, E> as BitRead>⟧.state self.new) }
+        ensures requests { requests_made self.new ≡ requests_made self.old }
+    {
         if !self.failed {
             self.queue = 0;
             self.queued = 0;
