@@ -1,5 +1,5 @@
 //! Words to the bytes of a stream.
-ghost use Rattle.std.specs.Prelude.{◌≡◌, ℕ, ◌+◌, ◌-◌, ◌*◌, ◌^◌, ◌<◌, ◌≤◌, ◌++◌, length, IfOk};
+ghost use Rattle.std.specs.Prelude.{◌≡◌, ℕ, ◌+◌, ◌-◌, ◌*◌, ◌^◌, ◌<◌, ◌≤◌, ◌++◌, ◌⊎◌, length, IfOk};
 ghost use Rattle.bitstream_number.specs.Word.{word};
 ghost use Rattle.bitstream_order.specs.Port.{port_state};
 ghost use Rattle.bitstream_order.specs.Pass.{PassesMore, PassesFront};
@@ -46,6 +46,7 @@ pub fn send_whole<T: Target, E: Endianness, U: UnsignedInteger>(
     ensures within { IfOk result (λ done. done ≤ n) }
     ensures rest { IfOk result (λ done. n < done + 8) }
     ensures requests { (port_state T.held T.places port.new).requests ≤ (port_state T.held T.places port.old).requests + 1 }
+    ensures none { n < at + 8 → (port_state T.held T.places port.new).requests ≡ (port_state T.held T.places port.old).requests }
 {
     let count = (n - at) / 8;
     match count {
@@ -76,7 +77,9 @@ pub fn send_first<T: Target, E: Endianness, U: UnsignedInteger>(
     requires full { 8 ≤ queued + n }
     ensures passes { PassesFront E.order (word E.order queued queue) (word E.order n (U.value value)) (port_state T.held T.places port.old) result (port_state T.held T.places port.new) }
     ensures within { IfOk result (λ done. done ≤ n) }
+    ensures gone { IfOk result (λ done. (queued ≡ 0) ⊎ (queued + done ≡ 8)) }
     ensures requests { (port_state T.held T.places port.new).requests ≤ (port_state T.held T.places port.old).requests + 1 }
+    ensures none { queued ≡ 0 → (port_state T.held T.places port.new).requests ≡ (port_state T.held T.places port.old).requests }
 {
     if queued == 0 {
         return Ok(0);
@@ -106,6 +109,7 @@ pub fn send_front<T: Target, E: Endianness, U: UnsignedInteger>(
     ensures within { IfOk result (λ done. done ≤ n) }
     ensures rest { IfOk result (λ done. n < done + 8) }
     ensures requests { (port_state T.held T.places port.new).requests ≤ (port_state T.held T.places port.old).requests + 2 }
+    ensures one { queued + n < 16 → (port_state T.held T.places port.new).requests ≤ (port_state T.held T.places port.old).requests + 1 }
 {
     match send_first::<T, E, U>(port, queue, queued, value, n) {
         Ok(at) => send_whole::<T, E, U>(port, value, n, at),

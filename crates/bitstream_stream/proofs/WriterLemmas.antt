@@ -13,6 +13,9 @@ use Rattle.bitstream_order.proofs.DrawLemmas.{word-none}
 use Rattle.bitstream_order.proofs.PartLemmas.{put_word, put_below}
 use Rattle.bitstream_order.proofs.PassLemmas.{piece_below, piece_last}
 use Rattle.bitstream_stream.specs.Sink.{Sink, WriteOutcome, Appended, Faulted, had_fault, did_write}
+use Rattle.bitstream_stream.specs.WriteTable.{bit}
+use Rattle.bitstream_stream.proofs.WriteLemmas.{word-bit}
+use mir.Val.{bool_byte}
 use Rattle.bitstream_stream.specs.Writer.{WriterState, writer_state, fresh_writer, Carries, Adds, queue_sink, writer_sink, Pushes}
 use Rattle.bitstream_stream.proofs.SinkParts.{Begun}
 use Rattle.bitstream_stream.specs.declared.writer.BitWriter.{BitWriter}
@@ -106,3 +109,12 @@ lent_adds held o stream a b x fresh h aligned =
     let kept = h.done.places in
     let first = ap (λ (s : WriterState). s.port.places) fresh in
     (subst (λ (m : Option (List ℕ)). Adds o m x (held b.port.stream.at.now)) from (adds (lent_held held) lent_places o a b x h.done.grown none aligned), cc (kept, first))
+
+one_word : (o : Order) (b : Bool) (n : ℕ) → n ≡ bool_byte b → word o 1 n ≡ b ∷ []
+one_word o true n e = ap (word o 1) e ∙ word-bit o true
+one_word o false n e = ap (word o 1) e ∙ word-bit o false
+
+-- and of one bit
+pub pushes_bit : (o : Order) (b : Bool) (n : ℕ) (old : WriterState) (result : Result (Unit {0}) Error) (new : WriterState) → n ≡ bool_byte b → old.failed ≡ false → Pushes o (word o 1 n) old result new
+    → WriteOutcome (queue_sink o) false (bit b) old result new
+pushes_bit o b n old result new is sound h = pushes_writes o (b ∷ []) (bit b) old result new sound refl (subst (λ w. Pushes o w old result new) (one_word o b n is) h)

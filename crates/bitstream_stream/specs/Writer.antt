@@ -6,7 +6,7 @@ use Rattle.std.proofs.Common.{refl, sym, ap, ◌∙◌, append-nil, append_assoc
 use Rattle.std.proofs.KnownBytes.{Appends-nil, Appends-trans}
 use Rattle.bitstream_number.specs.Word.{Order, word, bits}
 use Rattle.bitstream_number.proofs.WordLemmas.{length-word, length-bits, bits-append}
-use Rattle.bitstream_order.specs.Port.{PortState, port_state}
+use Rattle.bitstream_order.specs.Port.{PortState, port_state, requests_count}
 use Rattle.bitstream_count.specs.declared.error.Error.{Error}
 use Rattle.bitstream_stream.specs.Sink.{Sink, Appended, Faulted, inner_sink}
 use Rattle.bitstream_stream.specs.declared.writer.BitWriter.{BitWriter}
@@ -26,6 +26,14 @@ writer_state held places w = record {
   queue = w.queue;
   failed = w.failed;
 }
+
+-- how many requests a writer made
+abbrev pub requests_made : {W E : Type 0} → BitWriter W E → ℕ
+requests_made writer = requests_count writer.port
+
+-- how many bits a writer has yet to hand on
+abbrev pub queued_bits : {W E : Type 0} → BitWriter W E → ℕ
+queued_bits writer = writer.queued
 
 -- a writer to which nothing was written, by what its stream tells
 abbrev pub fresh_writer : Option (List ℕ) → List GName → WriterState

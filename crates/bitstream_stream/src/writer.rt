@@ -3,9 +3,9 @@ ghost use Rattle.std.specs.Prelude.{◌≡◌, ℕ, ◌+◌, ◌<◌, ◌≤◌,
 
 use crate::check::{check, check_signed};
 use crate::write::BitWrite;
-use bitstream_count::count::{Count, SignedCount};
+use bitstream_count::count::{BitCount, Count, SignedCount};
 use bitstream_count::error::Error;
-use bitstream_number::number::{Numeric, SignedInteger, UnsignedInteger};
+use bitstream_number::number::{Numeric, SignedInteger, UnsignedInteger, Width};
 use bitstream_order::order::Endianness;
 use bitstream_order::port::Port;
 use bitstream_order::send::send_front;
@@ -31,7 +31,7 @@ pub struct BitWriter<W, E> {
 
 impl<W: Target, E: Endianness> BitWriter<W, E> {
     ghost use Rattle.bitstream_number.specs.Word.{word};
-    ghost use Rattle.bitstream_stream.specs.Writer.{writer_state, fresh_writer, Pushes};
+    ghost use Rattle.bitstream_stream.specs.Writer.{writer_state, fresh_writer, requests_made, queued_bits, Pushes};
 
     /// A writer to a stream to which it handed nothing on yet.
     pub fn new(stream: W) -> BitWriter<W, E>
@@ -60,8 +60,9 @@ impl<W: Target, E: Endianness> BitWriter<W, E> {
         requires sound { self.old.failed ≡ false }
         requires room { n ≤ U.BITS_SIZE }
         ensures pushes { Pushes E.order (word E.order n (U.value value)) (writer_state W.held W.places self.old) result (writer_state W.held W.places self.new) }
-        ensures requests { (writer_state W.held W.places self.new).port.requests ≤ (writer_state W.held W.places self.old).port.requests + 2 }
-        ensures unasked { self.old.queued + n < 8 → self.new.port ≡ self.old.port }
+        ensures requests { requests_made self.new ≤ requests_made self.old + 2 }
+        ensures one { queued_bits self.old + n < 16 → requests_made self.new ≤ requests_made self.old + 1 }
+        ensures queued { queued_bits self.old + n < 8 → requests_made self.new ≡ requests_made self.old }
     {
         if self.queued + n < 8 {
             let part = E::cut(value, n, 0, n);
@@ -84,9 +85,9 @@ impl<W: Target, E: Endianness> BitWriter<W, E> {
 }
 
 impl<W: Target, E: Endianness> BitWrite for BitWriter<W, E> {
-    ghost use Rattle.bitstream_stream.specs.Writer.{writer_state, writer_sink};
+    ghost use Rattle.bitstream_stream.specs.Writer.{writer_sink, requests_made, queued_bits};
     ghost use Rattle.bitstream_stream.specs.Sink.{Writes};
-    ghost use Rattle.bitstream_stream.specs.WriteTable.{unsigned, signed};
+    ghost use Rattle.bitstream_stream.specs.WriteTable.{unsigned, signed, bit as one_bit};
 
     ghost sink = { writer_sink W.held W.places E.order };
 
@@ -96,8 +97,8 @@ impl<W: Target, E: Endianness> BitWrite for BitWriter<W, E> {
         value: U,
     ) -> Result<(), Error>
         ensures writes { Writes (writer_sink W.held W.places E.order) (unsigned E.order U.BITS_SIZE (C.number count) (U.value value)) self.old result self.new }
-        ensures requests { (writer_state W.held W.places self.new).port.requests ≤ (writer_state W.held W.places self.old).port.requests + 2 }
-        ensures unasked { (writer_state W.held W.places self.old).queued + C.number count < 8 → (writer_state W.held W.places self.new).port ≡ (writer_state W.held W.places self.old).port }
+        ensures requests { requests_made self.new ≤ requests_made self.old + 2 }
+        ensures queued { queued_bits self.old + C.number count < 8 → requests_made self.new ≡ requests_made self.old }
     {
         if self.failed {
             return Err(Error::Failed);
@@ -113,8 +114,8 @@ impl<W: Target, E: Endianness> BitWrite for BitWriter<W, E> {
         value: S,
     ) -> Result<(), Error>
         ensures writes { Writes (writer_sink W.held W.places E.order) (signed E.order S.BITS_SIZE (C.number count) (S.integer value)) self.old result self.new }
-        ensures requests { (writer_state W.held W.places self.new).port.requests ≤ (writer_state W.held W.places self.old).port.requests + 2 }
-        ensures unasked { (writer_state W.held W.places self.old).queued + C.number count < 8 → (writer_state W.held W.places self.new).port ≡ (writer_state W.held W.places self.old).port }
+        ensures requests { requests_made self.new ≤ requests_made self.old + 2 }
+        ensures queued { queued_bits self.old + C.number count < 8 → requests_made self.new ≡ requests_made self.old }
     {
         if self.failed {
             return Err(Error::Failed);
@@ -122,6 +123,54 @@ impl<W: Target, E: Endianness> BitWrite for BitWriter<W, E> {
         let bits = count.bits();
         check_signed(bits, value)?;
         self.push(complement(value, bits), bits)
+    }
+
+    fn write_unsigned_var<U: UnsignedInteger>(&mut self, bits: u32, value: U) -> Result<(), Error>
+        ensures writes { Writes (writer_sink W.held W.places E.order) (unsigned E.order U.BITS_SIZE bits (U.value value)) self.old result self.new }
+        ensures requests { requests_made self.new ≤ requests_made self.old + 2 }
+        ensures queued { queued_bits self.old + bits < 8 → requests_made self.new ≡ requests_made self.old }
+    {
+        self.write_unsigned_counted(BitCount::unknown(bits), value)
+    }
+
+    fn write_unsigned<B: Width, U: UnsignedInteger>(&mut self, value: U) -> Result<(), Error>
+        ensures writes { Writes (writer_sink W.held W.places E.order) (unsigned E.order U.BITS_SIZE B.BITS (U.value value)) self.old result self.new }
+        ensures requests { requests_made self.new ≤ requests_made self.old + 2 }
+        ensures queued { queued_bits self.old + B.BITS < 8 → requests_made self.new ≡ requests_made self.old }
+    {
+        self.write_unsigned_var(B::BITS, value)
+    }
+
+    fn write_signed_var<S: SignedInteger>(&mut self, bits: u32, value: S) -> Result<(), Error>
+        ensures writes { Writes (writer_sink W.held W.places E.order) (signed E.order S.BITS_SIZE bits (S.integer value)) self.old result self.new }
+        ensures requests { requests_made self.new ≤ requests_made self.old + 2 }
+        ensures queued { queued_bits self.old + bits < 8 → requests_made self.new ≡ requests_made self.old }
+    {
+        if self.failed {
+            return Err(Error::Failed);
+        }
+        check_signed(bits, value)?;
+        let word = complement(value, bits);
+        self.push(word, bits)
+    }
+
+    fn write_signed<B: Width, S: SignedInteger>(&mut self, value: S) -> Result<(), Error>
+        ensures writes { Writes (writer_sink W.held W.places E.order) (signed E.order S.BITS_SIZE B.BITS (S.integer value)) self.old result self.new }
+        ensures requests { requests_made self.new ≤ requests_made self.old + 2 }
+        ensures queued { queued_bits self.old + B.BITS < 8 → requests_made self.new ≡ requests_made self.old }
+    {
+        self.write_signed_var(B::BITS, value)
+    }
+
+    fn write_bit(&mut self, bit: bool) -> Result<(), Error>
+        ensures writes { Writes (writer_sink W.held W.places E.order) (one_bit bit) self.old result self.new }
+        ensures requests { requests_made self.new ≤ requests_made self.old + 1 }
+        ensures queued { queued_bits self.old < 7 → requests_made self.new ≡ requests_made self.old }
+    {
+        if self.failed {
+            return Err(Error::Failed);
+        }
+        self.push(u8::from(bit), 1)
     }
 
     fn byte_aligned(&self) -> bool {
