@@ -17,7 +17,9 @@ pub mod number {
 
 /// Numbers of bits, and values that are known to fit one.
 pub mod count {
-    pub use bitstream_count::count::{BitCount, Checked, CheckedError, CheckedUnsigned, Count, LsbMask};
+    pub use bitstream_count::count::{
+        BitCount, Checked, CheckedError, CheckedUnsigned, Count, LsbMask, SignedBitCount, SignedCount,
+    };
 }
 
 /// Types whose values are words of bits.
@@ -48,7 +50,9 @@ pub mod write {
     pub use bitstream_value::write::BitWriteExt;
 }
 
-pub use count::{BitCount, Checked, CheckedError, CheckedUnsigned, Count, LsbMask};
+pub use count::{
+    BitCount, Checked, CheckedError, CheckedUnsigned, Count, LsbMask, SignedBitCount, SignedCount,
+};
 pub use error::Error;
 pub use integer::Integer;
 pub use number::{Bits, Numeric, Primitive, SignedInteger, UnsignedInteger, Width};
