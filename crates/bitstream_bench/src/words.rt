@@ -1,10 +1,12 @@
 //! Words of numbers, over streams that drip, refuse and count.
-use bitstream_io::{BE, BigEndian, BitRead, BitReader, BitWrite, BitWriter, Endianness, Error, LE, LittleEndian, Source};
+use crate::{Count, Drip, Endless, Refuse};
+use bitstream_io::{
+    BE, BigEndian, BitRead, BitReader, BitWrite, BitWriter, Endianness, Error, LE, LittleEndian,
+    Source,
+};
 use std::io::{ErrorKind, Write};
 use std::process::Abort;
 use std::test::Fail;
-
-use crate::{Count, Drip, Endless, Refuse};
 
 const D: [u8; 4] = [0xb1, 0xed, 0x3b, 0xc1];
 
@@ -19,7 +21,10 @@ fn reads<S: Source + Drop, E: Endianness + Drop>(rt: &impl Abort, stream: S, wan
     let mut reader = BitReader::<S, E>::new(stream);
     for at in 0..5 {
         let answer = reader.read_unsigned_var::<u32>(WIDTHS[at]);
-        assert!(rt; matches!(answer, Ok(value) if value == want[at]), "word {at}");
+        assert!(rt;
+            matches!(answer, Ok(value) if value == want[at]),
+            "word {at}"
+        );
     }
     assert!(rt; reader.byte_aligned());
     assert!(rt; matches!(reader.read_unsigned_var::<u32>(33), Err(Error::ReadBits)));
@@ -71,7 +76,11 @@ fn answers_before_a_refusal_stay(rt: HostRuntime) {
 
 #[test]
 fn names_the_kind_of_a_refused_read(rt: HostRuntime) {
-    for kind in [ErrorKind::UnexpectedEof, ErrorKind::OutOfMemory, ErrorKind::TimedOut] {
+    for kind in [
+        ErrorKind::UnexpectedEof,
+        ErrorKind::OutOfMemory,
+        ErrorKind::TimedOut,
+    ] {
         let mut reader = BitReader::<_, BE>::new(Refuse {
             inner: &D[..],
             left: 0,
@@ -109,7 +118,10 @@ fn asks_for_a_byte_when_a_bit_of_it_is_needed(rt: HostRuntime) -> Result<(), Fai
 fn reads_a_stream_with_no_end(rt: HostRuntime) -> Result<(), Fail> {
     let mut reader = BitReader::<_, LE>::endian(Endless { byte: 0xa5 }, LittleEndian);
     for _ in 0..3 {
-        assert_eq!(rt; reader.read_unsigned_var::<u128>(128)?, 0xa5a5a5a5_a5a5a5a5_a5a5a5a5_a5a5a5a5);
+        assert_eq!(rt;
+            reader.read_unsigned_var::<u128>(128)?,
+            0xa5a5a5a5_a5a5a5a5_a5a5a5a5_a5a5a5a5
+        );
     }
     assert!(rt; reader.read_bit()?);
     reader.byte_align();
@@ -202,7 +214,11 @@ fn writes_refused<W: Write>(rt: &impl Abort, stream: &mut W, served: u32, kind: 
 #[test]
 fn fails_after_a_refused_write(rt: HostRuntime) {
     for served in 0..4 {
-        for kind in [ErrorKind::BrokenPipe, ErrorKind::UnexpectedEof, ErrorKind::OutOfMemory] {
+        for kind in [
+            ErrorKind::BrokenPipe,
+            ErrorKind::UnexpectedEof,
+            ErrorKind::OutOfMemory,
+        ] {
             let mut bytes = Vec::new(rt.alloc());
             writes_refused(&rt, &mut bytes, served, kind);
             assert_eq!(rt; bytes.len(), served as usize);

@@ -1,7 +1,7 @@
 -- A signed number fits n bits where nothing but its sign stands above the lowest n - 1.
 use Rattle.std.specs.Prelude.{ℤ, pos, negsuc, ◌≢◌}
 use Rattle.std.specs.Int.{int_shr}
-use Rattle.std.proofs.Common.{◌≡◌, ℕ, ◌+◌, ◌-◌, ◌*◌, ◌/◌, ◌%◌, ◌^◌, ◌<◌, ◌≤◌, ◌⊎◌, inl, inr, ap, sym, ◌∙◌, arith, mod-lt}
+use Rattle.std.proofs.Common.{◌≡◌, ℕ, ◌-◌, ◌*◌, ◌/◌, ◌^◌, ◌<◌, ◌≤◌, ◌⊎◌, inl, inr, ap, sym, ◌∙◌, arith, mod-lt}
 use Rattle.std.proofs.Math.IntN.{pos-ne-negsuc}
 use Rattle.std.proofs.Math.Nat.{div-eq_of_lt, pow-le-pow_right, zero-mul}
 use Rattle.std.proofs.lemmas.Nat.{pow_pos, shr_split}

@@ -1,5 +1,5 @@
 -- The numbers of bits that a count may be.
-use Rattle.std.specs.Prelude.{ℕ, ◌<◌, ◌≤◌, ◌⊎◌, ◌&&◌, nat_le, if◌then◌else◌, Option, Some, None}
+use Rattle.std.specs.Prelude.{ℕ, ◌<◌, ◌⊎◌, ◌&&◌, nat_le, if◌then◌else◌, Option, Some, None}
 
 -- n is below `least`, or above `most`
 abbrev pub IsOutside : ℕ → ℕ → ℕ → Type 0

@@ -1,7 +1,9 @@
 //! What holds of counts, whatever uses them. Each function states a law by its contract, and makes
 //! the calls that the law speaks of.
 
-ghost use Rattle.std.specs.Prelude.{◌≡◌, ◌↔◌, IsTrue, Ok, Some};
+ghost use Rattle.std.specs.Hash as fed;
+ghost use Rattle.std.specs.List.{fold};
+ghost use Rattle.std.specs.Prelude.{◌≡◌, ◌↔◌, IsOk, IsTrue, Ok, Some};
 
 use crate::count::{BitCount, FixedBitCount, FixedSignedBitCount, SignedBitCount};
 use std::hash::{Hash, Hasher};
@@ -14,40 +16,30 @@ pub fn equal_counts_are_equal_numbers<const MAX: u32>(a: &BitCount<MAX>, b: &Bit
 }
 
 /// Two signed counts are equal exactly where their numbers are.
-pub fn equal_signed_counts_are_equal_numbers<const MAX: u32>(a: &SignedBitCount<MAX>, b: &SignedBitCount<MAX>) -> bool
+pub fn equal_signed_counts_are_equal_numbers<const MAX: u32>(
+    a: &SignedBitCount<MAX>,
+    b: &SignedBitCount<MAX>,
+) -> bool
     ensures { IsTrue result ↔ (a.now ≡ b.now) }
 {
     a == b
 }
 
-/// Equal counts hash alike.
-pub fn equal_counts_hash_alike<const MAX: u32, H: Hasher>(
-    a: &BitCount<MAX>,
-    b: &BitCount<MAX>,
-    first: &mut H,
-    second: &mut H,
-)
-    requires counts { a.now ≡ b.now }
-    requires hashers { first.old ≡ second.old }
-    ensures { first.new ≡ second.new }
+/// A count hashes as its number does, so that equal counts hash alike.
+pub fn counts_hash_as_their_numbers<const MAX: u32, H: Hasher>(count: &BitCount<MAX>, state: &mut H)
+    ensures { state.new ≡ fold H.write state.old (fed.u32 count.now) }
 {
-    a.hash(first);
-    b.hash(second);
+    count.hash(state);
 }
 
-/// Equal signed counts hash alike.
-pub fn equal_signed_counts_hash_alike<const MAX: u32, H: Hasher>(
-    a: &SignedBitCount<MAX>,
-    b: &SignedBitCount<MAX>,
-    first: &mut H,
-    second: &mut H,
+/// A signed count hashes as its number does, so that equal signed counts hash alike.
+pub fn signed_counts_hash_as_their_numbers<const MAX: u32, H: Hasher>(
+    count: &SignedBitCount<MAX>,
+    state: &mut H,
 )
-    requires counts { a.now ≡ b.now }
-    requires hashers { first.old ≡ second.old }
-    ensures { first.new ≡ second.new }
+    ensures { state.new ≡ fold H.write state.old (fed.u32 count.now) }
 {
-    a.hash(first);
-    b.hash(second);
+    count.hash(state);
 }
 
 /// A count comes back from its number.
@@ -60,7 +52,11 @@ pub fn counts_go_back<const MAX: u32>(count: BitCount<MAX>) -> Result<BitCount<M
 /// A signed count comes back from its number, and from the count that it is.
 pub fn signed_counts_go_back<const MAX: u32>(
     count: SignedBitCount<MAX>,
-) -> (Result<SignedBitCount<MAX>, u32>, Result<SignedBitCount<MAX>, ()>, Option<SignedBitCount<MAX>>)
+) -> (
+    Result<SignedBitCount<MAX>, u32>,
+    Result<SignedBitCount<MAX>, ()>,
+    Option<SignedBitCount<MAX>>,
+)
     ensures number { result.0 ≡ Ok count.entry }
     ensures count { result.1 ≡ Ok count.entry }
     ensures signed { result.2 ≡ Some count.entry }
@@ -72,16 +68,20 @@ pub fn signed_counts_go_back<const MAX: u32>(
     )
 }
 
-/// A fixed count comes back from the count that it is, whatever the greatest count may be.
-pub fn fixed_counts_go_back<const BITS: u32>(count: FixedBitCount<BITS>) -> bool
-    ensures { IsTrue result }
+/// A fixed count comes back from the count that it is.
+pub fn fixed_counts_go_back<const BITS: u32>(
+    count: FixedBitCount<BITS>,
+) -> Result<FixedBitCount<BITS>, BitCount<BITS>>
+    ensures { IsOk result }
 {
-    FixedBitCount::<BITS>::try_from(BitCount::from(count)).is_ok()
+    FixedBitCount::try_from(BitCount::from(count))
 }
 
 /// A fixed signed count comes back from the signed count that it is.
-pub fn fixed_signed_counts_go_back<const BITS: u32>(count: FixedSignedBitCount<BITS>) -> bool
-    ensures { IsTrue result }
+pub fn fixed_signed_counts_go_back<const BITS: u32>(
+    count: FixedSignedBitCount<BITS>,
+) -> Result<FixedSignedBitCount<BITS>, SignedBitCount<BITS>>
+    ensures { IsOk result }
 {
-    FixedSignedBitCount::<BITS>::try_from(SignedBitCount::from(count)).is_ok()
+    FixedSignedBitCount::try_from(SignedBitCount::from(count))
 }

@@ -5,6 +5,7 @@ pub use Rattle.bitstream_order.specs.Draw
 pub use Rattle.bitstream_order.specs.Fault
 pub use Rattle.bitstream_order.specs.Mislead
 pub use Rattle.bitstream_order.specs.Port
+pub use Rattle.bitstream_stream.specs.Alignment
 pub use Rattle.bitstream_stream.specs.ReadTable
 pub use Rattle.bitstream_stream.specs.Reader
 pub use Rattle.bitstream_stream.specs.Reads

@@ -1,6 +1,6 @@
 -- Masks, and values that stand above one another, over plain numbers.
 use Rattle.std.specs.Prelude.{bit_or, bit_and}
-use Rattle.std.proofs.Common.{◌≡◌, ℕ, ◌+◌, ◌-◌, ◌*◌, ◌/◌, ◌%◌, ◌^◌, ◌<◌, ◌≤◌, ap, sym, ◌∙◌, arith}
+use Rattle.std.proofs.Common.{◌≡◌, ℕ, ◌+◌, ◌-◌, ◌*◌, ◌/◌, ◌%◌, ◌^◌, ◌<◌, ◌≤◌, ap, ◌∙◌, arith}
 use Rattle.std.proofs.lemmas.Nat.{and_mask, shr_split, or_shifted}
 use Rattle.std.proofs.lemmas.Nat.Bits.{ones_shr}
 

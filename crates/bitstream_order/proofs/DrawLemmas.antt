@@ -1,6 +1,6 @@
 -- What the kernels draw from a port.
 use Rattle.std.proofs.KnownBytes.{Consumes-nil, Consumes-trans}
-use Rattle.std.proofs.Common.{◌≡◌, ℕ, ◌+◌, ◌-◌, ◌*◌, ◌/◌, ◌%◌, ◌^◌, ◌<◌, ◌≤◌, Bool, List, [], ◌∷◌, ◌++◌, length, refl, sym, ap, ap₂, ◌∙◌, subst, arith, append_assoc, append-nil, length-append}
+use Rattle.std.proofs.Common.{◌≡◌, ℕ, ◌+◌, ◌-◌, ◌*◌, ◌^◌, ◌<◌, ◌≤◌, List, [], ◌∷◌, ◌++◌, length, refl, sym, ap, ap₂, ◌∙◌, subst, arith, append_assoc, append-nil, length-append}
 use Rattle.bitstream_number.specs.Word.{Order, High, Low, digits, word, bits}
 use Rattle.bitstream_number.proofs.WordLemmas.{length-word, length-bits, bits-append}
 use Rattle.bitstream_order.specs.Parts.{first_part, rest_part, put_number}
@@ -66,16 +66,16 @@ draws_byte o left queue m v s n r f q byte old mid new h k small le e first rest
   misled = k.misled ∙ h.misled;
   places = k.places ∙ h.places;
   word =
-    let f_below : f < 2 ^ s = subst (λ x. x < 2 ^ s) (sym first) (first_below o byte 8 s small le) in
-    let before : word o left queue ++ bits o h.bytes ≡ word o m v = h.word ∙ whole o m v in
-    let last : bits o (byte ∷ []) ≡ word o s f ++ word o (8 - s) q =
-    append-nil (word o 8 byte) ∙ split_parts o byte 8 s le ∙ sym (ap₂ (λ x y. word o s x ++ word o (8 - s) y) first rest) in
-    let front_is : word o (m + s) r ≡ word o m v ++ word o s f = ap (word o (m + s)) put ∙ put_word o v m f s h.below f_below in
-    ap (λ w. word o left queue ++ w) (bits-append o h.bytes (byte ∷ [])) ∙ sym (append_assoc (word o left queue) (bits o h.bytes) (bits o (byte ∷ [])))
-    ∙ ap₂ (λ x y. x ++ y) before last ∙ sym (append_assoc (word o m v) (word o s f) (word o (8 - s) q)) ∙ ap (λ w. w ++ word o (8 - s) q) (sym front_is);
+      let f_below : f < 2 ^ s = subst (λ x. x < 2 ^ s) (sym first) (first_below o byte 8 s small le) in
+      let before : word o left queue ++ bits o h.bytes ≡ word o m v = h.word ∙ whole o m v in
+      let last : bits o (byte ∷ []) ≡ word o s f ++ word o (8 - s) q =
+      append-nil (word o 8 byte) ∙ split_parts o byte 8 s le ∙ sym (ap₂ (λ x y. word o s x ++ word o (8 - s) y) first rest) in
+      let front_is : word o (m + s) r ≡ word o m v ++ word o s f = ap (word o (m + s)) put ∙ put_word o v m f s h.below f_below in
+      ap (λ w. word o left queue ++ w) (bits-append o h.bytes (byte ∷ [])) ∙ sym (append_assoc (word o left queue) (bits o h.bytes) (bits o (byte ∷ [])))
+      ∙ ap₂ (λ x y. x ++ y) before last ∙ sym (append_assoc (word o m v) (word o s f) (word o (8 - s) q)) ∙ ap (λ w. w ++ word o (8 - s) q) (sym front_is);
   below =
-    let f_below : f < 2 ^ s = subst (λ x. x < 2 ^ s) (sym first) (first_below o byte 8 s small le) in
-    subst (λ x. x < 2 ^ (m + s)) (sym put) (put_below o v m f s h.below f_below);
+      let f_below : f < 2 ^ s = subst (λ x. x < 2 ^ s) (sym first) (first_below o byte 8 s small le) in
+      subst (λ x. x < 2 ^ (m + s)) (sym put) (put_below o v m f s h.below f_below);
 })
 
 -- how many bits there are

@@ -1,10 +1,10 @@
 -- What refusals of a stream come to.
 use Rattle.std.specs.declared.io.ErrorKind.{ErrorKind}
 use Rattle.std.specs.declared.io.ErrorKind.TheVariants as kinds
-use Rattle.std.proofs.Common.{◌≡◌, ℕ, ◌+◌, ◌<◌, ◌≤◌, ◌⊎◌, inl, inr, List, length, Option, Some, None, refl, sym, ap, ◌∙◌, subst, arith}
+use Rattle.std.proofs.Common.{◌≡◌, ℕ, ◌+◌, ◌<◌, ◌⊎◌, inl, inr, List, length, Option, Some, None, refl, sym, ap, ◌∙◌, subst, arith}
 use Rattle.std.proofs.lemmas.Bool.{cases_lt, lt-ltb, le-ltb}
 use Rattle.bitstream_count.specs.declared.error.Error.{Error}
-use Rattle.bitstream_count.specs.declared.error.Error.TheVariants.{EndOfInput, Stream, OutOfMemory, ReadBits, Checked, NoSignBit, BoolWidth, NonZeroWidth, VariableWidthOverflow, CounterOverflow, RunTooLong, Place, Failed}
+use Rattle.bitstream_count.specs.declared.error.Error.TheVariants.{EndOfInput, Stream, OutOfMemory}
 use Rattle.bitstream_order.specs.Mislead.{Misleads}
 use Rattle.bitstream_order.specs.Fault.{refusal_of, read_refusal_of, IsFault, misled_by}
 use Rattle.bitstream_order.specs.Port.{PortState, Refuses}
@@ -45,8 +45,16 @@ misled_known known refuses before after n kind EndOfInput (Some xs) tells by_kin
   | inr enough ↦ inr (record { before = before; after = after; wanted = n; kind = kind; bytes = xs; tells = tells; refused = refused; untrue = λ _ few. absurd (omega arith) })
 ]
 misled_known known refuses before after n kind error (Some xs) tells by_kind refused =
-    inr (record { before = before; after = after; wanted = n; kind = kind; bytes = xs; tells = tells; refused = refused;
-      untrue = λ end _. let ended : error ≡ EndOfInput = by_kind ∙ ap read_refusal_of end in cc })
+    inr (record {
+      before = before;
+      after = after;
+      wanted = n;
+      kind = kind;
+      bytes = xs;
+      tells = tells;
+      refused = refused;
+      untrue = λ end _. let ended : error ≡ EndOfInput = by_kind ∙ ap read_refusal_of end in cc;
+    })
 
 pub misled_or_true : {S : Type 0} (known : S → Option (List ℕ)) (refuses : S → ℕ → ErrorKind → S → Type 0) (before after : S) (n : ℕ) (kind : ErrorKind) (error : Error)
     → error ≡ read_refusal_of kind → refuses before n kind after → (misled_by (known before) n error ≡ 0) ⊎ Misleads known refuses

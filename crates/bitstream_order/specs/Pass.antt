@@ -3,7 +3,7 @@ use Rattle.std.specs.Prelude.{◌≡◌, ℕ, ◌+◌, List, [], Bool, ◌++◌,
 use Rattle.std.specs.Io.KnownBytes.{Appends}
 use Rattle.std.specs.declared.io.ErrorKind.{ErrorKind}
 use Rattle.bitstream_count.specs.declared.error.Error.{Error}
-use Rattle.bitstream_number.specs.Word.{Order, word, bits}
+use Rattle.bitstream_number.specs.Word.{Order, bits}
 use Rattle.bitstream_order.specs.Fault.{refusal_of}
 use Rattle.bitstream_order.specs.Port.{PortState}
 

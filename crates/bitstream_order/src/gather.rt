@@ -28,7 +28,12 @@ pub fn gather<E: Endianness, U: UnsignedInteger>(acc: U, done: u32, bytes: &[u8]
 }
 
 /// The number of `done` bits with the bytes of the stream behind them that fill a buffer.
-pub fn draw<S: Source, E: Endianness, U: UnsignedInteger>(port: &mut Port<S>, acc: U, done: u32, buf: &mut [u8]) -> Result<U, Error>
+pub fn draw<S: Source, E: Endianness, U: UnsignedInteger>(
+    port: &mut Port<S>,
+    acc: U,
+    done: u32,
+    buf: &mut [u8],
+) -> Result<U, Error>
     requires below { U.value acc < 2 ^ done }
     requires room { done + 8 * length buf.old ≤ U.BITS_SIZE }
     ensures gathers { Gathers E.order (length buf.old) done (U.value acc) (port_state S.known S.places port.old) (seen U.value result) (port_state S.known S.places port.new) }
@@ -42,7 +47,12 @@ pub fn draw<S: Source, E: Endianness, U: UnsignedInteger>(port: &mut Port<S>, ac
 }
 
 /// The number of `done` bits with some bytes of the stream behind them.
-pub fn whole_bytes<S: Source, E: Endianness, U: UnsignedInteger>(port: &mut Port<S>, acc: U, done: u32, count: u32) -> Result<U, Error>
+pub fn whole_bytes<S: Source, E: Endianness, U: UnsignedInteger>(
+    port: &mut Port<S>,
+    acc: U,
+    done: u32,
+    count: u32,
+) -> Result<U, Error>
     requires below { U.value acc < 2 ^ done }
     requires room { done + 8 * count ≤ U.BITS_SIZE }
     ensures gathers { Gathers E.order count done (U.value acc) (port_state S.known S.places port.old) (seen U.value result) (port_state S.known S.places port.new) }

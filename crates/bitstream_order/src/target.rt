@@ -7,7 +7,7 @@ use crate::lent::Lent;
 use std::io;
 use std::io::Write;
 
-/// Where bytes go: any `Write`, or one that is [`Lent`].
+/// Where bytes go: any `Write`, or a target that is [`Lent`].
 pub trait Target {
     // The bytes that the target holds, where it tells.
     ghost held: { Self → Option (List ℕ) };
@@ -31,12 +31,12 @@ impl<W: Write> Target for W {
     }
 }
 
-impl<'a, W: Write> Target for Lent<'a, W> {
-    ghost held = { λ l. W.contents l.at.now };
+impl<'a, T: Target> Target for Lent<'a, T> {
+    ghost held = { λ lent. T.held lent.at.now };
 
-    ghost places = { λ l. l.at.ghost_name ∷ [] };
+    ghost places = { λ lent. lent.at.ghost_name ∷ T.places lent.at.now };
 
     fn hand(&mut self, bytes: &[u8]) -> io::Result<()> {
-        self.at.write_all(bytes)
+        self.at.hand(bytes)
     }
 }

@@ -1,8 +1,8 @@
 -- Two words, one behind the other.
-use Rattle.std.proofs.Common.{◌≡◌, ℕ, ◌+◌, ◌*◌, ◌^◌, ◌≤◌, Bool, List, ◌++◌, length, drop, Result, Ok, Err, refl, sym, ap, ◌∙◌, arith}
+use Rattle.std.proofs.Common.{◌≡◌, ℕ, ◌+◌, ◌*◌, ◌^◌, ◌≤◌, Bool, List, ◌++◌, length, drop, Result, Ok, Err, refl, ap, ◌∙◌, arith}
 use Rattle.bitstream_count.specs.declared.error.Error.{Error}
 use Rattle.bitstream_count.specs.Entry.{ReadEntry, Front, TooShort, Takes, longer, chain, gives, takes, front_then, result_then}
-use Rattle.bitstream_number.specs.Word.{Order, High, Low, number, joined}
+use Rattle.bitstream_number.specs.Word.{Order, High, Low, number}
 use Rattle.bitstream_number.proofs.WordLemmas.{number-joined}
 use Rattle.bitstream_stream.specs.ReadTable.{unsigned_entry}
 use Rattle.bitstream_stream.proofs.EntryLemmas.{Same, Same-trans, chain_takes, map_takes}
@@ -29,9 +29,9 @@ words_join : (o : Order) (size a b : ℕ) (join : ℕ → ℕ → ℕ) → a + b
 words_join o size a b join within law =
     rw (unsigned-takes o size a (omega arith), unsigned-takes o size b (omega arith), unsigned-takes o size (a + b) within)
     (Same-trans
-      (Same-chain (takes a (λ w. Ok (number o w))) (λ first. chain (takes b (λ w. Ok (number o w))) (λ second. gives (join first second))) (λ first. takes b (λ w. Ok (join first (number o w))))
-        (λ first. map_takes b (number o) (λ second. join first second) (λ w. Ok (join first (number o w))) (λ w _. refl)))
-      (chain_takes a b (number o) (λ first w. Ok (join first (number o w))) (λ w. Ok (number o w)) (λ u v lu lv. ap Ok (law u v lu lv))))
+    (Same-chain (takes a (λ w. Ok (number o w))) (λ first. chain (takes b (λ w. Ok (number o w))) (λ second. gives (join first second))) (λ first. takes b (λ w. Ok (join first (number o w))))
+    (λ first. map_takes b (number o) (λ second. join first second) (λ w. Ok (join first (number o w))) (λ w _. refl)))
+    (chain_takes a b (number o) (λ first w. Ok (join first (number o w))) (λ w. Ok (number o w)) (λ u v lu lv. ap Ok (law u v lu lv))))
 
 pub words_join-high : (size a b : ℕ) → a + b ≤ size
     → Same (chain (unsigned_entry High size a) (λ first. chain (unsigned_entry High size b) (λ second. gives (first * 2 ^ b + second)))) (unsigned_entry High size (a + b))

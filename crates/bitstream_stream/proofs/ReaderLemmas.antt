@@ -16,7 +16,8 @@ use Rattle.bitstream_order.proofs.DrawLemmas.{word-none, draws_lengths}
 use Rattle.bitstream_order.proofs.FaultLemmas.{refused_at_end}
 use Rattle.bitstream_stream.specs.Reads.{ReaderState, Reads, Loses, Holds, Demands, stays, answers, faults}
 use Rattle.bitstream_stream.specs.Reader.{reader_state, new_reader_state}
-use Rattle.bitstream_stream.specs.ReadTable.{unsigned_entry, align_entry, to_boundary}
+use Rattle.bitstream_stream.specs.Alignment.{to_boundary}
+use Rattle.bitstream_stream.specs.ReadTable.{unsigned_entry, align_entry}
 use Rattle.bitstream_stream.proofs.EntryLemmas.{word_front-some, word_front-none}
 use Rattle.bitstream_stream.proofs.ReadsLemmas.{Loses-nil, Drains-nil}
 use Rattle.bitstream_stream.proofs.TableLemmas.{unsigned-takes}

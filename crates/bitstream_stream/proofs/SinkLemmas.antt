@@ -1,10 +1,10 @@
 -- Write calls, seen another way.
-use Rattle.std.proofs.Common.{◌≡◌, ℕ, ◌+◌, ◌<◌, ◌≤◌, Bool, true, false, List, [], ◌∷◌, ◌++◌, length, Option, Some, None, Result, Ok, Err, refl, sym, ◌∙◌, ap, ap₂, subst, arith}
+use Rattle.std.proofs.Common.{◌≡◌, ℕ, ◌+◌, ◌≤◌, Bool, true, false, List, [], ◌∷◌, ◌++◌, length, Option, Some, None, Result, Ok, Err, refl, sym, ◌∙◌, ap, ap₂, subst, arith}
 use Rattle.std.specs.Borrow.{GName, MutBor}
 use Rattle.bitstream_count.specs.Entry.{WriteEntry}
 use Rattle.bitstream_count.specs.declared.error.Error.{Error}
 use Rattle.bitstream_count.specs.declared.error.Error.TheVariants.{Failed}
-use Rattle.bitstream_stream.specs.Sink.{Sink, WriteOutcome, Writes, WritesExactly, Appended, Kept, Faulted, IsWithin, IsBeyond, seen_sink, inner_sink, lent_sink, was_failed, was_refused, passed_limit, had_fault, did_write}
+use Rattle.bitstream_stream.specs.Sink.{Sink, WriteOutcome, Writes, WritesExactly, Kept, IsWithin, IsBeyond, seen_sink, inner_sink, lent_sink, was_failed, was_refused, passed_limit, had_fault, did_write}
 
 pub IsBeyond-more : (limit : Option ℕ) (a b : ℕ) → a ≤ b → IsBeyond limit a → IsBeyond limit b
 IsBeyond-more None a b h p = p

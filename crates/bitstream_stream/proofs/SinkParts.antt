@@ -1,14 +1,15 @@
 -- A word written in parts.
-use Rattle.std.proofs.Common.{◌≡◌, ℕ, ◌+◌, ◌%◌, ◌<◌, ◌≤◌, Bool, true, false, List, [], ◌∷◌, ◌++◌, length, replicate, Result, Ok, Err, refl, sym, ◌∙◌, ap, subst, append_assoc, append-nil, length-append, arith}
+use Rattle.std.proofs.Common.{◌≡◌, ℕ, ◌+◌, ◌%◌, Bool, true, false, List, [], ◌++◌, length, replicate, Result, Ok, Err, refl, sym, ◌∙◌, ap, subst, append_assoc, append-nil, length-append, arith}
 use Rattle.std.proofs.lemmas.List.{length-replicate}
 use Rattle.bitstream_number.specs.Word.{Order, word}
 use Rattle.bitstream_count.specs.Entry.{WriteEntry}
 use Rattle.bitstream_count.specs.declared.error.Error.{Error}
 use Rattle.bitstream_count.specs.declared.error.Error.TheVariants.{Failed}
-use Rattle.bitstream_stream.specs.Sink.{Sink, WriteOutcome, Appended, Kept, Faulted, IsWithin, IsBeyond, was_failed, was_refused, passed_limit, had_fault, did_write}
-use Rattle.bitstream_stream.specs.WriteTable.{unsigned, padding, align}
+use Rattle.bitstream_stream.specs.Sink.{Sink, WriteOutcome, Appended, IsWithin, was_failed, was_refused, passed_limit, had_fault, did_write}
+use Rattle.bitstream_stream.specs.Alignment.{to_boundary}
+use Rattle.bitstream_stream.specs.WriteTable.{unsigned, align}
 use Rattle.bitstream_stream.proofs.WriteLemmas.{unsigned-accepted, padded}
-use Rattle.bitstream_stream.proofs.SinkLemmas.{IsBeyond-more, not_beyond, empty}
+use Rattle.bitstream_stream.proofs.SinkLemmas.{IsBeyond-more, empty}
 
 -- the sink had not failed, and x is appended
 pub record Begun {S : Type 0} (K : Sink S) (old : S) (x : List Bool) (new : S) : Type 0 where
@@ -155,9 +156,9 @@ module _ {S : Type 0} (K : Sink S) where
 
   -- zeros up to a multiple of 8
   pub written_align : {T : Type 0} (exact : Bool) (old : S) (r : Result T Error) (new : S) (t : T) (len : ℕ)
-      → WriteOutcome K exact align old r new → r ≡ Ok t → K.len old ≡ len → Begun K old (replicate (padding len) false) new × (K.len new % 8 ≡ 0)
+      → WriteOutcome K exact align old r new → r ≡ Ok t → K.len old ≡ len → Begun K old (replicate (to_boundary len) false) new × (K.len new % 8 ≡ 0)
   written_align exact old r new t len w q at =
-      let b = from_ok exact align old r new t (replicate (padding len) false) w q (ap (λ (n : ℕ). Ok (replicate (padding n) false)) at) in
-      let far : K.len new ≡ len + padding len =
-      K.appends_len old new (replicate (padding len) false) b.done.grown ∙ ap (λ (k : ℕ). k + length (replicate (padding len) false)) at ∙ ap (λ (k : ℕ). len + k) (length-replicate (padding len) false) in
+      let b = from_ok exact align old r new t (replicate (to_boundary len) false) w q (ap (λ (n : ℕ). Ok (replicate (to_boundary n) false)) at) in
+      let far : K.len new ≡ len + to_boundary len =
+      K.appends_len old new (replicate (to_boundary len) false) b.done.grown ∙ ap (λ (k : ℕ). k + length (replicate (to_boundary len) false)) at ∙ ap (λ (k : ℕ). len + k) (length-replicate (to_boundary len) false) in
       (b, ap (λ (k : ℕ). k % 8) far ∙ padded len)

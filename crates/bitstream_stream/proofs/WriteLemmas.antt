@@ -1,17 +1,17 @@
 -- The table of write calls.
-use Rattle.std.proofs.Common.{◌≡◌, ◌≢◌, ◌⊎◌, inl, inr, subst, ap₂, lt_of_le_of_lt, ℕ, zero, suc, ◌+◌, ◌-◌, ◌*◌, ◌/◌, ◌%◌, ◌^◌, ◌<◌, ◌≤◌, Bool, true, false, cond, List, [], ◌∷◌, ◌++◌, length, replicate, Ok, Err, Result, refl, sym, ◌∙◌, ap, arith}
+use Rattle.std.proofs.Common.{◌≡◌, ◌≢◌, ◌⊎◌, inl, inr, subst, ap₂, lt_of_le_of_lt, ℕ, zero, suc, ◌+◌, ◌-◌, ◌%◌, ◌^◌, ◌<◌, ◌≤◌, Bool, true, false, cond, List, [], ◌∷◌, ◌++◌, replicate, Ok, Err, refl, sym, ◌∙◌, ap, arith}
 use Rattle.std.specs.Prelude.{ℤ, pos, negsuc}
 use Rattle.std.proofs.lemmas.Bool.Decides.{nat_tests}
 use Rattle.std.proofs.lemmas.List.{replicate-append-replicate}
 use Rattle.bitstream_number.specs.Word.{Order, High, Low, digits, word, signed_word, count_width}
 use Rattle.bitstream_number.proofs.WordLemmas.{count_fits}
 use Rattle.bitstream_order.proofs.DrawLemmas.{word-none}
-use Rattle.bitstream_count.specs.declared.error.Error.{Error}
 use Rattle.bitstream_count.specs.declared.error.Error.TheVariants.{Checked, NoSignBit}
 use Rattle.bitstream_count.specs.Checks.{AcceptsUnsigned, RefusesUnsigned, HoldsSigned, RefusesSigned}
 use Rattle.bitstream_count.specs.declared.checked_error.CheckedError.{CheckedError}
 use Rattle.bitstream_count.specs.declared.checked_error.CheckedError.TheVariants.{ExcessiveBits, ExcessiveValue}
-use Rattle.bitstream_stream.specs.WriteTable.{unsigned, signed, padding}
+use Rattle.bitstream_stream.specs.Alignment.{to_boundary}
+use Rattle.bitstream_stream.specs.WriteTable.{unsigned, signed}
 
 -- one bit as a number
 pub word-bit : (o : Order) (b : Bool) → word o 1 (cond b 1 0) ≡ b ∷ []
@@ -70,15 +70,15 @@ replicate-split i n b h =
     ∙ ap (λ (l : List Bool). replicate i b ++ l) (sym (replicate-append-replicate 1 (n - (i + 1)) b))
 
 -- one zero nearer to a multiple of 8
-pub padding-step : (n : ℕ) → n % 8 ≢ 0 → padding n ≡ 1 + padding (n + 1)
-padding-step n h = omega arith
+pub to_boundary-step : (n : ℕ) → n % 8 ≢ 0 → to_boundary n ≡ 1 + to_boundary (n + 1)
+to_boundary-step n h = omega arith
 
 -- what was accepted is the word
 pub unsigned-accepted : (o : Order) (size n v len : ℕ) (x : List Bool) → unsigned o size n v len ≡ Ok x → x ≡ word o n v
 unfolding unsigned
 unsigned-accepted o size n v len x h = grind (arith, nat_tests)
 
-pub padded : (len : ℕ) → (len + padding len) % 8 ≡ 0
+pub padded : (len : ℕ) → (len + to_boundary len) % 8 ≡ 0
 padded len = omega arith
 
 pub none_of : (n : ℕ) → (0 < n → ⊥) → n ≡ 0

@@ -1,6 +1,6 @@
 -- A word behind the queue of a writer.
 use Rattle.std.proofs.KnownBytes.{Appends-nil}
-use Rattle.std.proofs.Common.{◌≡◌, ℕ, ◌+◌, ◌-◌, ◌*◌, ◌/◌, ◌%◌, ◌^◌, ◌<◌, ◌≤◌, Bool, true, false, List, [], ◌∷◌, ◌++◌, length, take, Option, Result, Ok, Err, refl, sym, ap, ap₂, ◌∙◌, subst, arith, append_assoc, append-nil, length-append}
+use Rattle.std.proofs.Common.{◌≡◌, ℕ, ◌+◌, ◌-◌, ◌*◌, ◌%◌, ◌^◌, ◌<◌, ◌≤◌, Bool, true, false, List, [], ◌∷◌, ◌++◌, length, take, Option, Result, Ok, Err, refl, sym, ap, ◌∙◌, subst, arith, append_assoc, append-nil}
 use Rattle.bitstream_number.specs.Word.{Order, word, bits}
 use Rattle.bitstream_number.proofs.WordLemmas.{length-word}
 use Rattle.bitstream_count.specs.Entry.{WriteEntry}
@@ -12,7 +12,7 @@ use Rattle.bitstream_order.specs.Port.{PortState}
 use Rattle.bitstream_order.proofs.DrawLemmas.{word-none}
 use Rattle.bitstream_order.proofs.PartLemmas.{put_word, put_below}
 use Rattle.bitstream_order.proofs.PassLemmas.{piece_below, piece_last}
-use Rattle.bitstream_stream.specs.Sink.{Sink, WriteOutcome, Appended, Faulted, had_fault, did_write}
+use Rattle.bitstream_stream.specs.Sink.{WriteOutcome, Appended, Faulted, had_fault, did_write}
 use Rattle.bitstream_stream.specs.WriteTable.{bit}
 use Rattle.bitstream_stream.proofs.WriteLemmas.{word-bit}
 use mir.Val.{bool_byte}

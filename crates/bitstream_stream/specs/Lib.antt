@@ -1,3 +1,4 @@
+pub mod Alignment
 pub mod ReadTable
 pub mod Reader
 pub mod Reads

@@ -1,7 +1,8 @@
 -- The table of reads: what each call takes from the bits to read, and what it answers.
-use Rattle.std.specs.Prelude.{ℕ, ◌-◌, ◌%◌, Bool, false, List, [], ◌∷◌, nat_le, ◌==◌, ℤ, if◌then◌else◌, Ok, Err}
+use Rattle.std.specs.Prelude.{ℕ, Bool, false, List, [], ◌∷◌, nat_le, ◌==◌, ℤ, if◌then◌else◌, Ok, Err}
 use Rattle.bitstream_count.specs.declared.error.Error.TheVariants.{ReadBits, NoSignBit}
 use Rattle.bitstream_count.specs.Entry.{ReadEntry, Takes, word_front, call, takes}
+use Rattle.bitstream_stream.specs.Alignment.{to_boundary}
 use Rattle.bitstream_number.specs.Word.{Order, number, signed_number, count_width}
 
 -- the first bit of a word
@@ -29,10 +30,6 @@ const_entry o n v = takes n (λ w. Ok (number o w == v))
 -- a count from 0 to max
 unfoldable pub count_entry : Order → ℕ → ReadEntry ℕ
 count_entry o max = takes (count_width max) (λ w. Ok (number o w))
-
--- how many bits lie between bit p and the next boundary of bytes
-abbrev pub to_boundary : ℕ → ℕ
-to_boundary p = (8 - p % 8) % 8
 
 -- the bits up to the next boundary of bytes, whatever they are. It has no answer, also on a failed reader.
 unfoldable pub align_entry : ReadEntry (Unit {0})

@@ -1,5 +1,6 @@
 -- The table of write calls: what each means behind so many bits written before.
-use Rattle.std.specs.Prelude.{ℕ, ℤ, pos, negsuc, ◌-◌, ◌%◌, ◌^◌, ◌==◌, ◌||◌, nat_lt, if◌then◌else◌, Bool, false, List, [], ◌∷◌, replicate, Result, Ok, Err}
+use Rattle.std.specs.Prelude.{ℕ, ℤ, pos, negsuc, ◌-◌, ◌^◌, ◌==◌, ◌||◌, nat_lt, if◌then◌else◌, Bool, false, List, [], ◌∷◌, replicate, Ok, Err}
+use Rattle.bitstream_stream.specs.Alignment.{to_boundary}
 use Rattle.bitstream_number.specs.Word.{Order, word, signed_word, count_width}
 use Rattle.bitstream_count.specs.Entry.{WriteEntry}
 use Rattle.bitstream_count.specs.declared.error.Error.TheVariants.{Checked, NoSignBit}
@@ -32,10 +33,6 @@ signed o size n x _ =
 abbrev pub count : Order → ℕ → ℕ → WriteEntry
 count o max n = plain (word o (count_width max) n)
 
--- how many bits there are up to a multiple of 8
-abbrev pub padding : ℕ → ℕ
-padding len = (8 - len % 8) % 8
-
 -- zeros up to a multiple of 8
 abbrev pub align : WriteEntry
-align len = Ok (replicate (padding len) false)
+align len = Ok (replicate (to_boundary len) false)

@@ -82,10 +82,8 @@ impl<const MAX: u32> BitCount<MAX> {
     pub fn min(self, bits: u32) -> Self
         ensures { result ≡ min self.entry bits }
     {
-        if self.bits <= bits {
-            self
-        } else {
-            BitCount { bits }
+        BitCount {
+            bits: self.bits.min(bits),
         }
     }
 
@@ -154,11 +152,7 @@ impl<const MAX: u32> TryFrom<u32> for BitCount<MAX> {
 
     /// So many bits, or the number again where it is above MAX.
     fn try_from(bits: u32) -> Result<BitCount<MAX>, u32> {
-        if bits <= MAX {
-            Ok(BitCount { bits })
-        } else {
-            Err(bits)
-        }
+        BitCount::of(bits).ok_or(bits)
     }
 }
 

@@ -6,14 +6,13 @@ use crate::count::bit_count::BitCount;
 use crate::count::checked::{Checked, CheckedUnsigned};
 use crate::count::kinds::Count;
 use bitstream_number::number::{Numeric, UnsignedInteger};
-use std::marker::Model;
+use std::marker::{Model, PhantomData};
 
 /// A split of numbers of type U into their lowest bits and those above.
 #[derive(Drop)]
 pub struct LsbMask<const MAX: u32, U: UnsignedInteger> {
-    mask: U,
-    shift: u32,
     count: BitCount<MAX>,
+    numbers: PhantomData<U>,
 }
 
 impl<const MAX: u32, U: UnsignedInteger> Model for LsbMask<MAX, U> {
@@ -21,7 +20,7 @@ impl<const MAX: u32, U: UnsignedInteger> Model for LsbMask<MAX, U> {
 
     ghost view = { λ a. a.count };
 
-    ghost invariant = { λ a. (a.shift ≡ a.count) × (a.count ≤ U.BITS_SIZE) × (U.value a.mask ≡ 2 ^ a.count - 1) };
+    ghost invariant = { λ a. a.count ≤ U.BITS_SIZE };
 }
 
 /// The number whose lowest bits, so many of them, are set, and no others.
@@ -37,10 +36,10 @@ impl<const MAX: u32> BitCount<MAX> {
     pub fn mask_lsb<U: UnsignedInteger>(self) -> LsbMask<MAX, U>
         ensures { result ≡ min self.entry U.BITS_SIZE }
     {
-        let count = self.min(U::BITS_SIZE);
-        let mask = count.all::<U>().into_value();
-        let shift = count.bits();
-        LsbMask { mask, shift, count }
+        LsbMask {
+            count: self.min(U::BITS_SIZE),
+            numbers: PhantomData,
+        }
     }
 }
 
@@ -51,8 +50,9 @@ impl<const MAX: u32, U: UnsignedInteger> LsbMask<MAX, U> {
         ensures split { U.value v ≡ U.value result.0 * 2 ^ self.now + U.value result.1.1 }
         ensures low { U.value result.1.1 ≡ U.value v % 2 ^ self.now }
     {
-        let high = v.shr_default(self.shift);
-        let low = v & self.mask;
+        let bits = self.count.bits();
+        let high = v.shr_default(bits);
+        let low = v & lowest_bits(bits);
         (high, Checked::of_unsigned(self.count, low))
     }
 }

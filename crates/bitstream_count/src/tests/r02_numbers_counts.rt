@@ -74,8 +74,16 @@ fn ends_of_signed_widths(rt: HostRuntime) {
     ] {
         assert_eq!(rt; refused(bits, least), None, "{least} at {bits} bits");
         assert_eq!(rt; refused(bits, greatest), None, "{greatest} at {bits} bits");
-        assert_eq!(rt; refused(bits, least - 1), too_much, "below {least} at {bits} bits");
-        assert_eq!(rt; refused(bits, greatest + 1), too_much, "above {greatest} at {bits} bits");
+        assert_eq!(rt;
+            refused(bits, least - 1),
+            too_much,
+            "below {least} at {bits} bits"
+        );
+        assert_eq!(rt;
+            refused(bits, greatest + 1),
+            too_much,
+            "above {greatest} at {bits} bits"
+        );
     }
     assert_eq!(rt; refused(8, -128), None);
     assert_eq!(rt; refused(8, 127), None);

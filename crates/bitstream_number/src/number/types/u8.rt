@@ -64,11 +64,11 @@ impl Numeric for u8 {
     fn known(self) {}
 
     fn from_u8(u: u8) -> u8 {
-        u as u8
+        u
     }
 
     fn to_u8(self) -> u8 {
-        self as u8
+        self
     }
 
     ghost size_law = { refl };

@@ -1,5 +1,5 @@
 use Rattle.std.proofs.Common.{false}
-use Rattle.bitstream_stream.proofs.SinkLemmas.{inner}
+use Rattle.bitstream_io.proofs.SinkLemmas.{inner}
 use Rattle.bitstream_bench.proofs.own.OwnWriterBitWrite.write_unsigned_counted.Goals as goal
 
 pub returns : goal.returns

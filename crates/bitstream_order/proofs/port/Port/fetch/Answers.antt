@@ -1,4 +1,4 @@
-use Rattle.std.proofs.Common.{◌≡◌, ℕ, ◌+◌, ◌⊎◌, inl, inr, add-zero, rules, subst, sym, ap, ◌∙◌, length}
+use Rattle.std.proofs.Common.{◌≡◌, ◌+◌, inl, inr, add-zero, rules, ap, ◌∙◌, length}
 use Rattle.bitstream_order.specs.Fault.{misled_by}
 use Rattle.bitstream_order.proofs.FaultLemmas.{misled_or_true}
 use Rattle.bitstream_order.proofs.port.Port.fetch.Goals as goal

@@ -1,8 +1,9 @@
-use Rattle.std.proofs.Common.{zero-add, add_assoc, IsTrue, ◌≡◌, ◌≢◌, ◌<◌, ℕ, ◌-◌, ◌+◌, ◌%◌, Bool, List, true, false, replicate, [], ◌∷◌, ◌++◌, Ok, Err, refl, sym, ap, ◌∙◌, subst, arith}
+use Rattle.std.proofs.Common.{zero-add, add_assoc, IsTrue, ◌≡◌, ◌<◌, ℕ, ◌-◌, ◌+◌, ◌%◌, Bool, true, false, replicate, [], ◌∷◌, Ok, Err, refl, sym, ap, ◌∙◌, arith}
 use Rattle.std.proofs.lemmas.Result.{err_from_is_err_and}
-use Rattle.bitstream_stream.specs.WriteTable.{padding, align}
-use Rattle.bitstream_stream.proofs.SinkParts.{Begun, from_ok, to_ok, probe_failed, stop_later, Begun-more}
-use Rattle.bitstream_stream.proofs.WriteLemmas.{unsigned-none, replicate-split, replicate-more, padding-step}
+use Rattle.bitstream_stream.specs.Alignment.{to_boundary}
+use Rattle.bitstream_stream.specs.WriteTable.{align}
+use Rattle.bitstream_stream.proofs.SinkParts.{from_ok, to_ok, probe_failed, stop_later, Begun-more}
+use Rattle.bitstream_stream.proofs.WriteLemmas.{unsigned-none, replicate-split, replicate-more, to_boundary-step}
 use Rattle.bitstream_stream.proofs.write.BitWrite.byte_align.Goals as goal
 
 pub returns-in_err-write_unsigned_var : goal.returns-in_err-write_unsigned_var
@@ -16,7 +17,7 @@ pub loop-self-init : goal.loop-self-init
 loop-self-init g c =
     let K = g.Self.BitWrite.sink in
     let b = from_ok K false _ _ _ _ _ [] c.in_ok-write_unsigned_var.ensures.writes refl (unsigned-none _ _ _ _) in
-    (0, b, zero-add _ ∙ ap padding (let e : K.len c.write_unsigned_var.new.self ≡ K.len c.args.self.now = omega (arith, K.appends_len _ _ _ b.done.grown) in e))
+    (0, b, zero-add _ ∙ ap to_boundary (let e : K.len c.write_unsigned_var.new.self ≡ K.len c.args.self.now = omega (arith, K.appends_len _ _ _ b.done.grown) in e))
 
 -- not aligned, though sound
 off : (A B : Type 0) (r : Bool) → (IsTrue r → A × B) × (A × B → IsTrue r) → r ≡ false → A → B → ⊥
@@ -29,7 +30,7 @@ less n = omega arith
 sum_less : (k m n : ℕ) → k + (1 + m) ≡ n → k < n
 sum_less k m n h = omega arith
 
-all_done : (k a n : ℕ) → a % 8 ≡ 0 → k + padding a ≡ n → k ≡ n
+all_done : (k a n : ℕ) → a % 8 ≡ 0 → k + to_boundary a ≡ n → k ≡ n
 all_done k a n h e = omega arith
 
 pub loop-self-preserved : goal.loop-self-preserved
@@ -38,7 +39,7 @@ loop-self-preserved g c =
     let k = c.loop-self.invariant.0 in
     let b = from_ok K false _ _ _ _ _ (false ∷ []) c.in_ok-write_bit.ensures.writes refl refl in
     let far : K.len c.write_bit.new.self ≡ K.len c.loop-self.self + 1 = K.appends_len _ _ _ b.done.grown in
-    let step = padding-step (K.len c.loop-self.self) (off _ _ _ c.byte_aligned.ensures.aligned c.loop-self-test.true b.was_sound) in
+    let step = to_boundary-step (K.len c.loop-self.self) (off _ _ _ c.byte_aligned.ensures.aligned c.loop-self-test.true b.was_sound) in
     (k + 1, rw (replicate-more k false) (Begun-more K _ _ _ (replicate k false) (false ∷ []) c.loop-self.invariant.1 b), rw far (add_assoc k 1 _ ∙ ap (λ (n : ℕ). k + n) (sym step) ∙ c.loop-self.invariant.2))
 
 pub loop-self-smaller : goal.loop-self-smaller
@@ -46,8 +47,8 @@ loop-self-smaller g c =
     let K = g.Self.BitWrite.sink in
     let b = from_ok K false _ _ _ _ _ (false ∷ []) c.in_ok-write_bit.ensures.writes refl refl in
     let far : K.len c.write_bit.new.self ≡ K.len c.loop-self.self + 1 = K.appends_len _ _ _ b.done.grown in
-    let step = padding-step (K.len c.loop-self.self) (off _ _ _ c.byte_aligned.ensures.aligned c.loop-self-test.true b.was_sound) in
-    let smaller : padding (K.len c.write_bit.new.self) < padding (K.len c.loop-self.self) = rw (far, step) (less _) in
+    let step = to_boundary-step (K.len c.loop-self.self) (off _ _ _ c.byte_aligned.ensures.aligned c.loop-self-test.true b.was_sound) in
+    let smaller : to_boundary (K.len c.write_bit.new.self) < to_boundary (K.len c.loop-self.self) = rw (far, step) (less _) in
     smaller
 
 pub returns-in_err-write_bit : goal.returns-in_err-write_bit
@@ -56,8 +57,8 @@ returns-in_err-write_bit g c = record {
       let K = g.Self.BitWrite.sink in
       let k = c.loop-self.invariant.0 in
       let p = err_from_is_err_and c.from_residual-in_err-write_bit.result c.from_residual-in_err-write_bit.ensures.1 in
-      let n = padding (K.len c.args.self.now) in
-      let step = padding-step (K.len c.loop-self.self) (off _ _ _ c.byte_aligned.ensures.aligned c.loop-self-test.true c.loop-self.invariant.1.done.sound) in
+      let n = to_boundary (K.len c.args.self.now) in
+      let step = to_boundary-step (K.len c.loop-self.self) (off _ _ _ c.byte_aligned.ensures.aligned c.loop-self-test.true c.loop-self.invariant.1.done.sound) in
       let within : k < n = sum_less k _ n (ap (λ (m : ℕ). k + m) (sym step) ∙ c.loop-self.invariant.2) in
       stop_later K false _ align _ _ _ _ _ _ (replicate k false) (false ∷ []) (replicate (n - (k + 1)) false)
       c.loop-self.invariant.1 c.in_err-write_bit.ensures.writes refl (p.1 ∙ ap Err p.2) refl (ap Ok (replicate-split k n false within));
@@ -69,6 +70,6 @@ returns g c = record {
       let K = g.Self.BitWrite.sink in
       let k = c.loop-self.invariant.0 in
       let aligned : K.len c.loop-self.self % 8 ≡ 0 = (c.byte_aligned.ensures.aligned.0 c.loop-self-test.false).1 in
-      let all : k ≡ padding (K.len c.args.self.now) = all_done k _ _ aligned c.loop-self.invariant.2 in
+      let all : k ≡ to_boundary (K.len c.args.self.now) = all_done k _ _ aligned c.loop-self.invariant.2 in
       to_ok K false align _ _ _ _ (replicate k false) c.loop-self.invariant.1 refl (ap (λ (n : ℕ). Ok (replicate n false)) (sym all));
 }

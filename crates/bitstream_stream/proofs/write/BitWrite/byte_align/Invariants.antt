@@ -1,5 +1,5 @@
 use Rattle.std.proofs.Common.{◌≡◌, ◌+◌, ℕ, replicate, false}
-use Rattle.bitstream_stream.specs.WriteTable.{padding}
+use Rattle.bitstream_stream.specs.Alignment.{to_boundary}
 use Rattle.bitstream_stream.proofs.SinkParts.{Begun}
 use Rattle.bitstream_stream.proofs.write.BitWrite.byte_align.Given as goal
 
@@ -7,7 +7,7 @@ use Rattle.bitstream_stream.proofs.write.BitWrite.byte_align.Given as goal
 abbrev pub invariant-loop-self : goal.invariant-loop-self
 invariant-loop-self g l =
     let K = g.Self.BitWrite.sink in
-    (k : ℕ) × Begun K l.fn.self (replicate k false) l.self × (k + padding (K.len l.self) ≡ padding (K.len l.fn.self))
+    (k : ℕ) × Begun K l.fn.self (replicate k false) l.self × (k + to_boundary (K.len l.self) ≡ to_boundary (K.len l.fn.self))
 
 abbrev pub decreases-loop-self : goal.decreases-loop-self
-decreases-loop-self g l = padding (g.Self.BitWrite.sink.len l.self)
+decreases-loop-self g l = to_boundary (g.Self.BitWrite.sink.len l.self)

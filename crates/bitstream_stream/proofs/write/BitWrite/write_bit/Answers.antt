@@ -1,4 +1,4 @@
-use Rattle.std.proofs.Common.{◌≡◌, ℕ, Bool, true, false, cond, ◌∷◌, [], Ok, arith}
+use Rattle.std.proofs.Common.{◌≡◌, ℕ, Bool, true, false, cond, arith}
 use mir.Val.{bool_byte}
 use Rattle.bitstream_stream.proofs.SinkLemmas.{restate}
 use Rattle.bitstream_stream.proofs.WriteLemmas.{unsigned-bit}

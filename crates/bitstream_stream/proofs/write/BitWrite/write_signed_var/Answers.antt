@@ -1,4 +1,4 @@
-use Rattle.std.proofs.Common.{◌≡◌, false, Err, refl, ap, sym, ◌∙◌, []}
+use Rattle.std.proofs.Common.{false, Err, refl, ap, sym, ◌∙◌, []}
 use Rattle.std.proofs.lemmas.Result.{err_from_is_err_and}
 use Rattle.bitstream_stream.proofs.SinkParts.{from_ok, probe_failed, probe_refused}
 use Rattle.bitstream_stream.proofs.WriteLemmas.{unsigned-none, signed-none, none_of}

@@ -1,5 +1,4 @@
 use Rattle.std.proofs.Common.{refl, arith}
-use Rattle.bitstream_stream.specs.Writer.{writer_state}
 use Rattle.bitstream_stream.proofs.WriterLemmas.{some_bits, queue_small, pushed_queue, pushed_bytes, pushed_fault}
 use Rattle.bitstream_stream.proofs.writer.BitWriter.push.Goals as goal
 

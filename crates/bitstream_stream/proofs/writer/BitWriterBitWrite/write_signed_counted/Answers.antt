@@ -1,6 +1,5 @@
-use Rattle.std.proofs.Common.{◌≡◌, refl, Err, ap, sym, ◌∙◌}
+use Rattle.std.proofs.Common.{refl, Err, ap, ◌∙◌}
 use Rattle.std.proofs.lemmas.Result.{err_from_is_err_and}
-use Rattle.bitstream_number.specs.Word.{word}
 use Rattle.bitstream_stream.specs.Writer.{writer_state, queue_sink, writer_sink}
 use Rattle.bitstream_stream.proofs.SinkLemmas.{inner, fails, refuses}
 use Rattle.bitstream_stream.proofs.WriterLemmas.{pushes_writes}

@@ -1,4 +1,4 @@
-use Rattle.std.proofs.Common.{ap, sym, subst, ◌∙◌, ◌≡◌, ◌-◌, ◌^◌, ◌<◌, ◌≤◌, arith, min}
+use Rattle.std.proofs.Common.{ap, ◌∙◌, ◌≡◌, ◌≤◌, arith, min}
 use Rattle.bitstream_count.proofs.Checks.{lowest-lt}
 use Rattle.bitstream_count.proofs.count.signed_bit_count.SignedBitCount.range.Goals as goal
 

@@ -1,4 +1,4 @@
-use Rattle.std.proofs.Common.{ap, sym, subst, ◌∙◌, arith, ◌≤◌}
+use Rattle.std.proofs.Common.{ap, sym, ◌∙◌, arith, ◌≤◌}
 use Rattle.bitstream_number.proofs.Shifts.{shr_past}
 use Rattle.bitstream_number.proofs.number.unsigned.UnsignedInteger.shr_default.Goals as goal
 

@@ -1,0 +1,29 @@
+-- Decimals, as layouts and value lines spell numbers.
+use Rattle.std.specs.Prelude.{ℕ, Bool, ◌==◌, ◌&&◌, ◌||◌, not, if◌then◌else◌, List, length, slice_index, Option, Some, None, Result, Ok, Err, nat_lt, nat_le}
+use Rattle.std.specs.Char.{is_ascii_digit}
+use Rattle.std.specs.List.{list_all}
+use Rattle.std.specs.Str.Parse.{digits_value}
+use Rattle.bitfields.specs.declared.fault.Reason.{Reason}
+use Rattle.bitfields.specs.declared.fault.Reason.TheVariants.{ValueMisspelt, ValueDoesNotFit}
+
+-- `0`, or a digit 1 to 9 followed by digits
+abbrev pub is_decimal : List ℕ → Bool
+is_decimal text =
+    nat_lt 0 (length text) && (not (slice_index text 0 == 48) || (length text == 1)) && list_all is_ascii_digit text
+
+-- the number that a decimal spells
+abbrev pub decimal_value : List ℕ → ℕ
+decimal_value text = digits_value 10 text
+
+-- the number from low to high that a text spells, if it spells one
+abbrev pub decimal_within : ℕ → ℕ → List ℕ → Option ℕ
+decimal_within low high text =
+    if is_decimal text && nat_le low (decimal_value text) && nat_le (decimal_value text) high
+    then Some (decimal_value text) else None
+
+-- the number below a limit that a text spells, or what is wrong with the text
+abbrev pub decimal_below : ℕ → List ℕ → Result ℕ Reason
+decimal_below limit text =
+    if is_decimal text
+    then (if nat_lt (decimal_value text) limit then Ok (decimal_value text) else Err ValueDoesNotFit)
+    else Err ValueMisspelt

@@ -1,0 +1,76 @@
+-- Value lines: what an input says for the fields of a layout, and what is printed of values.
+use Rattle.std.specs.Prelude.{ℕ, ◌≡◌, ◌⊎◌, ◌+◌, ◌-◌, ◌^◌, ◌<◌, ◌==◌, ⊤, if◌then◌else◌, List, [], ◌∷◌, ◌++◌, length, take, drop, slice_index_or, Option, Some, None, Result, Ok, Err}
+use Rattle.std.specs.List.{slice_split, flat_map}
+use Rattle.std.specs.Fmt.{decimal}
+use Rattle.bitfields.specs.declared.fault.Reason.{Reason}
+use Rattle.bitfields.specs.declared.fault.Reason.TheVariants.{ValueMissing, ValueLeftOver, OutOfMemory}
+use Rattle.bitfields.specs.declared.fault.Fault.{Fault}
+use Rattle.bitfields.specs.declared.field.Field.{Field}
+use Rattle.bitfields.specs.declared.field.Field.TheVariants.{Unsigned, Align}
+use Rattle.bitfields.specs.Decimal.{decimal_below}
+use Rattle.bitfields.specs.Fault.{fault}
+use Rattle.bitfields.specs.Layout.{one_more}
+
+-- the parts, without an empty last one
+abbrev pub ended : List (List ℕ) → List (List ℕ)
+ended parts =
+    if length (slice_index_or parts (length parts - 1) []) == 0 then take (length parts - 1) parts else parts
+
+-- the lines of an input: each ends in LF, which the last may lack
+abbrev pub lines : List ℕ → List (List ℕ)
+lines input = ended (slice_split (λ b. b == 10) input)
+
+-- how many values a field has, and so how many lines
+abbrev pub value_count : Field → ℕ
+value_count (Unsigned n) = 1
+value_count Align = 0
+
+abbrev pub some_value : Result ℕ Reason → Result (Option ℕ) Reason
+some_value (Ok v) = Ok (Some v)
+some_value (Err why) = Err why
+
+-- the value of a field that the first of the lines spells, or what is wrong; None where the field has no value
+abbrev pub value_in : Field → List (List ℕ) → Result (Option ℕ) Reason
+value_in (Unsigned n) [] = Err ValueMissing
+value_in (Unsigned n) (line ∷ others) = some_value (decimal_below (2 ^ n) line)
+value_in Align lines = Ok None
+
+-- the values of a field: one, or none
+abbrev pub value_list : Option ℕ → List ℕ
+value_list None = []
+value_list (Some v) = v ∷ []
+
+abbrev pub value_and : ℕ → Result (Option ℕ) Reason → Result (List ℕ) Fault → Result (List ℕ) Fault
+value_and k (Err why) others = Err (fault k why)
+value_and k (Ok None) others = others
+value_and k (Ok (Some v)) others = one_more v others
+
+-- the values that lines spell for fields, which are numbered from k on, or the first fault
+abbrev pub values : ℕ → List Field → List (List ℕ) → Result (List ℕ) Fault
+values k [] lines = if length lines == 0 then Ok [] else Err (fault 0 ValueLeftOver)
+values k (field ∷ fields) lines =
+    value_and k (value_in field lines) (values (k + 1) fields (drop (value_count field) lines))
+
+-- the field's value is there, the first of these, and fits the field; nothing is asked where the field has none
+abbrev pub FitsField : Field → List ℕ → Type 0
+FitsField (Unsigned n) [] = ⊥
+FitsField (Unsigned n) (v ∷ vs) = v < 2 ^ n
+FitsField Align vs = ⊤
+
+-- these are the values of the fields that have one, in their order, and each fits its field
+abbrev pub Fit : List Field → List ℕ → Type 0
+Fit [] vs = vs ≡ []
+Fit (field ∷ fields) vs = FitsField field vs × Fit fields (drop (value_count field) vs)
+
+-- memory was refused, or the answer, seen by a view, is this one
+abbrev pub IsOrMemory : {A B : Type 0} → Result B Fault → (A → B) → Result A Fault → Type 0
+IsOrMemory expected view (Ok x) = expected ≡ Ok (view x)
+IsOrMemory expected view (Err f) = (f ≡ fault 0 OutOfMemory) ⊎ (expected ≡ Err f)
+
+-- a value as a decimal, and LF
+abbrev pub printed_line : ℕ → List ℕ
+printed_line v = decimal v ++ 10 ∷ []
+
+-- the line of each value
+abbrev pub printed_lines : List ℕ → List ℕ
+printed_lines vs = flat_map printed_line vs

@@ -1,0 +1,116 @@
+//! Why a call fails, and how that is printed.
+
+ghost use Rattle.std.specs.Prelude.{◌≡◌};
+ghost use Rattle.bitfields.specs.Fault.{fault, reason_status, reason_text};
+
+use std::fmt;
+
+/// Why a call fails.
+#[derive(Clone, Copy, Debug, PartialEq, Eq, Drop)]
+pub enum Reason {
+    /// There are not three arguments, or they name no command or no order of bits.
+    BadArguments,
+    /// A layout has more than 256 pieces between commas.
+    TooManyFields,
+    /// A piece of a layout spells no field.
+    BadLayout,
+    /// The input has no line for a value.
+    ValueMissing,
+    /// A line spells no value of the field's kind.
+    ValueMisspelt,
+    /// A line spells a value that is out of the field's range.
+    ValueDoesNotFit,
+    /// Lines remain after the last value.
+    ValueLeftOver,
+    /// The bits end within a field.
+    BitsEnded,
+    /// A constant's bits are others.
+    ConstantDiffers,
+    /// A variable-width word or a unary run passes its limit.
+    LimitPassed,
+    /// A stream refused a request.
+    StreamFault,
+    /// Memory was refused.
+    OutOfMemory,
+}
+
+/// How a call fails: the status that the program ends with, the field (counted from 1, and 0 where none is named), and why.
+#[derive(Clone, Copy, Debug, PartialEq, Eq, Drop)]
+pub struct Fault {
+    pub status: u8,
+    pub field: usize,
+    pub reason: Reason,
+}
+
+impl Fault {
+    /// The fault of a field (0 where none is named), with the status of its reason.
+    pub fn new(field: usize, reason: Reason) -> Fault
+        ensures { result ≡ fault field reason }
+    {
+        Fault {
+            status: reason.status(),
+            field,
+            reason,
+        }
+    }
+}
+
+impl Reason {
+    /// The status that a program ends with for this reason.
+    pub fn status(self) -> u8
+        ensures { result ≡ reason_status self }
+    {
+        match self {
+            Reason::BadArguments | Reason::TooManyFields | Reason::BadLayout => 2,
+            Reason::ValueMissing
+            | Reason::ValueMisspelt
+            | Reason::ValueDoesNotFit
+            | Reason::ValueLeftOver => 3,
+            Reason::BitsEnded | Reason::ConstantDiffers | Reason::LimitPassed => 4,
+            Reason::StreamFault | Reason::OutOfMemory => 5,
+        }
+    }
+
+    fn text(self) -> &'static str
+        ensures { result.now ≡ reason_text self }
+    {
+        match self {
+            Reason::BadArguments => "bad arguments",
+            Reason::TooManyFields => "too many fields",
+            Reason::BadLayout => "bad layout",
+            Reason::ValueMissing => "value missing",
+            Reason::ValueMisspelt => "value misspelt",
+            Reason::ValueDoesNotFit => "value does not fit",
+            Reason::ValueLeftOver => "value left over",
+            Reason::BitsEnded => "bits ended",
+            Reason::ConstantDiffers => "constant differs",
+            Reason::LimitPassed => "limit passed",
+            Reason::StreamFault => "stream fault",
+            Reason::OutOfMemory => "out of memory",
+        }
+    }
+}
+
+impl fmt::Display for Reason {
+    ghost use Rattle.std.specs.Prelude.{Some};
+    ghost use Rattle.bitfields.specs.Fault.{reason_text};
+
+    ghost output = { λ r. Some (reason_text r) };
+
+    fn fmt<W: fmt::Write>(&self, f: &mut fmt::Formatter<W>) -> fmt::Result {
+        f.write_str(self.text())
+    }
+}
+
+impl fmt::Display for Fault {
+    ghost use Rattle.std.specs.Prelude.{Some};
+    ghost use Rattle.bitfields.specs.Fault.{fault_text};
+
+    ghost output = { λ f. Some (fault_text f) };
+
+    fn fmt<W: fmt::Write>(&self, f: &mut fmt::Formatter<W>) -> fmt::Result {
+        let field = self.field;
+        let reason = self.reason;
+        write!(f, "bitfields: field {field}: {reason}")
+    }
+}

@@ -1,0 +1,27 @@
+//! The fields of a layout, and the pieces of text that spell them.
+
+ghost use Rattle.std.specs.Prelude.{◌≡◌};
+ghost use Rattle.bitfields.specs.Layout.{field_of};
+
+use crate::decimal::decimal_between;
+
+/// A field of a layout, with its numbers.
+#[derive(Clone, Copy, Debug, PartialEq, Eq, Drop)]
+pub enum Field {
+    /// `uN`: an unsigned word of so many bits.
+    Unsigned(u32),
+    /// `a`: bits of 0 up to the next byte.
+    Align,
+}
+
+/// The field that a piece of a layout spells, if it spells one.
+pub fn parse_field(piece: &[u8]) -> Option<Field>
+    ensures { result ≡ field_of piece.now }
+{
+    let (letter, rest) = piece.split_first()?;
+    match *letter {
+        b'u' => decimal_between(1, 128, rest).map(Field::Unsigned),
+        b'a' if rest.is_empty() => Some(Field::Align),
+        _ => None,
+    }
+}

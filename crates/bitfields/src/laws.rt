@@ -1,0 +1,27 @@
+//! What holds of the meaning of layouts and values, whatever parses or packs them.
+
+ghost use Rattle.std.specs.Prelude.{◌≡◌, ◌++◌, ◌+◌, ℕ, Bool, List, length, Ok};
+ghost use Rattle.std.specs.List.{All};
+ghost use Rattle.bitstream_number.specs.Word.{Order};
+ghost use Rattle.bitfields.specs.declared.field.Field.{Field};
+ghost use Rattle.bitfields.specs.Layout.{layout_of, layout_text, IsField, IsLayout};
+ghost use Rattle.bitfields.specs.Packing.{words};
+ghost use Rattle.bitfields.specs.Unpacking.{unpacked, Unpacks};
+ghost use Rattle.bitfields.specs.Value.{lines, values, printed_lines, Fit};
+
+/// The texts of fields, joined by commas, spell these fields; and no other text does.
+pub fn layouts_are_spelt()
+    ensures spelt { (fields : List Field) → IsLayout fields → layout_of (layout_text fields) ≡ Ok fields }
+    ensures only { (text : List ℕ) (fields : List Field) → layout_of text ≡ Ok fields → IsLayout fields × (layout_text fields ≡ text) }
+{}
+
+/// Values that are spelt fit their fields; and the lines that are printed of values that fit spell these values.
+pub fn values_are_spelt()
+    ensures fit { (k : ℕ) (fields : List Field) (rest : List (List ℕ)) (vs : List ℕ) → values k fields rest ≡ Ok vs → Fit fields vs }
+    ensures spelt { (k : ℕ) (fields : List Field) (vs : List ℕ) → All IsField fields → Fit fields vs → values k fields (lines (printed_lines vs)) ≡ Ok vs }
+{}
+
+/// The words of values that fit are unpacked as these values, whatever follows them.
+pub fn packed_values_are_unpacked()
+    ensures { (o : Order) (k : ℕ) (fields : List Field) (vs : List ℕ) (at : ℕ) (rest : List Bool) → Fit fields vs → unpacked o k fields at (words o fields vs at ++ rest) ≡ Unpacks vs (at + length (words o fields vs at)) }
+{}

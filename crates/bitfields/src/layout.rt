@@ -1,0 +1,82 @@
+//! Layouts: lists of fields.
+
+ghost use Rattle.std.specs.Prelude.{◌≡◌, ◌≤◌, length, map, IfOk};
+ghost use Rattle.bitfields.specs.Layout.{layout_of, fields_of, pieces as pieces_of, IsLayout, IsUnlessMemory};
+
+use crate::fault::{Fault, Reason};
+use crate::field::{Field, parse_field};
+use std::alloc::{AllocError, Global};
+use std::marker::Model;
+
+/// A list of 1 to 256 fields, the numbers of each in their ranges.
+#[derive(Debug, Drop)]
+pub struct Layout {
+    fields: Vec<Field>,
+}
+
+impl Model for Layout {
+    ghost use Rattle.std.specs.Prelude.{List};
+    ghost use Rattle.bitfields.specs.declared.field.Field.{Field};
+
+    ghost Value = { List Field };
+
+    ghost use Rattle.bitfields.specs.Layout.{IsLayout};
+
+    ghost view = { λ l. l.fields.items };
+
+    ghost invariant = { λ l. IsLayout l.fields.items };
+}
+
+const MOST_FIELDS: usize = 256;
+
+/// The layout that a text spells: 1 to 256 fields joined by commas.
+///
+/// Refused as `TooManyFields` (field 0) where there are more than 256 pieces between commas, and as `BadLayout` at the first piece
+/// that is no field. `OutOfMemory` (field 0) is the only other refusal.
+pub fn parse_layout(alloc: Global, text: &str) -> Result<Layout, Fault>
+    ensures { IsUnlessMemory (layout_of text.now) result }
+{
+    let Ok(parts) = pieces(alloc, text) else {
+        return Err(Fault::new(0, Reason::OutOfMemory));
+    };
+    if parts.len() > MOST_FIELDS {
+        return Err(Fault::new(0, Reason::TooManyFields));
+    }
+    parse_fields(alloc, &parts)
+}
+
+/// The layout of these pieces.
+fn parse_fields(alloc: Global, parts: &[&str]) -> Result<Layout, Fault>
+    requires some { 1 ≤ length parts.now }
+    requires few { length parts.now ≤ 256 }
+    ensures { IsUnlessMemory (fields_of 1 (map (λ x. x.now) parts.now)) result }
+{
+    let mut fields = Vec::new(alloc);
+    for (index, piece) in parts.iter().enumerate() {
+        let Some(field) = parse_field(piece.as_bytes()) else {
+            return Err(Fault::new(index + 1, Reason::BadLayout));
+        };
+        if fields.push(field).is_err() {
+            return Err(Fault::new(0, Reason::OutOfMemory));
+        }
+    }
+    Ok(Layout { fields })
+}
+
+/// The pieces between commas.
+fn pieces(alloc: Global, text: &str) -> Result<Vec<&str>, AllocError>
+    ensures pieces { IfOk result (λ v. map (λ x. x.now) v.items ≡ pieces_of text.now) }
+    ensures some { IfOk result (λ v. 1 ≤ length v.items) }
+{
+    text.split(',').collect(alloc)
+}
+
+impl Layout {
+    /// The fields.
+    pub fn fields(&self) -> &[Field]
+        ensures fields { result.now ≡ self.now }
+        ensures is_layout { IsLayout self.now }
+    {
+        &self.fields
+    }
+}

@@ -1,0 +1,47 @@
+//! Packs decimal values into bit fields, and unpacks bit fields into decimal values.
+#![tactic(auto)]
+
+mod decimal;
+mod fault;
+mod field;
+mod laws;
+mod layout;
+mod lines;
+mod packing;
+mod printing;
+#[cfg(test)]
+mod r01_first_path;
+mod run;
+mod unpacking;
+mod value;
+
+use fault::{Fault, Reason};
+use run::{report, run};
+use std::io::ErrorKind;
+use std::process::ExitCode;
+use std::{env, io};
+
+/// The program's arguments, without its name.
+fn words(rt: &HostRuntime) -> io::Result<Vec<String>> {
+    let mut words = Vec::new(rt.alloc());
+    for word in env::args(rt)?.skip(1) {
+        words.push(word)?;
+    }
+    Ok(words)
+}
+
+fn main(rt: HostRuntime) -> ExitCode {
+    let alloc = rt.alloc();
+    let mut input = rt.stdin();
+    let mut output = rt.stdout();
+    let mut faults = rt.stderr();
+    let status = match words(&rt) {
+        Ok(words) => run(alloc, &words, &mut input, &mut output, &mut faults),
+        Err(error) if error.kind() == ErrorKind::OutOfMemory => report(
+            Fault::new(0, Reason::OutOfMemory),
+            &mut faults,
+        ),
+        Err(_) => run(alloc, &[], &mut input, &mut output, &mut faults),
+    };
+    ExitCode::from(status)
+}

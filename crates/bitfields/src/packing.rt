@@ -1,0 +1,90 @@
+//! Packing: the words of an input's values, and a last alignment.
+
+ghost use Rattle.std.specs.Prelude.{◌≡◌, false, None};
+ghost use Rattle.std.specs.List.{All};
+ghost use Rattle.bitfields.specs.Layout.{IsField};
+ghost use Rattle.bitfields.specs.Packing.{field_word, words, packed, write_reason as write_reason_of, Adds, Packs};
+ghost use Rattle.bitfields.specs.Value.{lines as lines_of, values as values_of, FitsField, Fit};
+
+use crate::fault::{Fault, Reason};
+use crate::field::Field;
+use crate::layout::Layout;
+use crate::value::{behind_value, values};
+use bitstream_io::{BitWrite, BitWriter, Endianness, Error, Lent, Target};
+use std::alloc::Global;
+
+/// Packs the values that an input spells for a layout: writes the bytes of the fields' words, the last of them filled with zeros.
+///
+/// All values are read before the first byte is written: where `values` refuses the input, the stream is as it was. After that only the
+/// stream or memory refuses, as `StreamFault` or `OutOfMemory` (field 0).
+pub fn pack<E: Endianness, W: Target>(
+    alloc: Global,
+    layout: &Layout,
+    input: &[u8],
+    output: &mut W,
+) -> Result<(), Fault>
+    ensures { Packs W.held E.order layout.now (values_of 1 layout.now (lines_of input.now)) output.old result output.new }
+{
+    let values = values(alloc, layout, input)?;
+    let mut writer = BitWriter::<Lent<W>, E>::new(Lent::new(output));
+    match pack_to(layout, &values, &mut writer) {
+        Ok(()) => Ok(()),
+        Err(error) => Err(Fault::new(0, write_reason(error))),
+    }
+}
+
+/// Packs values that fit a layout: writes the words of the fields, and zeros up to the next byte.
+///
+/// Refused only where the writer's stream refuses.
+pub fn pack_to<W: BitWrite>(layout: &Layout, values: &[u128], writer: &mut W) -> Result<(), Error>
+    requires fit { Fit layout.now values.now }
+    requires sound { W.sink.failed writer.old ≡ false }
+    requires unlimited { W.sink.limit ≡ None }
+    ensures { Adds W.sink (packed W.sink.order layout.now values.now (W.sink.len writer.old)) writer.old result writer.new }
+{
+    append_fields(layout.fields(), values, writer)?;
+    writer.byte_align()
+}
+
+fn append_fields<W: BitWrite>(
+    fields: &[Field],
+    values: &[u128],
+    writer: &mut W,
+) -> Result<(), Error>
+    requires in_range { All IsField fields.now }
+    requires fit { Fit fields.now values.now }
+    requires sound { W.sink.failed writer.old ≡ false }
+    requires unlimited { W.sink.limit ≡ None }
+    ensures { Adds W.sink (words W.sink.order fields.now values.now (W.sink.len writer.old)) writer.old result writer.new }
+{
+    let mut rest = values;
+    for field in fields {
+        append_field(*field, rest, writer)?;
+        rest = behind_value(*field, rest);
+    }
+    Ok(())
+}
+
+/// Writes the word of a field, whose value is the first of these.
+fn append_field<W: BitWrite>(field: Field, values: &[u128], writer: &mut W) -> Result<(), Error>
+    requires in_range { IsField field }
+    requires fit { FitsField field values.now }
+    requires sound { W.sink.failed writer.old ≡ false }
+    requires unlimited { W.sink.limit ≡ None }
+    ensures { Adds W.sink (field_word W.sink.order field values.now (W.sink.len writer.old)) writer.old result writer.new }
+{
+    match field {
+        Field::Unsigned(width) => writer.write_unsigned_var(width, values[0]),
+        Field::Align => writer.byte_align(),
+    }
+}
+
+/// The reason for an error of a writer.
+fn write_reason(error: Error) -> Reason
+    ensures { result ≡ write_reason_of error }
+{
+    match error {
+        Error::OutOfMemory => Reason::OutOfMemory,
+        _ => Reason::StreamFault,
+    }
+}

@@ -1,0 +1,108 @@
+//! The values that an input spells for the fields of a layout.
+
+ghost use Rattle.std.specs.Prelude.{◌≡◌, ◌+◌, ◌++◌, [], ◌∷◌, ◌^◌, ◌≤◌, length, drop, map, IfOk, OnOk, IsOkUnless};
+ghost use Rattle.std.specs.List.{All};
+ghost use Rattle.bitfields.specs.Decimal.{decimal_below};
+ghost use Rattle.bitfields.specs.Fault.{fault};
+ghost use Rattle.bitfields.specs.Layout.{IsField, IsLayout};
+ghost use Rattle.bitfields.specs.Value.{lines as lines_of, values as values_of, value_in as value_in_of, value_count as value_count_of, Fit, value_list, IsOrMemory};
+
+use crate::decimal::decimal;
+use crate::fault::{Fault, Reason};
+use crate::field::Field;
+use crate::layout::Layout;
+use crate::lines::lines;
+use std::alloc::Global;
+
+/// The values that an input spells for the value fields of a layout, in their order.
+///
+/// Refused at the first value field with a fault: as `ValueMissing` where its line is missing, as `ValueMisspelt` where the line is no
+/// decimal, and as `ValueDoesNotFit` where the number is too great; else as `ValueLeftOver` (field 0) where lines remain.
+/// `OutOfMemory` (field 0) is the only other refusal.
+pub fn values(alloc: Global, layout: &Layout, input: &[u8]) -> Result<Vec<u128>, Fault>
+    ensures values { IsOrMemory (values_of 1 layout.now (lines_of input.now)) (λ v. v.items) result }
+    ensures fit { IfOk result (λ v. Fit layout.now v.items) }
+{
+    let Ok(lines) = lines(alloc, input) else {
+        return Err(Fault::new(0, Reason::OutOfMemory));
+    };
+    read_values(alloc, layout.fields(), &lines)
+}
+
+fn read_values(alloc: Global, fields: &[Field], lines: &[&[u8]]) -> Result<Vec<u128>, Fault>
+    requires { IsLayout fields.now }
+    ensures { IsOrMemory (values_of 1 fields.now (map (λ x. x.now) lines.now)) (λ v. v.items) result }
+{
+    let mut values = Vec::new(alloc);
+    let mut rest = lines;
+    for (index, field) in fields.iter().enumerate() {
+        let value = match value_in(*field, rest) {
+            Ok(value) => value,
+            Err(reason) => return Err(Fault::new(index + 1, reason)),
+        };
+        push_value(&mut values, value)?;
+        rest = behind_value(*field, rest);
+    }
+    if !rest.is_empty() {
+        return Err(Fault::new(0, Reason::ValueLeftOver));
+    }
+    Ok(values)
+}
+
+/// The value of a field that the first of the lines spells; none where the field has no value.
+fn value_in(field: Field, lines: &[&[u8]]) -> Result<Option<u128>, Reason>
+    requires { IsField field }
+    ensures value { result ≡ value_in_of field (map (λ x. x.now) lines.now) }
+    ensures line { OnOk result (value_count_of field ≤ length lines.now) }
+{
+    match field {
+        Field::Unsigned(width) => match lines.first() {
+            Some(line) => decimal_of_width(width, line).map(Some),
+            None => Err(Reason::ValueMissing),
+        },
+        Field::Align => Ok(None),
+    }
+}
+
+/// The number below 2^width that a text spells.
+#[tactic(auto, using(crate::proofs::DecimalLemmas::wider))]
+fn decimal_of_width(width: u32, text: &[u8]) -> Result<u128, Reason>
+    requires { width ≤ 128 }
+    ensures { result ≡ decimal_below (2 ^ width) text.now }
+{
+    match decimal(text) {
+        Ok(value) if width < 128 && value >> width != 0 => Err(Reason::ValueDoesNotFit),
+        Ok(value) => Ok(value),
+        Err(reason) => Err(reason),
+    }
+}
+
+fn push_value(values: &mut Vec<u128>, value: Option<u128>) -> Result<(), Fault>
+    ensures pushed { OnOk result (values.new.items ≡ values.old.items ++ value_list value) }
+    ensures memory { IsOkUnless result (fault 0 Reason.OutOfMemory) }
+{
+    if let Some(value) = value
+        && values.push(value).is_err()
+    {
+        return Err(Fault::new(0, Reason::OutOfMemory));
+    }
+    Ok(())
+}
+
+/// How many values a field has, and so how many lines.
+pub fn value_count(field: Field) -> usize
+    ensures { result ≡ value_count_of field }
+{
+    match field {
+        Field::Unsigned(_) => 1,
+        Field::Align => 0,
+    }
+}
+
+/// What follows the field's own lines, or its own values.
+pub fn behind_value<T>(field: Field, items: &[T]) -> &[T]
+    requires { value_count_of field ≤ length items.now }
+    ensures { result.now ≡ drop (value_count_of field) items.now }
+{
+    &items[value_count(field)..]
+}
