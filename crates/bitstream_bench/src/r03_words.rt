@@ -1,4 +1,5 @@
 //! Values as words, over streams that drip and streams that refuse.
+use crate::{Drip, Refuse};
 use bitstream_io::{
     BE, BitCount, BitRead, BitReadExt, BitReader, BitWrite, BitWriteExt, BitWriter, Bits,
     CheckedError, Count, Endianness, Error, LE, Source,
@@ -7,8 +8,6 @@ use std::io::{ErrorKind, Write};
 use std::num::NonZero;
 use std::process::Abort;
 use std::test::Fail;
-
-use crate::{Drip, Refuse};
 
 const D: [u8; 4] = [0xb1, 0xed, 0x3b, 0xc1];
 
@@ -29,10 +28,20 @@ fn each_read_fails<R: BitRead>(rt: &impl Abort, reader: &mut R) {
     assert!(rt; matches!(reader.read_var::<i8>(0), Err(Error::Failed)));
     assert!(rt; matches!(reader.read_var::<bool>(2), Err(Error::Failed)));
     assert!(rt; matches!(reader.read_var::<NonZero<u8>>(9), Err(Error::Failed)));
-    assert!(rt; matches!(reader.read_var::<Option<NonZero<u8>>>(0), Err(Error::Failed)));
+    assert!(rt;
+        matches!(
+            reader.read_var::<Option<NonZero<u8>>>(0),
+            Err(Error::Failed)
+        )
+    );
     assert!(rt; matches!(reader.read_var::<[bool; 2]>(3), Err(Error::Failed)));
     assert!(rt; matches!(reader.read::<Bits<1>, bool>(), Err(Error::Failed)));
-    assert!(rt; matches!(reader.read_counted::<_, i8>(BitCount::<8>::new::<0>()), Err(Error::Failed)));
+    assert!(rt;
+        matches!(
+            reader.read_counted::<_, i8>(BitCount::<8>::new::<0>()),
+            Err(Error::Failed)
+        )
+    );
     assert!(rt; matches!(reader.read_var::<[u8; 0]>(9), Ok([])));
 }
 
@@ -42,11 +51,31 @@ fn each_write_fails<W: BitWrite>(rt: &impl Abort, writer: &mut W) {
     assert!(rt; matches!(writer.write_var::<u8>(9, 0), Err(Error::Failed)));
     assert!(rt; matches!(writer.write_var::<i8>(0, 0), Err(Error::Failed)));
     assert!(rt; matches!(writer.write_var::<bool>(2, true), Err(Error::Failed)));
-    assert!(rt; matches!(writer.write_var::<NonZero<u8>>(9, NonZero::<u8>::MAX), Err(Error::Failed)));
-    assert!(rt; matches!(writer.write_var::<Option<NonZero<u8>>>(0, None), Err(Error::Failed)));
-    assert!(rt; matches!(writer.write_var::<[bool; 2]>(3, [true, false]), Err(Error::Failed)));
+    assert!(rt;
+        matches!(
+            writer.write_var::<NonZero<u8>>(9, NonZero::<u8>::MAX),
+            Err(Error::Failed)
+        )
+    );
+    assert!(rt;
+        matches!(
+            writer.write_var::<Option<NonZero<u8>>>(0, None),
+            Err(Error::Failed)
+        )
+    );
+    assert!(rt;
+        matches!(
+            writer.write_var::<[bool; 2]>(3, [true, false]),
+            Err(Error::Failed)
+        )
+    );
     assert!(rt; matches!(writer.write::<Bits<1>, bool>(true), Err(Error::Failed)));
-    assert!(rt; matches!(writer.write_counted::<_, i8>(BitCount::<8>::new::<0>(), 0), Err(Error::Failed)));
+    assert!(rt;
+        matches!(
+            writer.write_counted::<_, i8>(BitCount::<8>::new::<0>(), 0),
+            Err(Error::Failed)
+        )
+    );
     assert!(rt; writer.write_var::<[u8; 0]>(9, []).is_ok());
 }
 
@@ -59,7 +88,10 @@ fn reads_numbers<S: Source + Drop, E: Endianness + Drop>(
     let mut reader = BitReader::<S, E>::new(stream);
     for at in 0..5 {
         let answer = reader.read_var::<u32>(WIDTHS[at]);
-        assert!(rt; matches!(answer, Ok(value) if value == want[at]), "number {at}");
+        assert!(rt;
+            matches!(answer, Ok(value) if value == want[at]),
+            "number {at}"
+        );
     }
     assert!(rt; matches!(reader.read_var::<u32>(1), Err(Error::EndOfInput)));
     each_read_fails(rt, &mut reader);
@@ -74,7 +106,10 @@ fn reads_signed<S: Source + Drop, E: Endianness + Drop>(
     let mut reader = BitReader::<S, E>::new(stream);
     for at in 0..5 {
         let answer = reader.read_signed_var::<i32>(WIDTHS[at]);
-        assert!(rt; matches!(answer, Ok(value) if value == want[at]), "number {at}");
+        assert!(rt;
+            matches!(answer, Ok(value) if value == want[at]),
+            "number {at}"
+        );
     }
     assert!(rt; matches!(reader.read_signed_var::<i32>(1), Err(Error::EndOfInput)));
     each_read_fails(rt, &mut reader);
@@ -134,7 +169,12 @@ fn takes_nothing<S: Source + Drop>(rt: &impl Abort, stream: S) -> Result<(), Fai
     assert!(rt; matches!(reader.read_var::<bool>(2), Err(Error::BoolWidth)));
     assert!(rt; matches!(reader.read_var::<NonZero<u8>>(9), Err(Error::NonZeroWidth)));
     assert!(rt; matches!(reader.read_var::<NonZero<u8>>(8), Err(Error::NonZeroWidth)));
-    assert!(rt; matches!(reader.read_var::<Option<NonZero<u8>>>(9), Err(Error::ReadBits)));
+    assert!(rt;
+        matches!(
+            reader.read_var::<Option<NonZero<u8>>>(9),
+            Err(Error::ReadBits)
+        )
+    );
     assert!(rt; matches!(reader.read_var::<i8>(0), Err(Error::NoSignBit)));
     assert!(rt; matches!(reader.read_var::<i8>(9), Err(Error::ReadBits)));
     let other = reader.read_const::<Bits<0>, Bits<1>, Error>(Error::Place);
@@ -155,9 +195,19 @@ fn refuses_before_a_bit_is_written(rt: HostRuntime) -> Result<(), Fail> {
     let mut bytes = Vec::new(rt.alloc());
     let mut writer = BitWriter::<_, BE>::new(&mut bytes);
     assert!(rt; matches!(writer.write_var::<i8>(0, 0), Err(Error::NoSignBit)));
-    assert!(rt; matches!(writer.write_var::<i8>(9, 0), Err(Error::Checked(CheckedError::ExcessiveBits))));
+    assert!(rt;
+        matches!(
+            writer.write_var::<i8>(9, 0),
+            Err(Error::Checked(CheckedError::ExcessiveBits))
+        )
+    );
     assert!(rt; matches!(writer.write_var::<bool>(2, true), Err(Error::BoolWidth)));
-    assert!(rt; matches!(writer.write_var::<NonZero<u8>>(8, NonZero::<u8>::MIN), Err(Error::NonZeroWidth)));
+    assert!(rt;
+        matches!(
+            writer.write_var::<NonZero<u8>>(8, NonZero::<u8>::MIN),
+            Err(Error::NonZeroWidth)
+        )
+    );
     writer.write::<Bits<0>, u8>(5)?;
     writer.write::<Bits<8>, u8>(7)?;
     let _ = writer;

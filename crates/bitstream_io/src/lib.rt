@@ -18,7 +18,8 @@ pub mod number {
 /// Numbers of bits, and values that are known to fit one.
 pub mod count {
     pub use bitstream_count::count::{
-        BitCount, Checked, CheckedError, CheckedUnsigned, Count, LsbMask, SignedBitCount, SignedCount,
+        BitCount, Checked, CheckedError, CheckedUnsigned, Count, LsbMask, SignedBitCount,
+        SignedCount,
     };
 }
 
