@@ -215,14 +215,14 @@ fn refuses_before_a_bit_is_written(rt: HostRuntime) -> Result<(), Fail> {
     Ok(())
 }
 
-/// A number of no value in seven bits, and the greatest of all in its own size.
+/// 0 in seven bits, the greatest number in as many as it has, and zeros.
 fn writes_a_wide_number<W: BitWrite>(writer: &mut W) -> Result<(), Error> {
     writer.write::<Bits<7>, u8>(0)?;
     writer.write::<Bits<128>, u128>(u128::MAX)?;
     writer.byte_align()
 }
 
-/// The first byte, 15 of ones, and the last.
+/// The first byte, 15 bytes of ones, and the last.
 fn is_wide(rt: &impl Abort, bytes: &[u8], first: u8, last: u8) {
     assert_eq!(rt; bytes.len(), 17);
     assert_eq!(rt; bytes[0], first);
