@@ -4,6 +4,10 @@
 mod count;
 mod drip;
 mod endless;
+#[cfg(test)]
+mod own;
+#[cfg(test)]
+mod r03_words;
 mod refuse;
 #[cfg(test)]
 mod words;

@@ -12,3 +12,6 @@ pub use Rattle.bitstream_stream.specs.Reads
 pub use Rattle.bitstream_stream.specs.Sink
 pub use Rattle.bitstream_stream.specs.WriteTable
 pub use Rattle.bitstream_stream.specs.Writer
+pub use Rattle.bitstream_value.specs.Items
+pub use Rattle.bitstream_value.specs.NonZeros
+pub use Rattle.bitstream_value.specs.Truths

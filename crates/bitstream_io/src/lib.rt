@@ -18,8 +18,14 @@ pub mod number {
 /// Numbers of bits, and values that are known to fit one.
 pub mod count {
     pub use bitstream_count::count::{
-        BitCount, Checked, CheckedError, CheckedUnsigned, Count, LsbMask,
+        BitCount, Checked, CheckedError, CheckedUnsigned, Count, LsbMask, SignedBitCount,
+        SignedCount,
     };
+}
+
+/// Types whose values are words of bits.
+pub mod integer {
+    pub use bitstream_value::integer::Integer;
 }
 
 /// The two orders of bits.
@@ -33,6 +39,7 @@ pub mod read {
     pub use bitstream_order::source::Source;
     pub use bitstream_stream::read::BitRead;
     pub use bitstream_stream::reader::BitReader;
+    pub use bitstream_value::read::BitReadExt;
 }
 
 /// Writing bits.
@@ -41,11 +48,15 @@ pub mod write {
     pub use bitstream_order::target::Target;
     pub use bitstream_stream::write::BitWrite;
     pub use bitstream_stream::writer::BitWriter;
+    pub use bitstream_value::write::BitWriteExt;
 }
 
-pub use count::{BitCount, Checked, CheckedError, CheckedUnsigned, Count, LsbMask};
+pub use count::{
+    BitCount, Checked, CheckedError, CheckedUnsigned, Count, LsbMask, SignedBitCount, SignedCount,
+};
 pub use error::Error;
+pub use integer::Integer;
 pub use number::{Bits, Numeric, Primitive, SignedInteger, UnsignedInteger, Width};
 pub use order::{BE, BigEndian, Endianness, LE, LittleEndian};
-pub use read::{BitRead, BitReader, Lent, Source};
-pub use write::{BitWrite, BitWriter, Target};
+pub use read::{BitRead, BitReadExt, BitReader, Lent, Source};
+pub use write::{BitWrite, BitWriteExt, BitWriter, Target};

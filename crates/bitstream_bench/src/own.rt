@@ -1,0 +1,127 @@
+//! A reader and a writer of a user's own, which give the required calls alone. The other calls mean
+//! what they mean for the library's.
+ghost use Rattle.bitstream_io.specs.Sink.{inner_sink};
+
+use bitstream_io::{
+    BE, BitCount, BitRead, BitReadExt, BitReader, BitWrite, BitWriteExt, BitWriter, Bits, Count,
+    Error, SignedCount, SignedInteger, UnsignedInteger,
+};
+use std::test::Fail;
+
+/// A reader before another, to which it hands each required call.
+#[derive(Drop)]
+struct OwnReader<R> {
+    inner: R,
+}
+
+impl<R: BitRead> BitRead for OwnReader<R> {
+    ghost order = { R.order };
+
+    ghost state = { λ reader. R.state reader.inner };
+
+    fn read_unsigned_counted<C: Count, U: UnsignedInteger>(&mut self, bits: C) -> Result<U, Error> {
+        self.inner.read_unsigned_counted(bits)
+    }
+
+    fn read_signed_counted<C: SignedCount, S: SignedInteger>(
+        &mut self,
+        bits: C,
+    ) -> Result<S, Error> {
+        self.inner.read_signed_counted(bits)
+    }
+
+    fn byte_aligned(&self) -> bool {
+        self.inner.byte_aligned()
+    }
+
+    fn byte_align(&mut self) {
+        self.inner.byte_align()
+    }
+
+    fn fail(&mut self) {
+        self.inner.fail()
+    }
+
+    ghost demands = { λ reader. R.demands reader.inner };
+
+    ghost holds = { λ reader. R.holds reader.inner };
+}
+
+/// A sink before another, to which it hands each required call.
+#[derive(Drop)]
+struct OwnWriter<W> {
+    inner: W,
+}
+
+impl<W: BitWrite> BitWrite for OwnWriter<W> {
+    ghost sink = { inner_sink (λ writer. writer.inner) W.sink };
+
+    fn write_unsigned_counted<C: Count, U: UnsignedInteger>(
+        &mut self,
+        count: C,
+        value: U,
+    ) -> Result<(), Error> {
+        self.inner.write_unsigned_counted(count, value)
+    }
+
+    fn write_signed_counted<C: SignedCount, S: SignedInteger>(
+        &mut self,
+        count: C,
+        value: S,
+    ) -> Result<(), Error> {
+        self.inner.write_signed_counted(count, value)
+    }
+
+    fn byte_aligned(&self) -> bool {
+        self.inner.byte_aligned()
+    }
+}
+
+/// Each call that a writer of one's own inherits, once.
+fn writes_each<W: BitWrite>(writer: &mut W) -> Result<(), Error> {
+    writer.write_bit(true)?;
+    writer.write_unsigned::<Bits<4>, u8>(9)?;
+    writer.write_signed::<Bits<5>, i16>(-7)?;
+    writer.write_const::<Bits<3>, Bits<6>>()?;
+    writer.write_count(BitCount::<7>::new::<5>())?;
+    writer.write_var::<[bool; 2]>(1, [true, false])?;
+    writer.byte_align()
+}
+
+#[test]
+fn inherited_writes_are_the_same(rt: HostRuntime) -> Result<(), Fail> {
+    let mut plain = Vec::new(rt.alloc());
+    writes_each(&mut BitWriter::<_, BE>::new(&mut plain))?;
+    assert_eq!(rt; plain.as_slice(), [0xce, 0x75, 0x80].as_slice());
+    let mut own = Vec::new(rt.alloc());
+    writes_each(&mut OwnWriter {
+        inner: BitWriter::<_, BE>::new(&mut own),
+    })?;
+    assert_eq!(rt; own.as_slice(), plain.as_slice());
+    Ok(())
+}
+
+/// Each call that a reader of one's own inherits, once.
+fn reads_each<R: BitRead>(reader: &mut R) -> Result<bool, Error> {
+    let first = reader.read_bit()?;
+    let unsigned = reader.read_unsigned::<Bits<4>, u8>()?;
+    let signed = reader.read_signed::<Bits<5>, i16>()?;
+    reader.read_const::<Bits<3>, Bits<6>, Error>(Error::Place)?;
+    let count: BitCount<7> = reader.read_count()?;
+    let [yes, no] = reader.read_var::<[bool; 2]>(1)?;
+    reader.byte_align();
+    Ok(first && unsigned == 9 && signed == -7 && count.bits() == 5 && yes && !no)
+}
+
+#[test]
+fn inherited_reads_are_the_same(rt: HostRuntime) -> Result<(), Fail> {
+    let bytes = [0xce, 0x75, 0x80];
+    assert!(rt; reads_each(&mut BitReader::<_, BE>::new(&bytes[..]))?);
+    let mut own = OwnReader {
+        inner: BitReader::<_, BE>::new(&bytes[..]),
+    };
+    assert!(rt; reads_each(&mut own)?);
+    assert!(rt; matches!(own.read_bit(), Err(Error::EndOfInput)));
+    assert!(rt; matches!(own.read_var::<bool>(2), Err(Error::Failed)));
+    Ok(())
+}

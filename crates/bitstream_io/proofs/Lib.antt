@@ -1,0 +1,1 @@
+pub use Rattle.bitstream_stream.proofs.SinkLemmas

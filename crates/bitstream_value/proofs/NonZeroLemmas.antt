@@ -1,0 +1,62 @@
+-- Numbers that are not 0.
+use Rattle.std.proofs.Common.{◌≡◌, ℕ, zero, suc, ◌+◌, ◌-◌, ◌*◌, ◌^◌, ◌<◌, ◌≤◌, [], ◌∷◌, Option, Some, None, Result, Ok, Err, refl, ap, ◌∙◌, arith}
+use Rattle.std.specs.Option.{MatchOption}
+use Rattle.std.specs.Result.{IsErrAnd}
+use Rattle.std.proofs.Math.Nat.{pow-le-pow_right}
+use Rattle.std.proofs.lemmas.Bool.{lt-ltb, le-ltb}
+use Rattle.std.proofs.lemmas.Nat.{pow-add}
+use Rattle.bitstream_count.specs.declared.error.Error.{Error}
+use Rattle.bitstream_count.specs.declared.error.Error.TheVariants.{NonZeroWidth}
+use Rattle.bitstream_count.specs.Entry.{refuses, gives}
+use Rattle.bitstream_number.specs.Word.{Order}
+use Rattle.bitstream_stream.specs.ReadTable.{unsigned_entry}
+use Rattle.bitstream_stream.specs.Reads.{ReaderState, Reads}
+use Rattle.bitstream_stream.specs.Sink.{Sink, WritesAll, Writes}
+use Rattle.bitstream_stream.specs.WriteTable.{unsigned}
+use Rattle.bitstream_stream.proofs.ReadsLemmas.{Reads-chain-ok, Reads-gives, exit}
+use Rattle.bitstream_value.specs.NonZeros.{non_zero_entry, non_zero, if_any, option_entry}
+
+module _ {A : Type 0} (after : ℕ → A) where
+  pub non_zero-stops : (o : Order) (size n : ℕ) {x : Error} {r : Result A Error} {s t : ReaderState} → n < size → IsErrAnd r (λ y. y ≡ x) → Reads (unsigned_entry o size n) s (Err x) t → Reads (non_zero_entry after o size n) s r t
+  unfolding non_zero_entry
+  non_zero-stops o size n {r = r} less h k = rw (lt-ltb n size less) (exit (λ v. gives (after v)) r h k)
+
+  pub non_zero-answers : (o : Order) (size n v : ℕ) (a : A) {s t : ReaderState} → n < size → after v ≡ a → Reads (unsigned_entry o size n) s (Ok v) t → Reads (non_zero_entry after o size n) s (Ok a) t
+  unfolding non_zero_entry
+  non_zero-answers o size n v a {s = s} {t = t} less is h =
+      rw (lt-ltb n size less, ← is) (Reads-chain-ok _ (λ k. gives (after k)) h (Reads-gives (after v) t))
+
+  pub non_zero-refused : (o : Order) (size n : ℕ) {r : Result A Error} {s t : ReaderState} → size ≤ n → Reads (refuses NonZeroWidth) s r t → Reads (non_zero_entry after o size n) s r t
+  unfolding non_zero_entry
+  non_zero-refused o size n wide h = rw (le-ltb n size wide) h
+
+  pub option-stops : (o : Order) (size n : ℕ) {x : Error} {r : Result (Option A) Error} {s t : ReaderState} → IsErrAnd r (λ y. y ≡ x) → Reads (unsigned_entry o size n) s (Err x) t → Reads (option_entry after o size n) s r t
+  unfolding option_entry
+  option-stops o size n {r = r} h k = exit (λ v. gives (if_any after v)) r h k
+
+  -- the value of a number, or none of 0
+  pub if_any-is : (number : A → ℕ) (v : ℕ) (x : Option A) → ((y : A) → 0 < number y) → ((y : A) (k : ℕ) → number y ≡ k + 1 → after k ≡ y) → MatchOption x (v ≡ 0) (λ y. number y ≡ v) → if_any after v ≡ x
+  if_any-is number zero None some law h = refl
+  if_any-is number zero (Some y) some law h = absurd (let less = some y in omega (arith, less, h))
+  if_any-is number (suc k) None some law h = absurd (omega (arith, h))
+  if_any-is number (suc k) (Some y) some law h = ap Some (law y k (h ∙ (let e : suc k ≡ k + 1 = omega arith in e)))
+
+  pub option-answers : (o : Order) (size n v : ℕ) (x : Option A) {s t : ReaderState} → if_any after v ≡ x → Reads (unsigned_entry o size n) s (Ok v) t → Reads (option_entry after o size n) s (Ok x) t
+  unfolding option_entry
+  option-answers o size n v x {s = s} {t = t} is h = rw (← is) (Reads-chain-ok _ (λ k. gives (if_any after k)) h (Reads-gives (if_any after v) t))
+
+-- a number of fewer bits than the type has is not its greatest
+pub next_fits : (n size v : ℕ) → n < size → v < 2 ^ n → v + 1 < 2 ^ size
+next_fits n size v less below =
+    let more : 2 ^ (n + 1) ≤ 2 ^ size = pow-le-pow_right (omega arith) (omega arith) in
+    let twice : 2 ^ (n + 1) ≡ 2 ^ n * 2 = pow-add 2 n 1 in
+    omega (arith, more, twice, below)
+
+module _ {S : Type 0} (K : Sink S) where
+  pub writes-less : (o : Order) (size n v k : ℕ) (r : Result (Unit {0}) Error) (s t : S) → n < size → k ≡ v - 1 → WritesAll K (unsigned o size n k ∷ []) s r t → WritesAll K (non_zero o size n v ∷ []) s r t
+  unfolding non_zero
+  writes-less o size n v k r s t less is h = rw (lt-ltb n size less, ← is) h
+
+  pub writes-wide : (o : Order) (size n v : ℕ) (r : Result (Unit {0}) Error) (s t : S) → size ≤ n → Writes K (λ _. Err NonZeroWidth) s r t → Writes K (non_zero o size n v) s r t
+  unfolding non_zero
+  writes-wide o size n v r s t wide h = rw (le-ltb n size wide) h

@@ -1,0 +1,10 @@
+use Rattle.std.proofs.Common.{◌≡◌, Ok, take, length}
+use Rattle.bitstream_stream.specs.Reads.{Reads}
+use Rattle.bitstream_value.specs.Items.{items_entry}
+use Rattle.bitstream_value.proofs.integer.array.ArrayInteger.read_var.Given as goal
+
+-- the items before place i were read
+abbrev pub invariant-loop-i : goal.invariant-loop-i
+invariant-loop-i g l =
+    Reads (items_entry (g.I.Integer.reads g.R.BitRead.order (g.C.Count.number l.bits)) l.i) (g.R.BitRead.state l.initial.reader) (Ok (take l.i l.items)) (g.R.BitRead.state l.reader)
+    × (length l.items ≡ g.row.SIZE)

@@ -1,0 +1,33 @@
+-- Numbers that are not 0, and the numbers that stand for them.
+use Rattle.std.specs.Coded.{le_prop}
+use Rattle.std.specs.Prelude.{◌≡◌, ℕ, zero, suc, ◌-◌, ◌<◌, nat_lt, if◌then◌else◌, Option, Some, None, Err}
+use Rattle.std.proofs.Common.{ap, subst}
+use Rattle.bitstream_count.specs.declared.error.Error.TheVariants.{NonZeroWidth}
+use Rattle.bitstream_count.specs.Entry.{ReadEntry, WriteEntry, chain, refuses, gives}
+use Rattle.bitstream_number.specs.Word.{Order}
+use Rattle.bitstream_stream.specs.ReadTable.{unsigned_entry}
+use Rattle.bitstream_stream.specs.WriteTable.{unsigned}
+
+-- a number v that is not 0, of a type of `size` bits, stands as v - 1; `after` gives the value of v + 1
+unfoldable pub non_zero_entry : {A : Type 0} → (ℕ → A) → Order → ℕ → ℕ → ReadEntry A
+non_zero_entry after o size n = if nat_lt n size then chain (unsigned_entry o size n) (λ v. gives (after v)) else refuses NonZeroWidth
+
+unfoldable pub non_zero : Order → ℕ → ℕ → ℕ → WriteEntry
+non_zero o size n v = if nat_lt n size then unsigned o size n (v - 1) else λ _. Err NonZeroWidth
+
+-- 0 stands for none; `after` gives the value of v + 1
+abbrev pub if_any : {A : Type 0} → (ℕ → A) → ℕ → Option A
+if_any after zero = None
+if_any after (suc v) = Some (after v)
+
+-- the number of a value, 0 for none
+abbrev pub number_or_zero : {A : Type 0} → (A → ℕ) → Option A → ℕ
+number_or_zero number None = 0
+number_or_zero number (Some x) = number x
+
+unfoldable pub option_entry : {A : Type 0} → (ℕ → A) → Order → ℕ → ℕ → ReadEntry (Option A)
+option_entry after o size n = chain (unsigned_entry o size n) (λ v. gives (if_any after v))
+
+-- what is made of a number is the same for the same number
+pub made-same : {A : Type 0} (make : (k : ℕ) → 0 < k → A) (m n : ℕ) (p : 0 < m) (q : 0 < n) → m ≡ n → make m p ≡ make n q
+made-same make m n p q e = subst (λ k. (r : 0 < k) → make m p ≡ make k r) e (λ r. ap (make m) (le_prop p r)) q

@@ -1,0 +1,70 @@
+//! Types whose values are words of bits.
+ghost use Rattle.std.specs.Prelude.{ℕ, List};
+ghost use Rattle.bitstream_number.specs.Word.{Order};
+ghost use Rattle.bitstream_count.specs.Entry.{ReadEntry, WriteEntry};
+ghost use Rattle.bitstream_stream.specs.Reads.{Reads};
+ghost use Rattle.bitstream_stream.specs.Sink.{WritesAll};
+
+mod array;
+mod boolean;
+mod non_zero;
+mod signed;
+mod unsigned;
+
+use bitstream_count::count::{BitCount, Count};
+use bitstream_count::error::Error;
+use bitstream_number::number::Width;
+use bitstream_stream::read::BitRead;
+use bitstream_stream::write::BitWrite;
+
+/// A type whose values are read and written in so many bits: the integers, `bool`, arrays of such
+/// types, and numbers that are not 0 with the options of them.
+///
+/// An array is its items in order, each in so many bits. It answers as they do, so the items before
+/// one that is refused stay, and an array of no items makes no call. Any other value is one call: where
+/// it is refused for its width or value, no bit is read or written.
+pub trait Integer: Sized {
+    // What a value is in so many bits, in either order of bits: read, and written.
+    ghost reads: { Order → ℕ → ReadEntry Self };
+
+    ghost writes: { Order → ℕ → Self → List WriteEntry };
+
+    // The widths at which no value is refused for the width.
+    ghost IsWidth: { ℕ → Type 0 };
+
+    /// Reads a value in as many bits as B says.
+    fn read<B: Width, R: BitRead>(reader: &mut R) -> Result<Self, Error>
+        requires { IsWidth B.BITS }
+        ensures reads { Reads (reads R.order B.BITS) (R.state reader.old) result (R.state reader.new) }
+    {
+        Self::read_var(reader, BitCount::unknown(B::BITS))
+    }
+
+    /// Reads a value in so many bits.
+    ///
+    /// # Errors
+    ///
+    /// `ReadBits` for more bits than the type has, `NoSignBit` for a signed number in 0 bits,
+    /// `BoolWidth` for a `bool` in other than 1 bit, `NonZeroWidth` for a `NonZero` in as many bits
+    /// as its type has, or more.
+    fn read_var<C: Count, R: BitRead>(reader: &mut R, bits: C) -> Result<Self, Error>
+        ensures reads { Reads (reads R.order (C.number bits)) (R.state reader.old) result (R.state reader.new) };
+
+    /// Writes a value in as many bits as B says.
+    fn write<B: Width, W: BitWrite>(self, writer: &mut W) -> Result<(), Error>
+        requires { IsWidth B.BITS }
+        ensures writes { WritesAll W.sink (writes W.sink.order B.BITS self) writer.old result writer.new }
+    {
+        self.write_var(writer, BitCount::unknown(B::BITS))
+    }
+
+    /// Writes a value in so many bits.
+    ///
+    /// # Errors
+    ///
+    /// `Checked(ExcessiveBits)` for more bits than the type has, `Checked(ExcessiveValue)` for a value
+    /// of more bits than the count; and, before these, `NoSignBit`, `BoolWidth` and `NonZeroWidth` as
+    /// [`read_var`](Integer::read_var) has them.
+    fn write_var<C: Count, W: BitWrite>(self, writer: &mut W, bits: C) -> Result<(), Error>
+        ensures writes { WritesAll W.sink (writes W.sink.order (C.number bits) self) writer.old result writer.new };
+}

@@ -1,0 +1,32 @@
+//! Arrays, as their items in order.
+ghost use Rattle.std.specs.List.{flat_map};
+ghost use Rattle.bitstream_value.specs.Items.{items_entry};
+
+use crate::integer::Integer;
+use bitstream_count::count::Count;
+use bitstream_count::error::Error;
+use bitstream_stream::read::BitRead;
+use bitstream_stream::write::BitWrite;
+
+impl<I: Integer + Copy + Default, const SIZE: usize> Integer for [I; SIZE] {
+    ghost reads = { λ o n. items_entry (I.reads o n) SIZE };
+
+    ghost writes = { λ o n items. flat_map (I.writes o n) items };
+
+    ghost IsWidth = { I.IsWidth };
+
+    fn read_var<C: Count, R: BitRead>(reader: &mut R, bits: C) -> Result<[I; SIZE], Error> {
+        let mut items = [I::default(); SIZE];
+        for i in 0..SIZE {
+            items[i] = I::read_var(reader, bits)?;
+        }
+        Ok(items)
+    }
+
+    fn write_var<C: Count, W: BitWrite>(self, writer: &mut W, bits: C) -> Result<(), Error> {
+        for item in self.iter() {
+            (*item).write_var(writer, bits)?;
+        }
+        Ok(())
+    }
+}

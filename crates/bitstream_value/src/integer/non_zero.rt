@@ -1,0 +1,298 @@
+//! Numbers that are not 0, and options of them.
+ghost use Rattle.std.specs.Prelude.{◌≡◌, ℕ, ◌+◌, ◌^◌, ◌<◌, ◌≤◌, [], ◌∷◌, MatchOption};
+ghost use Rattle.std.specs.Int.NonZero.{non_zero_u8_get, non_zero_u16_get, non_zero_u32_get, non_zero_u64_get, non_zero_u128_get};
+ghost use Rattle.std.proofs.Common.{sym, arith};
+ghost use Rattle.bitstream_stream.specs.Reads.{Reads};
+ghost use Rattle.bitstream_stream.specs.Sink.{WritesAll};
+ghost use Rattle.bitstream_stream.specs.WriteTable.{unsigned};
+ghost use Rattle.bitstream_value.specs.NonZeros.{non_zero_entry, non_zero, option_entry, number_or_zero, made-same};
+
+use crate::integer::Integer;
+use crate::integer::unsigned::write_number;
+use crate::refuse::{refuse_read, refuse_write};
+use bitstream_count::count::Count;
+use bitstream_count::error::Error;
+use bitstream_number::number::{Numeric, UnsignedInteger};
+use bitstream_stream::read::BitRead;
+use bitstream_stream::write::BitWrite;
+use std::num::NonZero;
+
+/// A type of the numbers of an unsigned type that are not 0.
+pub trait NonZeroInteger: Copy {
+    /// The unsigned type.
+    type Base: UnsignedInteger;
+
+    // The number of a value, and the value whose number is one more.
+    ghost number: { Self → ℕ };
+
+    ghost after: { ℕ → Self };
+
+    /// The value of a number, or `None` for 0.
+    fn of(base: Self::Base) -> Option<Self>
+        ensures { MatchOption result (Self.Base.value base ≡ 0) (λ x. number x ≡ Self.Base.value base) };
+
+    /// The value of the number after this one.
+    fn next(base: Self::Base) -> Self
+        requires { Self.Base.value base + 1 < 2 ^ Self.Base.BITS_SIZE }
+        ensures { number result ≡ Self.Base.value base + 1 };
+
+    /// The number.
+    fn base(self) -> Self::Base
+        ensures value { Self.Base.value result ≡ number self }
+        ensures some { 0 < Self.Base.value result };
+
+    ghost some_law: { (x : Self) → 0 < number x };
+
+    ghost after_law: { (x : Self) (n : ℕ) → number x ≡ n + 1 → after n ≡ x };
+}
+
+/// Reads a number that is not 0, which stands as one less.
+fn read_non_zero<N: NonZeroInteger, C: Count, R: BitRead>(
+    reader: &mut R,
+    bits: C,
+) -> Result<N, Error>
+    ensures reads { Reads (non_zero_entry N.after R.order N.Base.BITS_SIZE (C.number bits)) (R.state reader.old) result (R.state reader.new) }
+{
+    if bits.bits() < N::Base::BITS_SIZE {
+        let base: N::Base = reader.read_unsigned_counted(bits)?;
+        Ok(N::next(base))
+    } else {
+        refuse_read(reader, Error::NonZeroWidth)
+    }
+}
+
+/// Writes a number that is not 0 as one less.
+fn write_non_zero<N: NonZeroInteger, C: Count, W: BitWrite>(
+    value: N,
+    writer: &mut W,
+    bits: C,
+) -> Result<(), Error>
+    ensures writes { WritesAll W.sink (non_zero W.sink.order N.Base.BITS_SIZE (C.number bits) (N.number value) ∷ []) writer.old result writer.new }
+{
+    if bits.bits() < N::Base::BITS_SIZE {
+        write_number(value.base() - N::Base::ONE, writer, bits)
+    } else {
+        refuse_write(writer, Error::NonZeroWidth)
+    }
+}
+
+impl<N: NonZeroInteger> Integer for Option<N> {
+    ghost reads = { λ o n. option_entry N.after o N.Base.BITS_SIZE n };
+
+    ghost writes = { λ o n x. unsigned o N.Base.BITS_SIZE n (number_or_zero N.number x) ∷ [] };
+
+    ghost IsWidth = { λ n. n ≤ N.Base.BITS_SIZE };
+
+    fn read_var<C: Count, R: BitRead>(reader: &mut R, bits: C) -> Result<Option<N>, Error> {
+        let base = reader.read_unsigned_counted(bits)?;
+        Ok(N::of(base))
+    }
+
+    fn write_var<C: Count, W: BitWrite>(self, writer: &mut W, bits: C) -> Result<(), Error> {
+        let base = match self {
+            Some(value) => value.base(),
+            None => N::Base::ZERO,
+        };
+        write_number(base, writer, bits)
+    }
+}
+
+impl NonZeroInteger for NonZero<u8> {
+    type Base = u8;
+
+    ghost number = { non_zero_u8_get };
+
+    ghost after = { λ n. record { value = n + 1; ok = omega arith } };
+
+    fn of(base: u8) -> Option<NonZero<u8>> {
+        NonZero::<u8>::new(base)
+    }
+
+    fn next(base: u8) -> NonZero<u8> {
+        NonZero::<u8>::MIN.saturating_add(base)
+    }
+
+    fn base(self) -> u8 {
+        self.get()
+    }
+
+    ghost some_law = { λ x. x.ok };
+
+    ghost after_law = { λ x n e. made-same (λ k p. record { value = k; ok = p }) (n + 1) x.value _ x.ok (sym e) };
+}
+
+impl Integer for NonZero<u8> {
+    ghost reads = { λ o n. non_zero_entry ⟦<NonZero<u8> as NonZeroInteger>⟧.after o 8 n };
+
+    ghost writes = { λ o n x. non_zero o 8 n (non_zero_u8_get x) ∷ [] };
+
+    ghost IsWidth = { λ n. n < 8 };
+
+    fn read_var<C: Count, R: BitRead>(reader: &mut R, bits: C) -> Result<NonZero<u8>, Error> {
+        read_non_zero(reader, bits)
+    }
+
+    fn write_var<C: Count, W: BitWrite>(self, writer: &mut W, bits: C) -> Result<(), Error> {
+        write_non_zero(self, writer, bits)
+    }
+}
+
+impl NonZeroInteger for NonZero<u16> {
+    type Base = u16;
+
+    ghost number = { non_zero_u16_get };
+
+    ghost after = { λ n. record { value = n + 1; ok = omega arith } };
+
+    fn of(base: u16) -> Option<NonZero<u16>> {
+        NonZero::<u16>::new(base)
+    }
+
+    fn next(base: u16) -> NonZero<u16> {
+        NonZero::<u16>::MIN.saturating_add(base)
+    }
+
+    fn base(self) -> u16 {
+        self.get()
+    }
+
+    ghost some_law = { λ x. x.ok };
+
+    ghost after_law = { λ x n e. made-same (λ k p. record { value = k; ok = p }) (n + 1) x.value _ x.ok (sym e) };
+}
+
+impl Integer for NonZero<u16> {
+    ghost reads = { λ o n. non_zero_entry ⟦<NonZero<u16> as NonZeroInteger>⟧.after o 16 n };
+
+    ghost writes = { λ o n x. non_zero o 16 n (non_zero_u16_get x) ∷ [] };
+
+    ghost IsWidth = { λ n. n < 16 };
+
+    fn read_var<C: Count, R: BitRead>(reader: &mut R, bits: C) -> Result<NonZero<u16>, Error> {
+        read_non_zero(reader, bits)
+    }
+
+    fn write_var<C: Count, W: BitWrite>(self, writer: &mut W, bits: C) -> Result<(), Error> {
+        write_non_zero(self, writer, bits)
+    }
+}
+
+impl NonZeroInteger for NonZero<u32> {
+    type Base = u32;
+
+    ghost number = { non_zero_u32_get };
+
+    ghost after = { λ n. record { value = n + 1; ok = omega arith } };
+
+    fn of(base: u32) -> Option<NonZero<u32>> {
+        NonZero::<u32>::new(base)
+    }
+
+    fn next(base: u32) -> NonZero<u32> {
+        NonZero::<u32>::MIN.saturating_add(base)
+    }
+
+    fn base(self) -> u32 {
+        self.get()
+    }
+
+    ghost some_law = { λ x. x.ok };
+
+    ghost after_law = { λ x n e. made-same (λ k p. record { value = k; ok = p }) (n + 1) x.value _ x.ok (sym e) };
+}
+
+impl Integer for NonZero<u32> {
+    ghost reads = { λ o n. non_zero_entry ⟦<NonZero<u32> as NonZeroInteger>⟧.after o 32 n };
+
+    ghost writes = { λ o n x. non_zero o 32 n (non_zero_u32_get x) ∷ [] };
+
+    ghost IsWidth = { λ n. n < 32 };
+
+    fn read_var<C: Count, R: BitRead>(reader: &mut R, bits: C) -> Result<NonZero<u32>, Error> {
+        read_non_zero(reader, bits)
+    }
+
+    fn write_var<C: Count, W: BitWrite>(self, writer: &mut W, bits: C) -> Result<(), Error> {
+        write_non_zero(self, writer, bits)
+    }
+}
+
+impl NonZeroInteger for NonZero<u64> {
+    type Base = u64;
+
+    ghost number = { non_zero_u64_get };
+
+    ghost after = { λ n. record { value = n + 1; ok = omega arith } };
+
+    fn of(base: u64) -> Option<NonZero<u64>> {
+        NonZero::<u64>::new(base)
+    }
+
+    fn next(base: u64) -> NonZero<u64> {
+        NonZero::<u64>::MIN.saturating_add(base)
+    }
+
+    fn base(self) -> u64 {
+        self.get()
+    }
+
+    ghost some_law = { λ x. x.ok };
+
+    ghost after_law = { λ x n e. made-same (λ k p. record { value = k; ok = p }) (n + 1) x.value _ x.ok (sym e) };
+}
+
+impl Integer for NonZero<u64> {
+    ghost reads = { λ o n. non_zero_entry ⟦<NonZero<u64> as NonZeroInteger>⟧.after o 64 n };
+
+    ghost writes = { λ o n x. non_zero o 64 n (non_zero_u64_get x) ∷ [] };
+
+    ghost IsWidth = { λ n. n < 64 };
+
+    fn read_var<C: Count, R: BitRead>(reader: &mut R, bits: C) -> Result<NonZero<u64>, Error> {
+        read_non_zero(reader, bits)
+    }
+
+    fn write_var<C: Count, W: BitWrite>(self, writer: &mut W, bits: C) -> Result<(), Error> {
+        write_non_zero(self, writer, bits)
+    }
+}
+
+impl NonZeroInteger for NonZero<u128> {
+    type Base = u128;
+
+    ghost number = { non_zero_u128_get };
+
+    ghost after = { λ n. record { value = n + 1; ok = omega arith } };
+
+    fn of(base: u128) -> Option<NonZero<u128>> {
+        NonZero::<u128>::new(base)
+    }
+
+    fn next(base: u128) -> NonZero<u128> {
+        NonZero::<u128>::MIN.saturating_add(base)
+    }
+
+    fn base(self) -> u128 {
+        self.get()
+    }
+
+    ghost some_law = { λ x. x.ok };
+
+    ghost after_law = { λ x n e. made-same (λ k p. record { value = k; ok = p }) (n + 1) x.value _ x.ok (sym e) };
+}
+
+impl Integer for NonZero<u128> {
+    ghost reads = { λ o n. non_zero_entry ⟦<NonZero<u128> as NonZeroInteger>⟧.after o 128 n };
+
+    ghost writes = { λ o n x. non_zero o 128 n (non_zero_u128_get x) ∷ [] };
+
+    ghost IsWidth = { λ n. n < 128 };
+
+    fn read_var<C: Count, R: BitRead>(reader: &mut R, bits: C) -> Result<NonZero<u128>, Error> {
+        read_non_zero(reader, bits)
+    }
+
+    fn write_var<C: Count, W: BitWrite>(self, writer: &mut W, bits: C) -> Result<(), Error> {
+        write_non_zero(self, writer, bits)
+    }
+}

@@ -1,0 +1,38 @@
+//! Values that a reader of bits reads.
+ghost use Rattle.bitstream_stream.specs.Reads.{Reads};
+
+use crate::integer::Integer;
+use bitstream_count::count::{BitCount, Count};
+use bitstream_count::error::Error;
+use bitstream_number::number::Width;
+use bitstream_stream::read::BitRead;
+
+/// Reads values of any [`Integer`] type. Each reader of bits does.
+pub trait BitReadExt: BitRead {
+    /// Reads a value in as many bits as B says.
+    fn read<B: Width, I: Integer>(&mut self) -> Result<I, Error>
+        requires { I.IsWidth B.BITS }
+        ensures reads { Reads (I.reads Self.order B.BITS) (Self.state self.old) result (Self.state self.new) };
+
+    /// Reads a value in so many bits. Refused as [`Integer::read_var`] is.
+    fn read_var<I: Integer>(&mut self, bits: u32) -> Result<I, Error>
+        ensures reads { Reads (I.reads Self.order bits) (Self.state self.old) result (Self.state self.new) };
+
+    /// Reads a value in so many bits. Refused as [`Integer::read_var`] is.
+    fn read_counted<C: Count, I: Integer>(&mut self, bits: C) -> Result<I, Error>
+        ensures reads { Reads (I.reads Self.order (C.number bits)) (Self.state self.old) result (Self.state self.new) };
+}
+
+impl<R: BitRead> BitReadExt for R {
+    fn read<B: Width, I: Integer>(&mut self) -> Result<I, Error> {
+        I::read::<B, R>(self)
+    }
+
+    fn read_var<I: Integer>(&mut self, bits: u32) -> Result<I, Error> {
+        I::read_var(self, BitCount::unknown(bits))
+    }
+
+    fn read_counted<C: Count, I: Integer>(&mut self, bits: C) -> Result<I, Error> {
+        I::read_var(self, bits)
+    }
+}

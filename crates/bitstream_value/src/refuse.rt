@@ -1,0 +1,28 @@
+//! Refusals that read and write nothing, and come after `Failed`.
+ghost use Rattle.std.specs.Prelude.{◌≡◌, false, Err};
+ghost use Rattle.bitstream_count.specs.Entry.{refuses};
+ghost use Rattle.bitstream_stream.specs.Reads.{Reads, is_run_too_long};
+ghost use Rattle.bitstream_stream.specs.Sink.{Writes};
+
+use bitstream_count::error::Error;
+use bitstream_stream::read::BitRead;
+use bitstream_stream::write::BitWrite;
+
+/// Answers the error, and takes no bits; or `Failed` where the reader has failed.
+pub(crate) fn refuse_read<T, R: BitRead>(reader: &mut R, error: Error) -> Result<T, Error>
+    requires { is_run_too_long {A = T} (Err error) ≡ false }
+    ensures reads { Reads (refuses error) (R.state reader.old) result (R.state reader.new) }
+{
+    // A word of no bits is refused where the reader has failed, and only there.
+    let _: u8 = reader.read_unsigned_var(0)?;
+    Err(error)
+}
+
+/// Answers the error, and writes no bits; or `Failed` where the sink has failed.
+pub(crate) fn refuse_write<W: BitWrite>(writer: &mut W, error: Error) -> Result<(), Error>
+    ensures writes { Writes W.sink (λ _. Err error) writer.old result writer.new }
+{
+    // A word of no bits is refused where the sink has failed, and only there.
+    writer.write_unsigned_var(0, 0u8)?;
+    Err(error)
+}

@@ -1,0 +1,38 @@
+//! Values that a sink of bits takes.
+ghost use Rattle.bitstream_stream.specs.Sink.{WritesAll};
+
+use crate::integer::Integer;
+use bitstream_count::count::{BitCount, Count};
+use bitstream_count::error::Error;
+use bitstream_number::number::Width;
+use bitstream_stream::write::BitWrite;
+
+/// Writes values of any [`Integer`] type. Each sink of bits does.
+pub trait BitWriteExt: BitWrite {
+    /// Writes a value in as many bits as B says.
+    fn write<B: Width, I: Integer>(&mut self, value: I) -> Result<(), Error>
+        requires { I.IsWidth B.BITS }
+        ensures writes { WritesAll Self.sink (I.writes Self.sink.order B.BITS value) self.old result self.new };
+
+    /// Writes a value in so many bits. Refused as [`Integer::write_var`] is.
+    fn write_var<I: Integer>(&mut self, bits: u32, value: I) -> Result<(), Error>
+        ensures writes { WritesAll Self.sink (I.writes Self.sink.order bits value) self.old result self.new };
+
+    /// Writes a value in so many bits. Refused as [`Integer::write_var`] is.
+    fn write_counted<C: Count, I: Integer>(&mut self, bits: C, value: I) -> Result<(), Error>
+        ensures writes { WritesAll Self.sink (I.writes Self.sink.order (C.number bits) value) self.old result self.new };
+}
+
+impl<W: BitWrite> BitWriteExt for W {
+    fn write<B: Width, I: Integer>(&mut self, value: I) -> Result<(), Error> {
+        value.write::<B, W>(self)
+    }
+
+    fn write_var<I: Integer>(&mut self, bits: u32, value: I) -> Result<(), Error> {
+        value.write_var(self, BitCount::unknown(bits))
+    }
+
+    fn write_counted<C: Count, I: Integer>(&mut self, bits: C, value: I) -> Result<(), Error> {
+        value.write_var(self, bits)
+    }
+}
