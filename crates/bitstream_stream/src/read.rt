@@ -1,6 +1,6 @@
 //! Calls that read bits.
 ghost use Rattle.std.specs.Prelude.{◌≡◌, ℕ, ◌+◌, ◌%◌, ◌^◌, ◌<◌, ◌≤◌, ◌⊎◌, ◌↔◌, false, Ok, IsTrue};
-ghost use Rattle.bitstream_number.specs.Word.{Order, count_width};
+ghost use Rattle.bitstream_number.specs.Word.{Order};
 ghost use Rattle.bitstream_order.specs.Draw.{seen};
 ghost use Rattle.bitstream_stream.specs.Reads.{ReaderState, Reads, ReadsConst, Demands, Holds, failing, lent};
 ghost use Rattle.bitstream_stream.specs.ReadTable.{bit_entry, unsigned_entry, signed_entry, const_entry, count_entry, align_entry};
@@ -108,7 +108,7 @@ pub trait BitRead {
     /// Reads a count with as few bits as its greatest number takes.
     fn read_count<C: Count>(&mut self) -> Result<C, Error>
         requires some { 0 < C.MAX }
-        requires full { 2 ^ count_width C.MAX ≡ C.MAX + 1 }
+        requires full { (n : ℕ) × (C.MAX + 1 ≡ 2 ^ n) }
         ensures reads { Reads (count_entry order C.MAX) (state self.old) (seen C.number result) (state self.new) }
     {
         let number = self.read_unsigned_var(count_bits(C::MAX))?;

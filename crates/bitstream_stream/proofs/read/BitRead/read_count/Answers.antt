@@ -1,4 +1,4 @@
-use Rattle.std.proofs.Common.{rules, arith, ◌<◌, ◌^◌, ◌∙◌, ap, sym}
+use Rattle.std.proofs.Common.{rules, arith, ◌<◌, ◌^◌, ◌∙◌, ap}
 use Rattle.bitstream_number.specs.Word.{count_width}
 use Rattle.bitstream_stream.proofs.SignedLemmas.{count-answers, count-stops, count_never_above, seen_is}
 use Rattle.bitstream_stream.proofs.read.BitRead.read_count.Goals as goal
@@ -14,7 +14,7 @@ pub unreachable-requires : goal.unreachable-requires
 unreachable-requires g c =
     let max : c.MAX.result < 2 ^ 32 = search rules in
     let is = c.MAX.ensures in
-    count_never_above _ g.C.Count.MAX (count_width g.C.Count.MAX) _ _ (omega (arith, max, is)) (sym c.requires.full) (c.count_bits.ensures.width ∙ ap count_width is) c.in_ok-number.ensures.reads c.in-None.ensures
+    count_never_above _ g.C.Count.MAX c.requires.full.0 _ _ (omega (arith, max, is)) c.requires.full.1 (c.count_bits.ensures.width ∙ ap count_width is) c.in_ok-number.ensures.reads c.in-None.ensures
 
 pub returns : goal.returns
 returns g c = record {
