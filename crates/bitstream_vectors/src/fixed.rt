@@ -24,6 +24,8 @@ macro_rules! write_at {
     }};
 }
 
+/// Reads an unsigned number of a type of `size` bits in so many bits, and spells the answer; none at a
+/// width that the vectors lack.
 pub fn read_fixed_unsigned<R: BitRead>(
     alloc: Global,
     reader: &mut R,
@@ -39,6 +41,8 @@ pub fn read_fixed_unsigned<R: BitRead>(
     }
 }
 
+/// Writes the unsigned number that a text spells, of a type of `size` bits, in so many bits; none where
+/// the text spells none, and at a width that the vectors lack.
 pub fn write_fixed_unsigned<W: BitWrite>(
     writer: &mut W,
     size: u32,
@@ -54,6 +58,8 @@ pub fn write_fixed_unsigned<W: BitWrite>(
     }
 }
 
+/// Reads a signed number of a type of `size` bits in so many bits, and spells the answer; none at a
+/// width that the vectors lack.
 pub fn read_fixed_signed<R: BitRead>(
     alloc: Global,
     reader: &mut R,
@@ -69,6 +75,8 @@ pub fn read_fixed_signed<R: BitRead>(
     }
 }
 
+/// Writes the signed number that a text spells, of a type of `size` bits, in so many bits; none where the
+/// text spells none, and at a width that the vectors lack.
 pub fn write_fixed_signed<W: BitWrite>(
     writer: &mut W,
     size: u32,
