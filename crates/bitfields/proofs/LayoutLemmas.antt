@@ -1,12 +1,10 @@
-use Rattle.std.proofs.Common.{◌≡◌, ℕ, ◌+◌, ◌<◌, List, [], ◌∷◌, ◌++◌, length, drop, get_or, Option, Some, None, Result, Ok, Err, refl, sym, ap, ◌∙◌, append_assoc, add-one, drop-cons}
-use Rattle.bitfields.specs.Layout.{field_of, fields_of, field_and, one_more}
+use Rattle.std.proofs.Common.{◌≡◌, ℕ, ◌+◌, ◌<◌, List, [], ◌∷◌, ◌++◌, length, drop, get_or, Option, Some, None, Result, Ok, Err, refl, sym, ap, ◌∙◌, append_assoc, add-one, drop-cons, rules, subst, All}
+use Rattle.bitfields.specs.Layout.{field_of, fields_of, field_and, one_more, IsField}
 use Rattle.bitfields.specs.Fault.{fault}
 use Rattle.bitfields.specs.declared.fault.Reason.TheVariants.{BadLayout}
 use Rattle.bitfields.specs.declared.field.Field.{Field}
 use Rattle.std.specs.Prelude.{Bool, true, false, ◌&&◌, ◌==◌, if◌then◌else◌, nat_le, option_map}
-use Rattle.std.proofs.Common.{rules, subst, All}
 use Rattle.bitfields.specs.Decimal.{is_decimal, decimal_value, decimal_within}
-use Rattle.bitfields.specs.Layout.{IsField}
 use Rattle.bitfields.specs.declared.field.Field.TheVariants.{Unsigned, Align}
 
 -- xs before what was found

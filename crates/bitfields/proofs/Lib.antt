@@ -1,9 +1,12 @@
 pub mod DecimalLemmas
+pub mod FieldReads
 pub mod LayoutLemmas
-pub mod SpelledLayouts
-pub mod ValueLemmas
-pub mod Rows
-pub mod UnpackingLemmas
-pub mod PrintedLines
 pub mod PackingLemmas
+pub mod PrintedLines
+pub mod Rows
 pub mod RunLemmas
+pub mod SpelledLayouts
+pub mod UnpackedBytes
+pub mod UnpackedWords
+pub mod UnpackingLemmas
+pub mod ValueLemmas

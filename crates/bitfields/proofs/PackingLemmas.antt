@@ -1,26 +1,20 @@
 -- Packing, field by field.
-use Rattle.std.specs.Prelude.{false, Bool, IsErrAnd, slice_index}
-use Rattle.std.proofs.Common.{◌≡◌, ℕ, ◌+◌, ◌<◌, ◌≤◌, List, [], ◌∷◌, ◌++◌, length, drop, get_or, Option, None, Result, Ok, Err, refl, sym, ap, subst, ◌∙◌, arith, append_assoc, add-one, drop-cons}
+use Rattle.std.specs.Prelude.{false, Bool, IsErrAnd, slice_index, ◌*◌, ◌%◌}
+use Rattle.std.proofs.Common.{◌≡◌, ℕ, ◌+◌, ◌<◌, ◌≤◌, List, [], ◌∷◌, ◌++◌, length, drop, get_or, Option, None, Result, Ok, Err, refl, sym, ap, subst, ◌∙◌, arith, append_assoc, add-one, drop-cons, append-nil, length-append}
 use Rattle.bitstream_count.specs.declared.error.Error.{Error}
 use Rattle.bitstream_count.specs.Entry.{WriteEntry}
-use Rattle.std.proofs.Common.{append-nil}
-use Rattle.std.proofs.lemmas.List.{drop_all}
-use Rattle.bitstream_number.specs.Word.{Order, word}
+use Rattle.std.proofs.lemmas.List.{drop_all, length-replicate}
+use Rattle.bitstream_number.specs.Word.{Order, word, High, Low, bits, digits}
 use Rattle.bitstream_stream.specs.Sink.{Sink, IsBeyond, Appended, Faulted, Writes, was_failed, was_refused, passed_limit, had_fault, did_write}
 use Rattle.bitstream_stream.specs.WriteTable.{unsigned, align}
 use Rattle.bitstream_stream.proofs.WriteLemmas.{unsigned-fits}
-use Rattle.std.specs.Prelude.{◌*◌, ◌%◌}
 use Rattle.std.specs.Borrow.{GName}
-use Rattle.std.proofs.Common.{length-append}
-use Rattle.std.proofs.lemmas.List.{length-replicate}
-use Rattle.bitstream_number.specs.Word.{High, Low, bits, digits}
 use Rattle.bitstream_number.proofs.WordLemmas.{length-word, length-bits}
 use Rattle.bitstream_stream.specs.Writer.{WriterState, fresh_writer, Carries}
 use Rattle.bitstream_stream.specs.Alignment.{to_boundary}
-use Rattle.bitfields.specs.Packing.{PackedBytes}
+use Rattle.bitfields.specs.Packing.{PackedBytes, field_word, words, packed, alignment, Adds}
 use Rattle.bitfields.specs.declared.field.Field.{Field}
 use Rattle.bitfields.specs.declared.field.Field.TheVariants.{Unsigned}
-use Rattle.bitfields.specs.Packing.{field_word, words, packed, alignment, Adds}
 use Rattle.bitfields.specs.Value.{value_count, FitsField, Fit}
 
 -- a call whose word is x adds it to a sink that has not failed and has no limit, or a request is refused
@@ -147,6 +141,3 @@ PackedBytes-from o fields vs held places s t few fresh was =
       grows = c.grows;
       says = sym (whole ∙ ap (λ (u : List Bool). bits o c.bytes ++ u) (word-none o t.queued t.queue rest) ∙ append-nil (bits o c.bytes));
     }
-
-pub first_place : (n m : GName) (ns ms : List GName) → n ∷ ns ≡ m ∷ ms → n ≡ m
-first_place n m ns ms e = cc

@@ -1,12 +1,11 @@
 -- Values that lines spell, and lines that are printed of values.
 use Rattle.std.specs.Prelude.{Bool, true, false, ◌==◌, if◌then◌else◌, nat_lt}
-use Rattle.std.proofs.Common.{◌≡◌, ℕ, ◌+◌, ◌<◌, ◌^◌, List, [], ◌∷◌, length, drop, Option, Some, None, Result, Ok, Err, refl, sym, subst, arith}
+use Rattle.std.proofs.Common.{◌≡◌, ℕ, ◌+◌, ◌<◌, ◌^◌, List, [], ◌∷◌, length, drop, Option, Some, None, Result, Ok, Err, refl, sym, subst, arith, IfOk}
 use Rattle.std.proofs.lemmas.Bool.{ltb-true}
 use Rattle.bitfields.specs.declared.fault.Reason.{Reason}
 use Rattle.bitfields.specs.declared.fault.Fault.{Fault}
 use Rattle.bitfields.specs.declared.field.Field.{Field}
 use Rattle.bitfields.specs.declared.field.Field.TheVariants.{Unsigned, Align}
-use Rattle.std.proofs.Common.{IfOk}
 use Rattle.bitfields.specs.Decimal.{is_decimal, decimal_value, decimal_below}
 use Rattle.bitfields.specs.Value.{values, value_and, value_in, value_count, some_value, Fit, IsOrMemory}
 use Rattle.bitfields.specs.Fault.{fault}

@@ -1,6 +1,5 @@
 -- Packing: the words of fields, and a last alignment.
-use Rattle.std.specs.Prelude.{◌≡◌, ◌⊎◌, Result, Ok, Err, ℕ, ◌+◌, false, Bool, List, [], ◌∷◌, ◌++◌, length, drop, replicate, slice_index}
-use Rattle.std.specs.Prelude.{Option}
+use Rattle.std.specs.Prelude.{◌≡◌, ◌⊎◌, Result, Ok, Err, ℕ, ◌+◌, false, Bool, List, [], ◌∷◌, ◌++◌, length, drop, replicate, slice_index, Option}
 use Rattle.std.specs.Io.KnownBytes.{Appends}
 use Rattle.bitstream_number.specs.Word.{Order, word, bits}
 use Rattle.bitstream_count.specs.declared.error.Error.{Error}

@@ -7,8 +7,7 @@ use Rattle.std.proofs.lemmas.Nat.{pow_pos, one_shl}
 use Rattle.std.proofs.lemmas.Bool.{le-ltb}
 use Rattle.std.proofs.lemmas.Int.{ints, of_z-to_z}
 use Rattle.bitstream_number.specs.Ints.{half-one}
-use mir.Val.{SFits, hbits, to_z}
-use mir.Val.{bits as bit_len}
+use mir.Val.{SFits, hbits, to_z, bits as bit_len}
 
 next-half : (w : Width) → bit_len w ≡ suc (hbits w)
 next-half w8 = refl

@@ -10,8 +10,7 @@ use Rattle.std.proofs.lemmas.Bool.Decides.{Decides-eqb, Decides-int_eq}
 use Rattle.std.proofs.lemmas.Int.{ints, quot_fits, fits_signed_from_abs}
 use Rattle.bitstream_number.specs.Word.{residue, FitsSignedBits, signed_from}
 use lib.Signed.{mag}
-use mir.Val.{SFits, hbits}
-use mir.Val.{bits as bit_len}
+use mir.Val.{SFits, hbits, bits as bit_len}
 
 -- ---- unsigned types
 

@@ -278,7 +278,7 @@ tails : (n m : GName) (k l : List GName) → m ∷ l ≡ n ∷ k → l ≡ k
 unfolding tail_of
 tails n m k l e = ap tail_of e
 
-heads : (n m : GName) (k l : List GName) → m ∷ l ≡ n ∷ k → m ≡ n
+pub heads : (n m : GName) (k l : List GName) → m ∷ l ≡ n ∷ k → m ≡ n
 unfolding head_of
 heads n m k l e = ap (head_of n) e
 

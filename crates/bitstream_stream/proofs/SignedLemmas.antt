@@ -1,18 +1,15 @@
 -- Calls that read a number and make another of it.
-use Rattle.std.specs.Prelude.{ℤ, pos, negsuc, ◌-ℤ◌}
-use Rattle.std.proofs.Common.{◌≡◌, ℕ, ◌+◌, ◌-◌, ◌*◌, ◌%◌, ◌^◌, ◌<◌, ◌≤◌, [], ◌++◌, length, false, Result, Ok, Err, refl, sym, ap, ◌∙◌, subst, arith, inl, inr}
+use Rattle.std.specs.Prelude.{ℤ}
+use Rattle.std.proofs.Common.{◌≡◌, ℕ, ◌+◌, ◌-◌, ◌*◌, ◌^◌, ◌<◌, ◌≤◌, [], ◌++◌, length, false, Result, Ok, Err, refl, sym, ap, ◌∙◌, subst, arith, inl, inr}
 use Rattle.std.specs.Result.{IsErrAnd}
-use Rattle.std.proofs.lemmas.Bool.{cases_lt, le-ltb}
-use Rattle.std.proofs.Math.Nat.{mod-eq_of_lt}
-use Rattle.std.proofs.Math.Pow.{pow-lt}
-use Rattle.std.proofs.lemmas.Int.{ints}
+use Rattle.std.proofs.lemmas.Bool.{cases_lt}
 use Rattle.std.proofs.lemmas.Nat.{leading_length}
 use Rattle.std.specs.Int.Count.{count_leading_zeros}
 use Rattle.bitstream_count.specs.declared.error.Error.{Error}
 use Rattle.bitstream_count.specs.declared.error.Error.TheVariants.{Failed, NoSignBit, ReadBits}
 use Rattle.bitstream_count.specs.Entry.{ReadEntry, Takes, gives, refuses, takes, word_front}
 use Rattle.bitstream_number.specs.Word.{Order, number, signed_from, count_width}
-use Rattle.bitstream_number.proofs.WordLemmas.{number-lt, half}
+use Rattle.bitstream_number.proofs.WordLemmas.{number-lt}
 use Rattle.bitstream_order.specs.Draw.{seen}
 use Rattle.bitstream_stream.specs.Reads.{ReaderState, Reads, stays, answers, faults, is_run_too_long}
 use Rattle.bitstream_stream.specs.ReadTable.{unsigned_entry, signed_entry, count_entry}
@@ -94,30 +91,6 @@ signed-refused o k size n v {s = s} {t = t} none read =
 pub signed-answers : (o : Order) (size n v : ℕ) (z : ℤ) {s t : ReaderState} → 0 < n → z ≡ signed_from n v → Reads (unsigned_entry o size n) s (Ok v) t → Reads (signed_entry o size n) s (Ok z) t
 signed-answers o size n v z {s = s} {t = t} some is h =
     subst (λ x. Reads (signed_entry o size n) s (Ok x) t) (sym is) (Reads-same (unsigned-signed o size n some) (Reads-chain-ok _ (λ k. gives (signed_from n k)) h (Reads-gives _ _)))
-
--- ---- two's complements
-
-minus-is : (v q : ℕ) → v < q → pos v -ℤ pos q ≡ negsuc (q - 1 - v)
-minus-is v q h = omega (arith, ints)
-
-negative_is : (k h n : ℕ) → h + h ≡ n → h ≤ k → k < n → h - 1 - (k - h) ≡ n - 1 - k
-negative_is k h n e le lt = omega arith
-
--- the number of a word that begins with the sign
-pub signed_from-negative : (n k v : ℕ) (z : ℤ) → 0 < n → k < 2 ^ n → 2 ^ (n - 1) ≤ k → v ≡ k - 2 ^ (n - 1) → z ≡ pos v -ℤ pos (2 ^ (n - 1)) → z ≡ signed_from n k
-signed_from-negative n k v z some below high rest is =
-    let two = half n some in
-    let small : v < 2 ^ (n - 1) = omega (arith, two) in
-    let same : 2 ^ (n - 1) - 1 - v ≡ 2 ^ n - 1 - k = ap (λ x. 2 ^ (n - 1) - 1 - x) rest ∙ negative_is k (2 ^ (n - 1)) (2 ^ n) two high below in
-    is ∙ minus-is v (2 ^ (n - 1)) small ∙ rw (le-ltb k (2 ^ (n - 1)) high) (ap negsuc same)
-
-times_one : (x : ℕ) → 1 * x ≡ x
-times_one x = omega arith
-
-pub half_is : (one k size h : ℕ) → one ≡ 1 → k < size → h ≡ (one * 2 ^ k) % 2 ^ size → h ≡ 2 ^ k
-half_is one k size h unit less is =
-    let below : 2 ^ k < 2 ^ size = pow-lt less in
-    is ∙ ap (λ x. (x * 2 ^ k) % 2 ^ size) unit ∙ ap (λ x. x % 2 ^ size) (times_one (2 ^ k)) ∙ mod-eq_of_lt below
 
 -- ---- counts
 

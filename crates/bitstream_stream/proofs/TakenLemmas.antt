@@ -14,7 +14,7 @@ use Rattle.bitstream_stream.specs.Reader.{reader_state, new_reader_state}
 use Rattle.bitstream_stream.proofs.ReadsLemmas.{Reads-places, one_place}
 use Rattle.bitstream_stream.proofs.ReaderLemmas.{Holds-reader, Demands-reader}
 
-front_bytes : (o : Order) (known after : Option (List ℕ)) (gone : List ℕ) (w held : List Bool) → Consumes known after gone
+pub front_bytes : (o : Order) (known after : Option (List ℕ)) (gone : List ℕ) (w held : List Bool) → Consumes known after gone
     → Loses (option_map (λ bs. bits o bs) known) (option_map (λ bs. held ++ bits o bs) after) w → (xs : List ℕ) → known ≡ Some xs → bits o gone ≡ w ++ held
 front_bytes o None after gone w held c l xs e = cc
 front_bytes o (Some x) None gone w held c l xs e = absurd c

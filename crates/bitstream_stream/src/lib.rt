@@ -2,7 +2,6 @@
 #![tactic(auto)]
 
 mod check;
-mod complement;
 pub mod laws;
 #[cfg(test)]
 mod lent_reads;

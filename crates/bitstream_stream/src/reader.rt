@@ -9,7 +9,6 @@ ghost use Rattle.bitstream_order.specs.Port.{port_state, fetched_count};
 ghost use Rattle.bitstream_stream.specs.Reads.{Reads};
 ghost use Rattle.bitstream_stream.specs.ReadTable.{unsigned_entry, signed_entry, align_entry};
 
-use crate::complement::signed_of;
 use crate::read::BitRead;
 use bitstream_count::count::{BitCount, Count, SignedCount};
 use bitstream_count::error::Error;
@@ -17,6 +16,7 @@ use bitstream_number::number::{Numeric, SignedInteger, UnsignedInteger};
 use bitstream_order::gather::{one_byte, whole_bytes};
 use bitstream_order::order::Endianness;
 use bitstream_order::port::Port;
+use bitstream_order::sign::signed_of;
 use bitstream_order::source::Source;
 use std::marker::PhantomData;
 

@@ -1,10 +1,8 @@
-use Rattle.std.proofs.Common.{rules, ◌≡◌, ℕ, ◌<◌, List, [], ◌∷◌, ◌++◌, length, get_or, map, None, Some, arith, inr, sym, ◌∙◌}
+use Rattle.std.proofs.Common.{rules, ◌≡◌, ℕ, ◌<◌, List, [], ◌∷◌, ◌++◌, length, get_or, map, None, Some, arith, inr, sym, ◌∙◌, length-append}
 use Rattle.std.proofs.lemmas.List.{get_or-map, length-map}
 use Rattle.std.specs.Borrow.{Bor}
-use Rattle.bitfields.specs.Layout.{field_of}
+use Rattle.bitfields.specs.Layout.{field_of, IsField}
 use Rattle.bitfields.proofs.LayoutLemmas.{one_field, bad_field, field_of-IsField, All-one}
-use Rattle.bitfields.specs.Layout.{IsField}
-use Rattle.std.proofs.Common.{length-append}
 use Rattle.std.proofs.lemmas.List.Elements.{All-append}
 use Rattle.bitfields.proofs.layout.parse_fields.Goals as goal
 

@@ -1,8 +1,9 @@
 use Rattle.std.proofs.Common.{rules, ◌≡◌, ◌∷◌, ap, sym, ◌∙◌, string_bytes}
 use Rattle.bitstream_order.specs.Port.{port_state}
 use Rattle.bitstream_stream.specs.Reads.{ReaderState}
-use Rattle.bitfields.proofs.PackingLemmas.{first_place}
-use Rattle.bitfields.proofs.UnpackingLemmas.{UnpackedBytes-from, Refused-from, Holds-reader, Demands-reader, UnpacksBytes-exit}
+use Rattle.bitstream_stream.proofs.ReaderLemmas.{Holds-reader, Demands-reader}
+use Rattle.bitstream_stream.proofs.ReadsLemmas.{heads}
+use Rattle.bitfields.proofs.UnpackedBytes.{UnpackedBytes-from, Refused-from, UnpacksBytes-exit}
 use Rattle.bitfields.proofs.unpacking.unpack.Goals as goal
 
 pub returns : goal.returns
@@ -15,7 +16,7 @@ returns g c =
     let holds = Holds-reader o port r.queue r.queued r.failed r.fetched in
     let demands = Demands-reader o port r.queue r.queued r.failed r.few r.fetched in
     let bytes = UnpackedBytes-from o c.args.layout.now (g.R.Source.known c.new.result.at.now) (c.new.result.at.ghost_name ∷ g.R.Source.places c.new.result.at.now) _ _ _ holds demands fresh all in
-    let place = first_place r.port.stream.at.ghost_name c.new.result.at.ghost_name _ _ (all.took.places ∙ ap (λ (s : ReaderState). s.places) fresh) in
+    let place = heads c.new.result.at.ghost_name r.port.stream.at.ghost_name _ _ (all.took.places ∙ ap (λ (s : ReaderState). s.places) fresh) in
     let tied = c.input-1.given.1 (sym c.new.ensures.name ∙ sym place) in
     let text : c.into_bytes.result.items ≡ string_bytes c.in_ok-lines.lines = search rules in
     rw (tied, text, ← c.new.ensures.value) bytes

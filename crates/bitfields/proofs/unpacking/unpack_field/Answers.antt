@@ -2,7 +2,7 @@ use Rattle.std.proofs.Common.{rules, ◌≡◌, [], ◌∷◌, ◌≤◌, inl, s
 use Rattle.bitstream_order.specs.Draw.{seen}
 use Rattle.bitfields.specs.Value.{value_list}
 use Rattle.bitfields.specs.Layout.{IsField}
-use Rattle.bitfields.proofs.UnpackingLemmas.{ReadsField-unsigned, ReadsField-align, align_misled}
+use Rattle.bitfields.proofs.FieldReads.{ReadsField-unsigned, ReadsField-align, align_misled}
 use Rattle.bitfields.proofs.unpacking.unpack_field.Goals as goal
 
 pub returns-in-Unsigned-clause-reads : goal.returns-in-Unsigned-clause-reads

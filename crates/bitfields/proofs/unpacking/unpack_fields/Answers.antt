@@ -1,8 +1,8 @@
-use Rattle.std.proofs.Common.{rules, ◌≡◌, ◌++◌, ◌<◌, length, string_bytes, arith, inr, ap, ◌∙◌}
-use Rattle.std.proofs.Common.{◌+◌}
+use Rattle.std.proofs.Common.{rules, ◌≡◌, ◌++◌, ◌<◌, length, string_bytes, arith, inr, ap, ◌∙◌, ◌+◌}
 use Rattle.bitfields.specs.Fault.{fault}
 use Rattle.bitfields.specs.Value.{value_list, printed_lines}
-use Rattle.bitfields.proofs.UnpackingLemmas.{Unpacking-start, Unpacking-more, UnpackedAll-from, Stopped-from, misled_after}
+use Rattle.bitfields.proofs.FieldReads.{misled_after}
+use Rattle.bitfields.proofs.UnpackingLemmas.{Unpacking-start, Unpacking-more, UnpackedAll-from, Stopped-from}
 use Rattle.bitfields.proofs.unpacking.unpack_fields.Goals as goal
 
 pub loop-index-init : goal.loop-index-init
