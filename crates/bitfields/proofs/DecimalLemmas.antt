@@ -1,7 +1,8 @@
-use Rattle.std.proofs.Common.{rules, ◌≡◌, ℕ, ◌+◌, ◌*◌, ◌^◌, ◌<◌, ◌≤◌, List, length, take, get_or, true, false, nat_lt, nat_le, arith, Bool, ap, Result, Ok, Err, refl, sym, ◌∙◌, inl, inr, [], ◌∷◌, ◌++◌, ◌/◌, ◌%◌, lit<, mod-lt, length-append, subst, All, None, Some}
+use Rattle.std.proofs.Common.{rules, ◌≡◌, ℕ, ◌+◌, ◌*◌, ◌^◌, ◌<◌, ◌≤◌, List, length, take, get_or, true, false, nat_lt, nat_le, arith, Bool, ap, Result, Ok, Err, refl, sym, ◌∙◌, inl, inr, [], ◌∷◌, ◌++◌, ◌/◌, ◌%◌, lit<, mod-lt, length-append, append-nil, append_assoc, subst, All, None, Some}
 use Rattle.std.proofs.Math.Pow.{pow_mono}
 use Rattle.std.specs.Prelude.{if◌then◌else◌, ◌&&◌, ◌==◌}
-use Rattle.std.specs.Char.{is_ascii_digit}
+use Rattle.std.specs.Char.{is_ascii_digit, digit_value}
+use Rattle.std.specs.Str.Parse.{AllDigits, digits_value, digits_value_after}
 use Rattle.std.specs.List.{list_all}
 use Rattle.std.specs.Int.{IsInRange}
 use Rattle.std.proofs.lemmas.Grind.{common_steps}
@@ -14,9 +15,9 @@ use Rattle.bitfields.specs.declared.fault.Reason.TheVariants.{ValueMisspelt, Val
 use Rattle.std.proofs.lemmas.List.{get_or_append_left}
 use Rattle.std.proofs.lemmas.List.Folds.{list_all-append}
 use Rattle.std.proofs.lemmas.List.Sums.{AllPass-from_list_all}
-use Rattle.std.proofs.lemmas.Fmt.{decimal_by_steps_wide, decimal_is_IsNumeral_wide, decimal-digits_value}
+use Rattle.std.proofs.lemmas.Fmt.{decimal_by_steps_wide, decimal_step_wide, decimal_digit, decimal_is_IsNumeral_wide}
 use Rattle.std.specs.Fmt.{decimal}
-use Rattle.std.proofs.lemmas.Str.Parse.{IsDigitsTest, numerals_by_value}
+use Rattle.std.proofs.lemmas.Str.Parse.{IsDigitsTest, digit_from_value, numerals_by_value}
 
 pub in_range : (c : ℕ) → is_ascii_digit c ≡ true → IsInRange 48 57 c
 in_range c e = search rules
@@ -128,13 +129,41 @@ list_all-IsDigitsTest = record {
   more = λ c cs h k. (let first : is_ascii_digit c ≡ true = grind (arith, common_steps) in rw first k);
 }
 
+le-digits_value_after : (n : ℕ) (ds : List ℕ) → n ≤ digits_value_after 10 n ds
+le-digits_value_after n [] = omega arith
+le-digits_value_after n (c ∷ cs) = omega (arith, le-digits_value_after (n * 10 + digit_value c) cs)
+
+decimal_value_after : (n : ℕ) (ds : List ℕ) → 0 < n → AllDigits 10 ds → digits_value_after 10 n ds < 10 ^ 64 → decimal (digits_value_after 10 n ds) ≡ decimal n ++ ds
+decimal_value_after n [] some d small = sym (append-nil (decimal n))
+decimal_value_after n (c ∷ cs) some d small =
+    let m : ℕ = n * 10 + digit_value c in
+    let k = digit_value_digit c (digit_from_value c d.0) in
+    let front : m / 10 ≡ n = omega (arith, d.0) in
+    let end : 48 + m % 10 ≡ c = omega (arith, d.0) in
+    decimal_value_after m cs (omega arith) d.1 small
+    ∙ ap (λ x. x ++ cs) (decimal_step_wide m (omega arith) (omega (arith, le-digits_value_after m cs)) ∙ (λ i. decimal (front i) ++ (end i ∷ [])))
+    ∙ append_assoc (decimal n) (c ∷ []) cs
+
+decimal_value_digits : (ds : List ℕ) → AllDigits 10 ds → 0 < length ds → (get_or ds 0 0 ≡ 48 → length ds ≡ 1) → digits_value 10 ds < 10 ^ 64 → decimal (digits_value 10 ds) ≡ ds
+decimal_value_digits [] d some lead small = absurd (omega arith)
+decimal_value_digits (c ∷ []) d some lead small =
+    let k = digit_value_digit c (digit_from_value c d.0) in
+    decimal_digit (0 * 10 + digit_value c) (omega (arith, d.0)) ∙ ap (λ x. x ∷ []) (omega arith)
+decimal_value_digits (c ∷ e ∷ cs) d some lead small =
+    let k = digit_value_digit c (digit_from_value c d.0) in
+    let no : c ≡ 48 → ⊥ = λ z. omega (arith, lead z) in
+    let is : 48 + (0 * 10 + digit_value c) ≡ c = omega arith in
+    decimal_value_after (0 * 10 + digit_value c) (e ∷ cs) (omega arith) d.1 small
+    ∙ ap (λ x. x ++ (e ∷ cs)) (decimal_digit (0 * 10 + digit_value c) (omega (arith, d.0)) ∙ ap (λ x. x ∷ []) is)
+
 -- a decimal is what is printed of its number
-pub decimal-decimal_value : (text : List ℕ) → is_decimal text ≡ true → decimal_value text < 2 ^ 64 → decimal (decimal_value text) ≡ text
+pub decimal-decimal_value : (text : List ℕ) → is_decimal text ≡ true → decimal_value text < 10 ^ 64 → decimal (decimal_value text) ≡ text
 decimal-decimal_value text e h =
     let some : 0 < length text = grind (arith, common_steps) in
     let digits : list_all is_ascii_digit text ≡ true = grind (arith, common_steps) in
     let leading : get_or text 0 0 ≡ 48 → length text ≡ 1 = λ z. grind (arith, common_steps) in
-    decimal-digits_value (numerals_by_value (λ ds. list_all is_ascii_digit ds ≡ true) list_all-IsDigitsTest) text digits some leading h
+    let own = numerals_by_value (λ ds. list_all is_ascii_digit ds ≡ true) list_all-IsDigitsTest in
+    decimal_value_digits text (own.to text digits) some leading h
 
 within_parts : (d low high : Bool) (v n : ℕ) → (if d && low && high then Some v else None) ≡ Some n → (d ≡ true) × (low ≡ true) × (high ≡ true) × (v ≡ n)
 within_parts true true true v n h = (refl, refl, refl, cc)
@@ -143,11 +172,11 @@ within_parts true false high v n h = absurd (cc)
 within_parts false low high v n h = absurd (cc)
 
 -- a text spells a number in a range only as it is printed
-pub decimal-of_within : (low high n : ℕ) (text : List ℕ) → high < 2 ^ 64 → decimal_within low high text ≡ Some n → (low ≤ n) × (n ≤ high) × (decimal n ≡ text)
+pub decimal-of_within : (low high n : ℕ) (text : List ℕ) → high < 10 ^ 64 → decimal_within low high text ≡ Some n → (low ≤ n) × (n ≤ high) × (decimal n ≡ text)
 decimal-of_within low high n text small h =
     let p = within_parts (is_decimal text) (nat_le low (decimal_value text)) (nat_le (decimal_value text) high) (decimal_value text) n h in
     let from = leb-true low (decimal_value text) p.1 in
     let to = leb-true (decimal_value text) high p.2 in
     let same = p.3 in
-    let below : decimal_value text < 2 ^ 64 = omega arith in
+    let below : decimal_value text < 10 ^ 64 = omega arith in
     (omega arith, omega arith, ap decimal (sym p.3) ∙ decimal-decimal_value text p.0 below)

@@ -11,19 +11,19 @@ use Rattle.bitfields.specs.Value.{values, value_and, value_in, value_count, some
 use Rattle.bitfields.specs.Fault.{fault}
 use Rattle.bitfields.specs.declared.fault.Reason.TheVariants.{ValueMisspelt, ValueDoesNotFit, ValueLeftOver}
 
-below_parts : (d l : Bool) (v n : ℕ) → (let r : Result ℕ Reason = if d then (if l then Ok v else Err ValueDoesNotFit) else Err ValueMisspelt in r) ≡ Ok n → (l ≡ true) × (v ≡ n)
-below_parts true true v n h = (refl, cc)
+pub below_parts : (d l : Bool) (v n : ℕ) → (let r : Result ℕ Reason = if d then (if l then Ok v else Err ValueDoesNotFit) else Err ValueMisspelt in r) ≡ Ok n → (d ≡ true) × (l ≡ true) × (v ≡ n)
+below_parts true true v n h = (refl, refl, cc)
 below_parts true false v n h = absurd (cc)
 below_parts false l v n h = absurd (cc)
 
 decimal_below-lt : (limit n : ℕ) (text : List ℕ) → decimal_below limit text ≡ Ok n → n < limit
 decimal_below-lt limit n text h =
     let p = below_parts (is_decimal text) (nat_lt (decimal_value text) limit) (decimal_value text) n h in
-    let low = ltb-true (decimal_value text) limit p.0 in
-    let same = p.1 in
+    let low = ltb-true (decimal_value text) limit p.1 in
+    let same = p.2 in
     omega arith
 
-some_value-Ok : (r : Result ℕ Reason) (o : Option ℕ) → some_value r ≡ Ok o → (n : ℕ) × (r ≡ Ok n) × (o ≡ Some n)
+pub some_value-Ok : (r : Result ℕ Reason) (o : Option ℕ) → some_value r ≡ Ok o → (n : ℕ) × (r ≡ Ok n) × (o ≡ Some n)
 some_value-Ok (Ok v) o h = (let same : Some v ≡ o = cc in (v, refl, sym same))
 some_value-Ok (Err e) o h = absurd (cc)
 

@@ -74,3 +74,7 @@ printed_line v = decimal v ++ 10 ∷ []
 -- the line of each value
 abbrev pub printed_lines : List ℕ → List ℕ
 printed_lines vs = flat_map printed_line vs
+
+-- lines, each of them ended by LF
+abbrev pub ended_lines : List (List ℕ) → List ℕ
+ended_lines ls = flat_map (λ line. line ++ 10 ∷ []) ls

@@ -2,12 +2,12 @@
 
 ghost use Rattle.std.specs.Prelude.{◌≡◌, ◌++◌, ◌+◌, ℕ, Bool, List, length, Ok};
 ghost use Rattle.std.specs.List.{All};
-ghost use Rattle.bitstream_number.specs.Word.{Order};
+ghost use Rattle.bitstream_number.specs.Word.{Order, bits};
 ghost use Rattle.bitfields.specs.declared.field.Field.{Field};
 ghost use Rattle.bitfields.specs.Layout.{layout_of, layout_text, IsField, IsLayout};
-ghost use Rattle.bitfields.specs.Packing.{words};
+ghost use Rattle.bitfields.specs.Packing.{words, packed};
 ghost use Rattle.bitfields.specs.Unpacking.{unpacked, Unpacks};
-ghost use Rattle.bitfields.specs.Value.{lines, values, printed_lines, Fit};
+ghost use Rattle.bitfields.specs.Value.{lines, values, printed_lines, ended_lines, Fit};
 
 /// The texts of fields, joined by commas, spell these fields; and no other text does.
 pub fn layouts_are_spelt()
@@ -24,4 +24,9 @@ pub fn values_are_spelt()
 /// The words of values that fit are unpacked as these values, whatever follows them.
 pub fn packed_values_are_unpacked()
     ensures { (o : Order) (k : ℕ) (fields : List Field) (vs : List ℕ) (at : ℕ) (rest : List Bool) → Fit fields vs → unpacked o k fields at (words o fields vs at ++ rest) ≡ Unpacks vs (at + length (words o fields vs at)) }
+{}
+
+/// What was packed of an input's values is unpacked as the lines of this input, each ended by LF.
+pub fn packed_lines_are_unpacked()
+    ensures { (o : Order) (fields : List Field) (input vs bytes : List ℕ) → IsLayout fields → values 1 fields (lines input) ≡ Ok vs → bits o bytes ≡ packed o fields vs 0 → (unpacked o 1 fields 0 (bits o bytes) ≡ Unpacks vs (length (words o fields vs 0))) × (printed_lines vs ≡ ended_lines (lines input)) }
 {}
