@@ -1,3 +1,4 @@
+pub mod CallLemmas
 pub mod DecimalLemmas
 pub mod FieldReads
 pub mod LayoutLemmas

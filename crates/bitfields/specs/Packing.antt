@@ -4,6 +4,8 @@ use Rattle.std.specs.Io.KnownBytes.{Appends}
 use Rattle.bitstream_number.specs.Word.{Order, word, bits}
 use Rattle.bitstream_count.specs.declared.error.Error.{Error}
 use Rattle.bitstream_count.specs.declared.error.Error.TheVariants as errors
+use Rattle.bitstream_count.specs.Entry.{WriteEntry}
+use Rattle.bitstream_stream.specs.WriteTable.{unsigned, align}
 use Rattle.bitstream_stream.specs.Sink.{Sink, Appended, Faulted}
 use Rattle.bitstream_stream.specs.Alignment.{to_boundary}
 use Rattle.bitfields.specs.declared.fault.Reason.{Reason}
@@ -35,6 +37,12 @@ abbrev pub packed : Order → List Field → List ℕ → ℕ → List Bool
 packed o fields vs at =
     let w = words o fields vs at in
     w ++ alignment (at + length w)
+
+-- the write calls of fields with these values
+abbrev pub field_writes : Order → List Field → List ℕ → List WriteEntry
+field_writes o [] vs = []
+field_writes o (Unsigned n ∷ fields) vs = unsigned o 128 n (slice_index vs 0) ∷ field_writes o fields (drop 1 vs)
+field_writes o (Align ∷ fields) vs = align ∷ field_writes o fields vs
 
 -- ---- to a sink and to a stream
 

@@ -5,6 +5,8 @@ use Rattle.std.specs.declared.io.ErrorKind.{ErrorKind}
 use Rattle.bitstream_number.specs.Word.{Order, number, bits}
 use Rattle.bitstream_count.specs.declared.error.Error.{Error}
 use Rattle.bitstream_count.specs.declared.error.Error.TheVariants as errors
+use Rattle.bitstream_count.specs.Entry.{ReadEntry, chain, gives}
+use Rattle.bitstream_stream.specs.ReadTable.{unsigned_entry, align_entry}
 use Rattle.bitstream_order.specs.Fault.{read_refusal_of}
 use Rattle.bitstream_order.specs.Mislead.{Misleads}
 use Rattle.bitstream_stream.specs.Reads.{ReaderState, Loses, Drains}
@@ -45,13 +47,25 @@ unpacked o k (field ∷ fields) at bits =
     if nat_lt (length bits) n then Stops (fault k BitsEnded)
     else values_and (field_values o field (take n bits)) (unpacked o (k + 1) fields (at + n) (drop n bits))
 
--- ---- from a reader
-
 -- the reason for an error of a reader
 abbrev pub read_reason : Error → Reason
 read_reason errors.EndOfInput = BitsEnded
 read_reason errors.OutOfMemory = OutOfMemory
 read_reason error = StreamFault
+
+-- the read call of a field, which answers the field's values
+abbrev pub field_read : Order → Field → ReadEntry (List ℕ)
+field_read o (Unsigned n) = chain (unsigned_entry o 128 n) (λ v. gives (v ∷ []))
+field_read o Align = chain align_entry (λ _. gives [])
+
+-- what the answers of the fields' read calls come to, where the fields are numbered from k on
+abbrev pub answered : ℕ → List Field → ℕ → List (Result (List ℕ) Error × ℕ) → Unpacked
+answered k [] at answers = Unpacks [] at
+answered k (field ∷ fields) at [] = Stops (fault k BitsEnded)
+answered k (field ∷ fields) at ((Ok vs, next) ∷ answers) = values_and vs (answered (k + 1) fields next answers)
+answered k (field ∷ fields) at ((Err e, next) ∷ answers) = Stops (fault k (read_reason e))
+
+-- ---- from a reader
 
 -- from a reader these bits were taken, and no request was refused
 pub record Took (old : ReaderState) (word : List Bool) (new : ReaderState) : Type 0 where

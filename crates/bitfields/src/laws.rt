@@ -1,12 +1,14 @@
 //! What holds of the meaning of layouts and values, whatever parses or packs them.
 
-ghost use Rattle.std.specs.Prelude.{◌≡◌, ◌++◌, ◌+◌, ℕ, Bool, List, length, Ok};
+ghost use Rattle.std.specs.Prelude.{◌≡◌, ◌++◌, ◌+◌, ℕ, Bool, List, [], ◌∷◌, length, map, None, Ok};
 ghost use Rattle.std.specs.List.{All};
 ghost use Rattle.bitstream_number.specs.Word.{Order, bits};
+ghost use Rattle.bitstream_stream.specs.Run.{write_run, write_refusals, read_run};
+ghost use Rattle.bitstream_stream.specs.WriteTable.{align};
 ghost use Rattle.bitfields.specs.declared.field.Field.{Field};
 ghost use Rattle.bitfields.specs.Layout.{layout_of, layout_text, IsField, IsLayout};
-ghost use Rattle.bitfields.specs.Packing.{words, packed};
-ghost use Rattle.bitfields.specs.Unpacking.{unpacked, Unpacks};
+ghost use Rattle.bitfields.specs.Packing.{words, packed, field_writes};
+ghost use Rattle.bitfields.specs.Unpacking.{unpacked, Unpacks, field_read, answered};
 ghost use Rattle.bitfields.specs.Value.{lines, values, printed_lines, ended_lines, Fit};
 
 /// The texts of fields, joined by commas, spell these fields; and no other text does.
@@ -29,4 +31,15 @@ pub fn packed_values_are_unpacked()
 /// What was packed of an input's values is unpacked as the lines of this input, each ended by LF.
 pub fn packed_lines_are_unpacked()
     ensures { (o : Order) (fields : List Field) (input vs bytes : List ℕ) → IsLayout fields → values 1 fields (lines input) ≡ Ok vs → bits o bytes ≡ packed o fields vs 0 → (unpacked o 1 fields 0 (bits o bytes) ≡ Unpacks vs (length (words o fields vs 0))) × (printed_lines vs ≡ ended_lines (lines input)) }
+{}
+
+/// Packing is the fields' write calls, none of which is refused, and a last alignment.
+pub fn packing_is_a_write_run()
+    ensures words { (o : Order) (fields : List Field) (vs : List ℕ) (at : ℕ) → All IsField fields → Fit fields vs → write_run (field_writes o fields vs ++ align ∷ []) at ≡ packed o fields vs at }
+    ensures accepted { (o : Order) (fields : List Field) (vs : List ℕ) (at : ℕ) → All IsField fields → Fit fields vs → All (λ r. r ≡ None) (write_refusals (field_writes o fields vs) at) }
+{}
+
+/// Unpacking is the fields' read calls, up to the first whose bits are too few.
+pub fn unpacking_is_a_read_run()
+    ensures { (o : Order) (k : ℕ) (fields : List Field) (at : ℕ) (bits : List Bool) → All IsField fields → unpacked o k fields at bits ≡ answered k fields at (read_run (map (field_read o) fields) at bits) }
 {}

@@ -1,10 +1,13 @@
--- Rows of the table of reads, by the definitions alone.
-use Rattle.std.specs.Prelude.{pos, negsuc}
-use Rattle.std.proofs.Common.{◌≡◌, ℕ, List, [], ◌∷◌, drop, Bool, true, false, Ok, Err, refl}
-use Rattle.bitstream_count.specs.declared.error.Error.TheVariants.{ReadBits, NoSignBit}
-use Rattle.bitstream_count.specs.Entry.{Takes, TooShort}
+-- Worked rows, by the definitions alone.
+use Rattle.std.specs.Prelude.{pos, negsuc, map, replicate, ◌-◌, ◌^◌}
+use Rattle.std.proofs.Common.{◌≡◌, ℕ, List, [], ◌∷◌, ◌++◌, drop, Bool, true, false, Some, None, Ok, Err, refl}
+use Rattle.bitstream_count.specs.declared.checked_error.CheckedError.TheVariants.{ExcessiveValue}
+use Rattle.bitstream_count.specs.declared.error.Error.TheVariants.{Checked, ReadBits, NoSignBit}
+use Rattle.bitstream_count.specs.Entry.{Takes, WriteEntry}
 use Rattle.bitstream_number.specs.Word.{Order, High, Low, digits, digits_number, bits}
 use Rattle.bitstream_stream.specs.ReadTable.{bit_entry, unsigned_entry, signed_entry, const_entry, count_entry, align_entry}
+use Rattle.bitstream_stream.specs.Run.{read_run, write_run, write_refusals}
+use Rattle.bitstream_stream.specs.WriteTable.{unsigned, align}
 
 -- B1 ED 3B C1
 four_bytes : List ℕ
@@ -14,95 +17,31 @@ four_bytes = 177 ∷ 237 ∷ 59 ∷ 193 ∷ []
 left_of : Order → ℕ → List Bool
 left_of o p = drop p (bits o four_bytes)
 
-high_at_0 : (unsigned_entry High 32 2).reads 0 (left_of High 0) ≡ Takes 2 (Ok 2)
-unfolding unsigned_entry digits digits_number left_of four_bytes
-high_at_0 = refl
+-- the widths of five numbers, and one bit more
+widths : List ℕ
+widths = 2 ∷ 3 ∷ 5 ∷ 3 ∷ 19 ∷ 1 ∷ []
 
-high_at_2 : (unsigned_entry High 32 3).reads 2 (left_of High 2) ≡ Takes 3 (Ok 6)
-unfolding unsigned_entry digits digits_number left_of four_bytes
-high_at_2 = refl
+high_run : read_run (map (unsigned_entry High 32) widths) 0 (bits High four_bytes)
+    ≡ (Ok 2, 2) ∷ (Ok 6, 5) ∷ (Ok 7, 10) ∷ (Ok 5, 13) ∷ (Ok 342977, 32) ∷ []
+unfolding unsigned_entry digits digits_number four_bytes widths
+high_run = refl
 
-high_at_5 : (unsigned_entry High 32 5).reads 5 (left_of High 5) ≡ Takes 5 (Ok 7)
-unfolding unsigned_entry digits digits_number left_of four_bytes
-high_at_5 = refl
-
-high_at_10 : (unsigned_entry High 32 3).reads 10 (left_of High 10) ≡ Takes 3 (Ok 5)
-unfolding unsigned_entry digits digits_number left_of four_bytes
-high_at_10 = refl
-
-high_at_13 : (unsigned_entry High 32 19).reads 13 (left_of High 13) ≡ Takes 19 (Ok 342977)
-unfolding unsigned_entry digits digits_number left_of four_bytes
-high_at_13 = refl
-
-high_at_end : (unsigned_entry High 32 1).reads 32 (left_of High 32) ≡ TooShort
-unfolding unsigned_entry digits digits_number left_of four_bytes
-high_at_end = refl
-
-low_at_0 : (unsigned_entry Low 32 2).reads 0 (left_of Low 0) ≡ Takes 2 (Ok 1)
-unfolding unsigned_entry digits digits_number left_of four_bytes
-low_at_0 = refl
-
-low_at_2 : (unsigned_entry Low 32 3).reads 2 (left_of Low 2) ≡ Takes 3 (Ok 4)
-unfolding unsigned_entry digits digits_number left_of four_bytes
-low_at_2 = refl
-
-low_at_5 : (unsigned_entry Low 32 5).reads 5 (left_of Low 5) ≡ Takes 5 (Ok 13)
-unfolding unsigned_entry digits digits_number left_of four_bytes
-low_at_5 = refl
-
-low_at_10 : (unsigned_entry Low 32 3).reads 10 (left_of Low 10) ≡ Takes 3 (Ok 3)
-unfolding unsigned_entry digits digits_number left_of four_bytes
-low_at_10 = refl
-
-low_at_13 : (unsigned_entry Low 32 19).reads 13 (left_of Low 13) ≡ Takes 19 (Ok 395743)
-unfolding unsigned_entry digits digits_number left_of four_bytes
-low_at_13 = refl
-
-low_at_end : (unsigned_entry Low 32 1).reads 32 (left_of Low 32) ≡ TooShort
-unfolding unsigned_entry digits digits_number left_of four_bytes
-low_at_end = refl
+low_run : read_run (map (unsigned_entry Low 32) widths) 0 (bits Low four_bytes)
+    ≡ (Ok 1, 2) ∷ (Ok 4, 5) ∷ (Ok 13, 10) ∷ (Ok 3, 13) ∷ (Ok 395743, 32) ∷ []
+unfolding unsigned_entry digits digits_number four_bytes widths
+low_run = refl
 
 -- ---- signed numbers
 
-signed_high_at_0 : (signed_entry High 32 2).reads 0 (left_of High 0) ≡ Takes 2 (Ok (negsuc 1))
-unfolding signed_entry digits digits_number left_of four_bytes
-signed_high_at_0 = refl
+signed_high_run : read_run (map (signed_entry High 32) widths) 0 (bits High four_bytes)
+    ≡ (Ok (negsuc 1), 2) ∷ (Ok (negsuc 1), 5) ∷ (Ok (pos 7), 10) ∷ (Ok (negsuc 2), 13) ∷ (Ok (negsuc 181310), 32) ∷ []
+unfolding signed_entry digits digits_number four_bytes widths
+signed_high_run = refl
 
-signed_high_at_2 : (signed_entry High 32 3).reads 2 (left_of High 2) ≡ Takes 3 (Ok (negsuc 1))
-unfolding signed_entry digits digits_number left_of four_bytes
-signed_high_at_2 = refl
-
-signed_high_at_5 : (signed_entry High 32 5).reads 5 (left_of High 5) ≡ Takes 5 (Ok (pos 7))
-unfolding signed_entry digits digits_number left_of four_bytes
-signed_high_at_5 = refl
-
-signed_high_at_10 : (signed_entry High 32 3).reads 10 (left_of High 10) ≡ Takes 3 (Ok (negsuc 2))
-unfolding signed_entry digits digits_number left_of four_bytes
-signed_high_at_10 = refl
-
-signed_high_at_13 : (signed_entry High 32 19).reads 13 (left_of High 13) ≡ Takes 19 (Ok (negsuc 181310))
-unfolding signed_entry digits digits_number left_of four_bytes
-signed_high_at_13 = refl
-
-signed_low_at_0 : (signed_entry Low 32 2).reads 0 (left_of Low 0) ≡ Takes 2 (Ok (pos 1))
-unfolding signed_entry digits digits_number left_of four_bytes
-signed_low_at_0 = refl
-
-signed_low_at_2 : (signed_entry Low 32 3).reads 2 (left_of Low 2) ≡ Takes 3 (Ok (negsuc 3))
-unfolding signed_entry digits digits_number left_of four_bytes
-signed_low_at_2 = refl
-
-signed_low_at_5 : (signed_entry Low 32 5).reads 5 (left_of Low 5) ≡ Takes 5 (Ok (pos 13))
-unfolding signed_entry digits digits_number left_of four_bytes
-signed_low_at_5 = refl
-
-signed_low_at_10 : (signed_entry Low 32 3).reads 10 (left_of Low 10) ≡ Takes 3 (Ok (pos 3))
-unfolding signed_entry digits digits_number left_of four_bytes
-signed_low_at_10 = refl
-
-signed_low_at_13 : (signed_entry Low 32 19).reads 13 (left_of Low 13) ≡ Takes 19 (Ok (negsuc 128544))
-unfolding signed_entry digits digits_number left_of four_bytes
-signed_low_at_13 = refl
+signed_low_run : read_run (map (signed_entry Low 32) widths) 0 (bits Low four_bytes)
+    ≡ (Ok (pos 1), 2) ∷ (Ok (negsuc 3), 5) ∷ (Ok (pos 13), 10) ∷ (Ok (pos 3), 13) ∷ (Ok (negsuc 128544), 32) ∷ []
+unfolding signed_entry digits digits_number four_bytes widths
+signed_low_run = refl
 
 no_sign : (signed_entry High 8 0).reads 0 (left_of High 0) ≡ Takes 0 (Err NoSignBit)
 unfolding signed_entry left_of four_bytes
@@ -145,3 +84,29 @@ aligned_at_three = refl
 aligned_at_eight : align_entry.reads 8 (left_of Low 8) ≡ Takes 0 (Ok tt)
 unfolding align_entry digits left_of four_bytes
 aligned_at_eight = refl
+
+-- ---- writes
+
+-- 7 zeros, the greatest number of 128 bits, and an alignment
+long_calls : Order → List WriteEntry
+long_calls o = unsigned o 8 7 0 ∷ unsigned o 128 128 (2 ^ 128 - 1) ∷ align ∷ []
+
+long_high : write_run (long_calls High) 0 ≡ bits High (1 ∷ replicate 15 255 ++ 254 ∷ [])
+unfolding unsigned digits long_calls
+long_high = refl
+
+long_low : write_run (long_calls Low) 0 ≡ bits Low (128 ∷ replicate 15 255 ++ 127 ∷ [])
+unfolding unsigned digits long_calls
+long_low = refl
+
+-- numbers in 4 bits, of which the third does not fit
+misfit_calls : List WriteEntry
+misfit_calls = unsigned High 8 4 1 ∷ unsigned High 8 4 2 ∷ unsigned High 8 4 16 ∷ unsigned High 8 4 3 ∷ []
+
+misfit_words : write_run misfit_calls 0 ≡ bits High (18 ∷ []) ++ false ∷ false ∷ true ∷ true ∷ []
+unfolding unsigned digits misfit_calls
+misfit_words = refl
+
+misfit_refusals : write_refusals misfit_calls 0 ≡ None ∷ None ∷ Some (Checked ExcessiveValue) ∷ None ∷ []
+unfolding unsigned digits misfit_calls
+misfit_refusals = refl

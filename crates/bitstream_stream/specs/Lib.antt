@@ -2,6 +2,7 @@ pub mod Alignment
 pub mod ReadTable
 pub mod Reader
 pub mod Reads
+pub mod Run
 pub mod Sink
 pub mod WriteTable
 pub mod Writer
