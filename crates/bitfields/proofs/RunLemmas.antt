@@ -1,24 +1,14 @@
--- What is written where a call of the program fails.
-use Rattle.std.specs.Prelude.{IfErr, IsErrAnd, Option}
-use Rattle.std.proofs.Common.{◌≡◌, inl, inr, ℕ, ◌<◌, List, Result, Ok, Err, sym, subst, arith, ap}
+-- What becomes of a call of the program.
+use Rattle.std.specs.Prelude.{IsErrAnd, Option}
+use Rattle.std.proofs.Common.{◌≡◌, ℕ, List, Result, Ok, Err, inr, refl, subst, sym}
 use Rattle.bitstream_number.specs.Word.{Order}
 use Rattle.bitfields.specs.declared.fault.Fault.{Fault}
 use Rattle.bitfields.specs.declared.field.Field.{Field}
-use Rattle.bitfields.specs.Packing.{IsOutside, Packs}
+use Rattle.bitfields.specs.Run.{UnpacksInput, any_refusal}
+use Rattle.bitfields.specs.Unpacking.{Refused}
 
-status_outside : (f : Fault) → IsOutside f → f.status ≡ 5
-status_outside f (inl h) = ap (λ (g : Fault). g.status) h
-status_outside f (inr h) = ap (λ (g : Fault). g.status) h
-
--- a pack that fails, other than by its streams or memory, writes nothing
-pub Packs-unwritten : {W : Type 0} (contents : W → Option (List ℕ)) (o : Order) (fields : List Field) (expected : Result (List ℕ) Fault) (old : W) (f : Fault) (new : W) → Packs contents o fields expected old (Err f) new → f.status < 5 → new ≡ old
-Packs-unwritten contents o fields (Ok vs) old f new h low = absurd (let five = status_outside f h in omega arith)
-Packs-unwritten contents o fields (Err e) old f new h low = h.0
-
-pub IfErr-exit : {T : Type 0} (P : Fault → Type 0) (r : Result T Fault) (f : Fault) → IsErrAnd r (λ e. e ≡ f) → P f → IfErr r P
-IfErr-exit P (Ok x) f h p = tt
-IfErr-exit P (Err e) f h p = subst P (sym h) p
-
-pub IfErr-always : {T : Type 0} (P : Fault → Type 0) (r : Result T Fault) → ((f : Fault) → P f) → IfErr r P
-IfErr-always P (Ok x) p = tt
-IfErr-always P (Err e) p = p e
+-- an input whose bits were refused is answered so
+pub UnpacksInput-refused : {R W : Type 0} (known : R → Option (List ℕ)) (contents : W → Option (List ℕ)) (o : Order) (fields : List Field) (input : R) (output : W) (f : Fault) (r : Result (Unit {0}) Fault) (input_after : R)
+    → IsErrAnd r (λ e. e ≡ f) → Refused known any_refusal o fields input f → UnpacksInput known contents o fields input output r input_after output
+UnpacksInput-refused known contents o fields input output f (Ok done) input_after h k = absurd h
+UnpacksInput-refused known contents o fields input output f (Err e) input_after h k = inr (subst (Refused known any_refusal o fields input) (sym h) k, refl)

@@ -1,10 +1,12 @@
 -- The arguments of a call of the program.
-use Rattle.std.specs.Prelude.{ℕ, ◌&&◌, Bool, false, if◌then◌else◌, List, [], ◌∷◌, codes, Option, Some, None, is_some, nat_eq}
+use Rattle.std.specs.Prelude.{ℕ, if◌then◌else◌, List, [], ◌∷◌, codes, Option, Some, None, Result, Ok, Err, nat_eq}
 use Rattle.std.specs.Cmp.Lexicographic.{pointwise}
-use Rattle.std.specs.declared.io.ErrorKind.{ErrorKind}
-use Rattle.std.specs.declared.io.ErrorKind.TheVariants as kinds
-use Rattle.bitfields.specs.declared.fault.Reason.{Reason}
-use Rattle.bitfields.specs.declared.fault.Reason.TheVariants.{StreamFault, OutOfMemory}
+use Rattle.bitfields.specs.declared.fault.Reason.TheVariants.{BadArguments}
+use Rattle.bitfields.specs.declared.fault.Fault.{Fault}
+use Rattle.bitfields.specs.declared.field.Field.{Field}
+use Rattle.bitfields.specs.Fault.{fault}
+use Rattle.bitfields.specs.Layout.{layout_of}
+use Rattle.bitstream_number.specs.Word.{Order, High, Low}
 use Rattle.bitfields.specs.declared.run.Command.{Command}
 use Rattle.bitfields.specs.declared.run.Command.TheVariants.{Pack, Unpack}
 use Rattle.bitfields.specs.declared.run.NamedOrder.{NamedOrder}
@@ -24,15 +26,27 @@ order_of word =
     else if pointwise nat_eq word (codes "le") then Some Little
     else None
 
--- three words: a command, an order of bits and a layout
-abbrev pub is_call : List (List ℕ) → Bool
-is_call [] = false
-is_call (command ∷ []) = false
-is_call (command ∷ order ∷ []) = false
-is_call (command ∷ order ∷ layout ∷ []) = is_some (command_of command) && is_some (order_of order)
-is_call (command ∷ order ∷ layout ∷ more ∷ others) = false
+-- the order of bits, by its name
+abbrev pub bit_order : NamedOrder → Order
+bit_order Big = High
+bit_order Little = Low
 
--- the reason for a refusal of a stream, by its kind
-abbrev pub refusal_reason : ErrorKind → Reason
-refusal_reason kinds.OutOfMemory = OutOfMemory
-refusal_reason kind = StreamFault
+-- what is done with the fields of a layout, and in which order of bits
+pub record Task : Type 0 where
+  pub command : Command
+  pub order : Order
+  pub fields : List Field
+
+abbrev pub task_with : Option Command → Option NamedOrder → Result (List Field) Fault → Result Task Fault
+task_with (Some command) (Some order) (Ok fields) = Ok (record { command = command; order = bit_order order; fields = fields })
+task_with (Some command) (Some order) (Err f) = Err f
+task_with (Some command) None layout = Err (fault 0 BadArguments)
+task_with None order layout = Err (fault 0 BadArguments)
+
+-- what three words ask for, a command, an order of bits and a layout; or the fault in them
+abbrev pub task_of : List (List ℕ) → Result Task Fault
+task_of [] = Err (fault 0 BadArguments)
+task_of (command ∷ []) = Err (fault 0 BadArguments)
+task_of (command ∷ order ∷ []) = Err (fault 0 BadArguments)
+task_of (command ∷ order ∷ layout ∷ []) = task_with (command_of command) (order_of order) (layout_of layout)
+task_of (command ∷ order ∷ layout ∷ more ∷ others) = Err (fault 0 BadArguments)

@@ -1,6 +1,8 @@
 -- Faults, and their printed text.
 use Rattle.std.specs.Prelude.{ℕ, List, ◌++◌, codes}
 use Rattle.std.specs.Fmt.{decimal}
+use Rattle.std.specs.declared.io.ErrorKind.{ErrorKind}
+use Rattle.std.specs.declared.io.ErrorKind.TheVariants as kinds
 use Rattle.bitfields.specs.declared.fault.Reason.{Reason}
 use Rattle.bitfields.specs.declared.fault.Reason.TheVariants.{BadArguments, TooManyFields, BadLayout, ValueMissing, ValueMisspelt, ValueDoesNotFit, ValueLeftOver, BitsEnded, ConstantDiffers, LimitPassed, StreamFault, OutOfMemory}
 use Rattle.bitfields.specs.declared.fault.Fault.{Fault}
@@ -23,6 +25,11 @@ reason_status OutOfMemory = 5
 -- the fault of field k (0 where none is named)
 abbrev pub fault : ℕ → Reason → Fault
 fault k why = record { status = reason_status why; field = k; reason = why }
+
+-- the reason for a refusal of a stream, by its kind
+abbrev pub refusal_reason : ErrorKind → Reason
+refusal_reason kinds.OutOfMemory = OutOfMemory
+refusal_reason kind = StreamFault
 
 abbrev pub reason_text : Reason → List ℕ
 reason_text BadArguments = codes "bad arguments"

@@ -1,7 +1,8 @@
+pub mod Call
 pub mod Decimal
 pub mod Fault
 pub mod Layout
-pub mod Value
 pub mod Packing
+pub mod Run
 pub mod Unpacking
-pub mod Call
+pub mod Value

@@ -2,8 +2,11 @@
 
 ghost use Rattle.std.specs.Prelude.{◌≡◌};
 ghost use Rattle.bitfields.specs.Fault.{fault, reason_status, reason_text};
+ghost use Rattle.bitfields.specs.declared.fault.Reason.TheVariants.{OutOfMemory};
 
-use std::fmt;
+use std::alloc::{AllocError, AllocFailed};
+use std::io::ErrorKind;
+use std::{fmt, io};
 
 /// Why a call fails.
 #[derive(Clone, Copy, Debug, PartialEq, Eq, Drop)]
@@ -52,6 +55,39 @@ impl Fault {
             field,
             reason,
         }
+    }
+}
+
+/// A refusal of a stream, which names no field: `OutOfMemory` where that is its kind, else `StreamFault`.
+impl From<io::Error> for Fault {
+    ghost use Rattle.std.specs.IoError.{error_kind};
+    ghost use Rattle.bitfields.specs.Fault.{refusal_reason};
+
+    ghost from_gives = { λ e f. f ≡ fault 0 (refusal_reason (error_kind e)) };
+
+    fn from(error: io::Error) -> Fault {
+        match error.kind() {
+            ErrorKind::OutOfMemory => Fault::new(0, Reason::OutOfMemory),
+            _ => Fault::new(0, Reason::StreamFault),
+        }
+    }
+}
+
+/// Memory was refused: `OutOfMemory`, which names no field.
+impl From<AllocError> for Fault {
+    ghost from_gives = { λ _ f. f ≡ fault 0 OutOfMemory };
+
+    fn from(_refused: AllocError) -> Fault {
+        Fault::new(0, Reason::OutOfMemory)
+    }
+}
+
+/// As for an [`AllocError`].
+impl<T: Drop> From<AllocFailed<T>> for Fault {
+    ghost from_gives = { λ _ f. f ≡ fault 0 OutOfMemory };
+
+    fn from(_refused: AllocFailed<T>) -> Fault {
+        Fault::new(0, Reason::OutOfMemory)
     }
 }
 

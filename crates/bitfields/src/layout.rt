@@ -36,9 +36,7 @@ const MOST_FIELDS: usize = 256;
 pub fn parse_layout(alloc: Global, text: &str) -> Result<Layout, Fault>
     ensures { IsUnlessMemory (layout_of text.now) result }
 {
-    let Ok(parts) = pieces(alloc, text) else {
-        return Err(Fault::new(0, Reason::OutOfMemory));
-    };
+    let parts = pieces(alloc, text)?;
     if parts.len() > MOST_FIELDS {
         return Err(Fault::new(0, Reason::TooManyFields));
     }
@@ -56,9 +54,7 @@ fn parse_fields(alloc: Global, parts: &[&str]) -> Result<Layout, Fault>
         let Some(field) = parse_field(piece.as_bytes()) else {
             return Err(Fault::new(index + 1, Reason::BadLayout));
         };
-        if fields.push(field).is_err() {
-            return Err(Fault::new(0, Reason::OutOfMemory));
-        }
+        fields.push(field)?;
     }
     Ok(Layout { fields })
 }

@@ -1,18 +1,16 @@
 //! A whole call of the program, over three streams.
 
-ghost use Rattle.std.specs.Prelude.{◌≡◌, ◌<◌, false, map, IfErr, IsErrOf, string_bytes};
-ghost use Rattle.std.specs.IoError.{error_kind};
-ghost use Rattle.bitfields.specs.Call.{is_call, command_of, order_of, refusal_reason};
-ghost use Rattle.bitfields.specs.Fault.{fault};
+ghost use Rattle.std.specs.Prelude.{◌≡◌, map, string_bytes};
+ghost use Rattle.bitfields.specs.Call.{command_of, order_of, task_of};
+ghost use Rattle.bitfields.specs.Run.{Calls, PacksInput, Performs, Runs, UnpacksInput};
 
 use crate::fault::{Fault, Reason};
 use crate::layout::{Layout, parse_layout};
 use crate::packing::pack;
 use crate::unpacking::unpack;
-use bitstream_order::order::{BigEndian, Endianness, LittleEndian};
+use bitstream_io::{BigEndian, Endianness, LittleEndian};
 use std::alloc::Global;
-use std::io;
-use std::io::{ErrorKind, Read, Write};
+use std::io::{Read, Write};
 
 /// What is done with a layout.
 #[derive(Clone, Copy, Debug, PartialEq, Eq, Drop)]
@@ -41,8 +39,7 @@ pub fn run<R: Read, W: Write, X: Write>(
     output: &mut W,
     faults: &mut X,
 ) -> u8
-    ensures arguments { is_call (map string_bytes words.now) ≡ false → result ≡ 2 }
-    ensures unwritten { 0 < result → result < 5 → output.new ≡ output.old }
+    ensures { Runs R.remaining W.contents (task_of (map string_bytes words.now)) input.old output.old result input.new output.new }
 {
     match call(alloc, words, input, output) {
         Ok(()) => 0,
@@ -64,8 +61,7 @@ fn call<R: Read, W: Write>(
     input: &mut R,
     output: &mut W,
 ) -> Result<(), Fault>
-    ensures arguments { is_call (map string_bytes words.now) ≡ false → IsErrOf result (fault 0 Reason.BadArguments) }
-    ensures unwritten { IfErr result (λ f. f.status < 5 → output.new ≡ output.old) }
+    ensures { Calls R.remaining W.contents (task_of (map string_bytes words.now)) input.old output.old result input.new output.new }
 {
     let [command, order, text] = words else {
         return Err(Fault::new(0, Reason::BadArguments));
@@ -110,7 +106,7 @@ fn perform<E: Endianness, R: Read, W: Write>(
     input: &mut R,
     output: &mut W,
 ) -> Result<(), Fault>
-    ensures { IfErr result (λ f. f.status < 5 → output.new ≡ output.old) }
+    ensures { Performs R.remaining W.contents command E.order layout.now input.old output.old result input.new output.new }
 {
     match command {
         Command::Pack => pack_input::<E, R, W>(alloc, layout, input, output),
@@ -124,14 +120,13 @@ fn pack_input<E: Endianness, R: Read, W: Write>(
     input: &mut R,
     output: &mut W,
 ) -> Result<(), Fault>
-    ensures { IfErr result (λ f. f.status < 5 → output.new ≡ output.old) }
+    ensures { PacksInput R.remaining W.contents E.order layout.now input.old output.old result input.new output.new }
 {
     let mut bytes = Vec::new(alloc);
-    if let Err(error) = input.read_to_end(&mut bytes) {
-        return Err(stream_fault(error));
-    }
+    input.read_to_end(&mut bytes)?;
     pack::<E, W>(alloc, layout, &bytes, output)?;
-    flush(output)
+    output.flush()?;
+    Ok(())
 }
 
 fn unpack_input<E: Endianness, R: Read, W: Write>(
@@ -140,30 +135,10 @@ fn unpack_input<E: Endianness, R: Read, W: Write>(
     input: &mut R,
     output: &mut W,
 ) -> Result<(), Fault>
-    ensures { IfErr result (λ f. f.status < 5 → output.new ≡ output.old) }
+    ensures { UnpacksInput R.remaining W.contents E.order layout.now input.old output.old result input.new output.new }
 {
     let lines = unpack::<E, R>(alloc, layout, input)?;
-    if let Err(error) = output.write_all(&lines) {
-        return Err(stream_fault(error));
-    }
-    flush(output)
-}
-
-fn flush<W: Write>(output: &mut W) -> Result<(), Fault>
-    ensures { IfErr result (λ f. f.status ≡ 5) }
-{
-    match output.flush() {
-        Ok(()) => Ok(()),
-        Err(error) => Err(stream_fault(error)),
-    }
-}
-
-/// The fault for a stream's refusal: `OutOfMemory` where that is its kind.
-fn stream_fault(error: io::Error) -> Fault
-    ensures { result ≡ fault 0 (refusal_reason (error_kind error)) }
-{
-    match error.kind() {
-        ErrorKind::OutOfMemory => Fault::new(0, Reason::OutOfMemory),
-        _ => Fault::new(0, Reason::StreamFault),
-    }
+    output.write_all(&lines)?;
+    output.flush()?;
+    Ok(())
 }

@@ -23,9 +23,7 @@ pub fn values(alloc: Global, layout: &Layout, input: &[u8]) -> Result<Vec<u128>,
     ensures values { IsOrMemory (values_of 1 layout.now (lines_of input.now)) (λ v. v.items) result }
     ensures fit { IfOk result (λ v. Fit layout.now v.items) }
 {
-    let Ok(lines) = lines(alloc, input) else {
-        return Err(Fault::new(0, Reason::OutOfMemory));
-    };
+    let lines = lines(alloc, input)?;
     read_values(alloc, layout.fields(), &lines)
 }
 
@@ -81,10 +79,8 @@ fn push_value(values: &mut Vec<u128>, value: Option<u128>) -> Result<(), Fault>
     ensures pushed { OnOk result (values.new.items ≡ values.old.items ++ value_list value) }
     ensures memory { IsOkUnless result (fault 0 Reason.OutOfMemory) }
 {
-    if let Some(value) = value
-        && values.push(value).is_err()
-    {
-        return Err(Fault::new(0, Reason::OutOfMemory));
+    if let Some(value) = value {
+        values.push(value)?;
     }
     Ok(())
 }
