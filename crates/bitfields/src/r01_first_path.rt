@@ -2,6 +2,7 @@
 use crate::run::run;
 use bitstream_bench::{Drip, Refuse};
 use std::alloc::{AllocError, Global};
+use std::io;
 use std::io::{ErrorKind, Read, Write};
 use std::process::Abort;
 use std::test::Fail;
@@ -308,6 +309,51 @@ fn packs_nothing_of_an_input_that_is_refused(rt: HostRuntime) -> Result<(), Fail
             assert_eq!(rt; run_refused(&rt, alloc, &ROWS[0], served, kind, fault)?, 5);
         }
         assert_eq!(rt; run_refused(&rt, alloc, &ROWS[0], 9, kind, "")?, 0);
+    }
+    Ok(())
+}
+
+/// A writer that takes each byte and refuses to flush.
+#[derive(Drop)]
+struct Unflushed {
+    bytes: Vec<u8>,
+    kind: ErrorKind,
+}
+
+impl Write for Unflushed {
+    fn write(&mut self, buf: &[u8]) -> io::Result<usize> {
+        self.bytes.write(buf)
+    }
+
+    fn flush(&mut self) -> io::Result<()> {
+        Err(io::Error::from(self.kind))
+    }
+}
+
+#[test]
+fn flushes_its_output(rt: HostRuntime) -> Result<(), Fail> {
+    let alloc = rt.alloc();
+    let kinds = [
+        (ErrorKind::BrokenPipe, "bitfields: field 0: stream fault\n"),
+        (
+            ErrorKind::OutOfMemory,
+            "bitfields: field 0: out of memory\n",
+        ),
+    ];
+    for (kind, fault) in kinds {
+        for row in [&ROWS[0], &UNPACKED] {
+            let words = split(alloc, row.words)?;
+            let mut input = row.input;
+            let mut output = Unflushed {
+                bytes: Vec::new(alloc),
+                kind,
+            };
+            let mut faults = Vec::new(alloc);
+            let status = run(alloc, &words, &mut input, &mut output, &mut faults);
+            assert_eq!(rt; status, 5);
+            assert!(rt; output.bytes.as_slice() == row.output, "{kind:?}");
+            assert!(rt; faults.as_slice() == fault.as_bytes(), "{kind:?}");
+        }
     }
     Ok(())
 }
