@@ -1,9 +1,9 @@
 -- Calls that read a number and make another of it.
-use Rattle.std.specs.Prelude.{ℤ}
-use Rattle.std.proofs.Common.{◌≡◌, ℕ, ◌+◌, ◌-◌, ◌*◌, ◌^◌, ◌<◌, ◌≤◌, [], ◌++◌, length, false, Result, Ok, Err, refl, sym, ap, ◌∙◌, subst, arith, inl, inr}
+use Rattle.std.specs.Prelude.{ℤ, Bool, ◌==◌, ◌||◌, ◌&&◌}
+use Rattle.std.proofs.Common.{◌≡◌, ℕ, zero, suc, ◌+◌, ◌-◌, ◌*◌, ◌/◌, ◌%◌, ◌^◌, ◌<◌, ◌≤◌, [], ◌++◌, length, true, false, Result, Ok, Err, refl, sym, ap, ◌∙◌, subst, arith, inl, inr}
 use Rattle.std.specs.Result.{IsErrAnd}
-use Rattle.std.proofs.lemmas.Bool.{cases_lt}
-use Rattle.std.proofs.lemmas.Nat.{leading_length}
+use Rattle.std.proofs.lemmas.Bool.{cases_lt, eqb-true}
+use Rattle.std.proofs.lemmas.Nat.{leading_length, pow-add}
 use Rattle.std.specs.Int.Count.{count_leading_zeros}
 use Rattle.bitstream_count.specs.declared.error.Error.{Error}
 use Rattle.bitstream_count.specs.declared.error.Error.TheVariants.{Failed, NoSignBit, ReadBits}
@@ -12,7 +12,7 @@ use Rattle.bitstream_number.specs.Word.{Order, number, signed_from, count_width}
 use Rattle.bitstream_number.proofs.WordLemmas.{number-lt}
 use Rattle.bitstream_order.specs.Draw.{seen}
 use Rattle.bitstream_stream.specs.Reads.{ReaderState, Reads, stays, answers, faults, is_run_too_long}
-use Rattle.bitstream_stream.specs.ReadTable.{unsigned_entry, signed_entry, count_entry}
+use Rattle.bitstream_stream.specs.ReadTable.{unsigned_entry, signed_entry, count_entry, is_full}
 use Rattle.bitstream_stream.proofs.EntryLemmas.{split, word_front-some, word_front-none}
 use Rattle.bitstream_stream.proofs.ReadsLemmas.{Reads-same, Reads-chain-ok, Reads-gives, exit, Loses-nil, Drains-nil}
 use Rattle.bitstream_stream.proofs.TableLemmas.{unsigned-takes, unsigned-count, count_width_is, full_count, unsigned-on_failed, unsigned-wide, none-signed, unsigned-signed}
@@ -112,9 +112,30 @@ count-stops o max n {r = r} is le h k = Reads-same (unsigned-count o 32 max n (s
 pub count-answers : (o : Order) (max n v c : ℕ) {s t : ReaderState} → n ≡ count_width max → n ≤ 32 → c ≡ v → Reads (unsigned_entry o 32 n) s (Ok v) t → Reads (count_entry o max) s (Ok c) t
 count-answers o max n v c {s = s} {t = t} is le same h = subst (λ k. Reads (count_entry o max) s (Ok k) t) (sym same) (Reads-same (unsigned-count o 32 max n (sym is) le) (Reads-chain-ok _ (λ k. gives k) h (Reads-gives _ _)))
 
+full_none : (n : ℕ) → (n == 0) ≡ true → (k : ℕ) × (n + 1 ≡ 2 ^ k)
+full_none n h = let none = eqb-true n 0 h in (0, omega arith)
+
+full_more : (n : ℕ) (none odd more : Bool) → (n == 0) ≡ none → (n % 2 == 1) ≡ odd → (more ≡ true → (k : ℕ) × (n / 2 + 1 ≡ 2 ^ k)) → (none || (odd && more)) ≡ true → (k : ℕ) × (n + 1 ≡ 2 ^ k)
+full_more n true odd more is one half h = full_none n is
+full_more n false false more is one half h = absurd (cc)
+full_more n false true false is one half h = absurd (cc)
+full_more n false true true is one half h =
+    let power = half refl in
+    let digit = eqb-true (n % 2) 1 one in
+    let twice : 2 ^ (power.0 + 1) ≡ 2 ^ power.0 * 2 = pow-add 2 power.0 1 in
+    (power.0 + 1, omega (arith, power.1, twice, digit))
+
+-- a number whose digits are all 1 is 1 less than a power of two
+full_power : (d n : ℕ) → is_full d n ≡ true → (k : ℕ) × (n + 1 ≡ 2 ^ k)
+full_power zero n h = full_none n h
+full_power (suc d) n h = full_more n (n == 0) (n % 2 == 1) (is_full d (n / 2)) refl refl (full_power d (n / 2)) h
+
 -- a number of a full count's width is a count
-pub count_never_above : (o : Order) (max n m v : ℕ) {s t : ReaderState} → max < 2 ^ 32 → max + 1 ≡ 2 ^ n → m ≡ count_width max → Reads (unsigned_entry o 32 m) s (Ok v) t → max < v → ⊥
-count_never_above o max n m v fits full is h above =
+pub count_never_above : (o : Order) (max m v : ℕ) {s t : ReaderState} → max < 2 ^ 32 → is_full 32 max ≡ true → m ≡ count_width max → Reads (unsigned_entry o 32 m) s (Ok v) t → max < v → ⊥
+count_never_above o max m v fits one is h above =
+    let power = full_power 32 max one in
+    let n = power.0 in
+    let full = power.1 in
     let below = unsigned-below o 32 m v h in
     let least : 2 ^ m ≤ 2 * max + 1 = subst (λ k. 2 ^ k ≤ 2 * max + 1) (sym is) (width_least max fits) in
     let most = full_count max n m full least in

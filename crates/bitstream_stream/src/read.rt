@@ -3,7 +3,7 @@ ghost use Rattle.std.specs.Prelude.{◌≡◌, ℕ, ◌+◌, ◌%◌, ◌^◌, �
 ghost use Rattle.bitstream_number.specs.Word.{Order};
 ghost use Rattle.bitstream_order.specs.Draw.{seen};
 ghost use Rattle.bitstream_stream.specs.Reads.{ReaderState, Reads, ReadsConst, Demands, Holds, failing, lent};
-ghost use Rattle.bitstream_stream.specs.ReadTable.{bit_entry, unsigned_entry, signed_entry, const_entry, count_entry, align_entry};
+ghost use Rattle.bitstream_stream.specs.ReadTable.{bit_entry, unsigned_entry, signed_entry, const_entry, count_entry, align_entry, is_full};
 
 use crate::width::count_bits;
 use bitstream_count::count::{BitCount, Count, SignedCount};
@@ -105,10 +105,11 @@ pub trait BitRead {
         if value == V::BITS { Ok(()) } else { Err(err) }
     }
 
-    /// Reads a count with as few bits as its greatest number takes.
+    /// Reads a count with as few bits as its greatest number takes, which is 1 less than a power of
+    /// two: any number of so many bits is a count.
     fn read_count<C: Count>(&mut self) -> Result<C, Error>
         requires some { 0 < C.MAX }
-        requires full { (n : ℕ) × (C.MAX + 1 ≡ 2 ^ n) }
+        requires full { IsTrue (is_full 32 C.MAX) }
         ensures reads { Reads (count_entry order C.MAX) (state self.old) (seen C.number result) (state self.new) }
     {
         let number = self.read_unsigned_var(count_bits(C::MAX))?;
