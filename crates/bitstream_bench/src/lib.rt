@@ -5,6 +5,8 @@ mod count;
 mod drip;
 mod endless;
 #[cfg(test)]
+mod examples;
+#[cfg(test)]
 mod own;
 #[cfg(test)]
 mod r03_words;

@@ -11,14 +11,15 @@ pub mod error {
 /// Integer types as numbers, and numbers that types stand for.
 pub mod number {
     pub use bitstream_number::number::{
-        Bits, Numeric, Primitive, SignedInteger, UnsignedInteger, Width,
+        Bits, Buffer, Numeric, Primitive, SignedInteger, UnsignedInteger, Width,
     };
 }
 
 /// Numbers of bits, and values that are known to fit one.
 pub mod count {
     pub use bitstream_count::count::{
-        BitCount, Checked, CheckedError, CheckedUnsigned, Count, LsbMask, SignedBitCount,
+        BitCount, Checked, CheckedError, CheckedSigned, CheckedSignedFixed, CheckedUnsigned,
+        CheckedUnsignedFixed, Count, FixedBitCount, FixedSignedBitCount, LsbMask, SignedBitCount,
         SignedCount,
     };
 }
@@ -52,11 +53,13 @@ pub mod write {
 }
 
 pub use count::{
-    BitCount, Checked, CheckedError, CheckedUnsigned, Count, LsbMask, SignedBitCount, SignedCount,
+    BitCount, Checked, CheckedError, CheckedSigned, CheckedSignedFixed, CheckedUnsigned,
+    CheckedUnsignedFixed, Count, FixedBitCount, FixedSignedBitCount, LsbMask, SignedBitCount,
+    SignedCount,
 };
 pub use error::Error;
 pub use integer::Integer;
-pub use number::{Bits, Numeric, Primitive, SignedInteger, UnsignedInteger, Width};
+pub use number::{Bits, Buffer, Numeric, Primitive, SignedInteger, UnsignedInteger, Width};
 pub use order::{BE, BigEndian, Endianness, LE, LittleEndian};
 pub use read::{BitRead, BitReadExt, BitReader, Lent, Source};
 pub use write::{BitWrite, BitWriteExt, BitWriter, Target};

@@ -22,6 +22,19 @@ use std::marker::PhantomData;
 
 /// A reader of bits over a stream of bytes. It holds back fewer than eight bits, and fetches a byte
 /// only when a call needs a bit of it.
+///
+/// # Examples
+///
+/// ```
+/// let mut reader = BitReader::<_, BE>::new([0xb1, 0xed].as_slice());
+/// let kind: u8 = reader.read_unsigned::<Bits<2>, _>()?;
+/// let level: i8 = reader.read_signed_var(3)?;
+/// assert_eq!(rt; kind, 2);
+/// assert_eq!(rt; level, -2);
+/// reader.byte_align();
+/// assert_eq!(rt; reader.read_unsigned_var::<u8>(8)?, 0xed);
+/// assert!(rt; matches!(reader.read_bit(), Err(Error::EndOfInput)));
+/// ```
 #[derive(Drop)]
 pub struct BitReader<R, E> {
     port: Port<R>,

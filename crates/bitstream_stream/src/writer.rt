@@ -18,6 +18,19 @@ use std::marker::PhantomData;
 /// The bits of the last byte, while they are fewer than 8, wait in the writer. Each byte is handed
 /// on as soon as it is whole; what still waits when the writer is dropped is lost, so a caller
 /// aligns first.
+///
+/// # Examples
+///
+/// ```
+/// let mut bytes = Vec::new(rt.alloc());
+/// let mut writer = BitWriter::<_, BE>::new(&mut bytes);
+/// writer.write_unsigned::<Bits<4>, u8>(0xb)?;
+/// writer.write_signed_var::<i8>(4, -3)?;
+/// writer.write_bit(true)?;
+/// writer.byte_align()?;
+/// let _ = writer;
+/// assert_eq!(rt; bytes.as_slice(), [0xbd, 0x80].as_slice());
+/// ```
 #[derive(Drop)]
 pub struct BitWriter<W, E> {
     port: Port<W>,

@@ -8,6 +8,17 @@ use bitstream_number::number::Width;
 use bitstream_stream::read::BitRead;
 
 /// Reads values of any [`Integer`] type. Each reader of bits does.
+///
+/// # Examples
+///
+/// ```
+/// let mut reader = BitReader::<_, LE>::new([0x0d, 0x03].as_slice());
+/// let flags = reader.read::<Bits<1>, [bool; 4]>()?;
+/// assert_eq!(rt; flags, [true, false, true, true]);
+/// reader.byte_align();
+/// let track: Option<NonZero<u8>> = reader.read_var(2)?;
+/// assert_eq!(rt; track.map(|n| n.get()), Some(3));
+/// ```
 pub trait BitReadExt: BitRead {
     /// Reads a value in as many bits as B says.
     fn read<B: Width, I: Integer>(&mut self) -> Result<I, Error>

@@ -8,6 +8,17 @@ use bitstream_number::number::Width;
 use bitstream_stream::write::BitWrite;
 
 /// Writes values of any [`Integer`] type. Each sink of bits does.
+///
+/// # Examples
+///
+/// ```
+/// let mut bytes = Vec::new(rt.alloc());
+/// let mut writer = BitWriter::<_, LE>::new(&mut bytes);
+/// writer.write::<Bits<1>, [bool; 4]>([true, false, true, true])?;
+/// writer.write_var::<i8>(4, -1)?;
+/// let _ = writer;
+/// assert_eq!(rt; bytes.as_slice(), [0xfd].as_slice());
+/// ```
 pub trait BitWriteExt: BitWrite {
     /// Writes a value in as many bits as B says.
     fn write<B: Width, I: Integer>(&mut self, value: I) -> Result<(), Error>

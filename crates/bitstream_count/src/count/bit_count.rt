@@ -13,6 +13,16 @@ use std::marker::Model;
 use std::ops::RangeInclusive;
 
 /// A number of bits from 0 to MAX.
+///
+/// # Examples
+///
+/// ```
+/// let count = BitCount::<8>::new::<5>();
+/// assert_eq!(rt; count.checked_add::<16>(11).map(|sum| sum.bits()), Some(16));
+/// assert_eq!(rt; count.checked_add::<16>(12).map(|sum| sum.bits()), None);
+/// let range = count.range::<u8>();
+/// assert_eq!(rt; (*range.start(), *range.end()), (0, 31));
+/// ```
 #[derive(Copy, Clone, Debug, Hash, PartialEq, Eq)]
 pub struct BitCount<const MAX: u32> {
     bits: u32,

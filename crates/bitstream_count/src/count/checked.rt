@@ -35,6 +35,16 @@ impl<const BITS: u32, S: SignedInteger> Holds<S> for FixedSignedBitCount<BITS> {
 }
 
 /// A value with a count of bits that holds it. The value's type has so many bits.
+///
+/// # Examples
+///
+/// ```
+/// let count = BitCount::<8>::new::<3>();
+/// let value = CheckedUnsigned::new(count, 7u8);
+/// assert_eq!(rt; value.map(|v| v.into_value()).ok(), Some(7));
+/// let value = CheckedUnsigned::new(count, 8u8);
+/// assert!(rt; matches!(value, Err(CheckedError::ExcessiveValue)));
+/// ```
 #[derive(Debug)]
 pub struct Checked<C: Holds<T>, T> {
     count: C,

@@ -9,6 +9,14 @@ use bitstream_number::number::{Numeric, UnsignedInteger};
 use std::marker::{Model, PhantomData};
 
 /// A split of numbers of type U into their lowest bits and those above.
+///
+/// # Examples
+///
+/// ```
+/// let (high, low) = BitCount::<8>::new::<3>().mask_lsb::<u8>().split(222);
+/// assert_eq!(rt; high, 27);
+/// assert_eq!(rt; low.into_value(), 6);
+/// ```
 #[derive(Drop)]
 pub struct LsbMask<const MAX: u32, U: UnsignedInteger> {
     count: BitCount<MAX>,

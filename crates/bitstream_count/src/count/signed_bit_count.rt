@@ -13,6 +13,15 @@ use std::marker::Model;
 use std::ops::RangeInclusive;
 
 /// A number of bits from 1 to MAX, of which one is the sign.
+///
+/// # Examples
+///
+/// ```
+/// let count = SignedBitCount::<8>::new::<4>();
+/// let range = count.range::<i8>();
+/// assert_eq!(rt; (*range.start(), *range.end()), (-8, 7));
+/// assert_eq!(rt; count.checked_sub::<8>(4).map(|left| left.bits()), None);
+/// ```
 #[derive(Copy, Clone, Debug, Hash, PartialEq, Eq)]
 pub struct SignedBitCount<const MAX: u32> {
     count: BitCount<MAX>,

@@ -9,6 +9,14 @@ use crate::number::numeric::Numeric;
 use crate::number::width::Width;
 
 /// An unsigned integer type.
+///
+/// # Examples
+///
+/// ```
+/// assert_eq!(rt; UnsignedInteger::checked_shl(3u8, 7), Some(128));
+/// assert_eq!(rt; UnsignedInteger::checked_shl(3u8, 8), None);
+/// assert_eq!(rt; UnsignedInteger::shl_default(3u8, 8), 0);
+/// ```
 pub trait UnsignedInteger: Numeric {
     /// This type's most-significant bit
     const MSB_BIT: Self;
