@@ -4,10 +4,9 @@ use Rattle.std.proofs.Common.{◌≡◌, ℕ, ◌<◌, ◌≤◌, List, [], ◌�
 use Rattle.std.proofs.lemmas.Bool.{le-leb, leb-false}
 use Rattle.std.proofs.Math.Seq.{take-append_seam}
 use Rattle.std.proofs.lemmas.List.{length-replicate}
-use Rattle.bitstream_number.specs.Word.{Order, word, number}
+use Rattle.bitstream_number.specs.Word.{Order, number}
 use Rattle.bitfields.specs.declared.field.Field.TheVariants.{Unsigned, Align}
 use Rattle.bitstream_stream.specs.Alignment.{to_boundary}
-use Rattle.bitfields.specs.Fault.{fault}
 use Rattle.bitstream_count.specs.declared.error.Error.{Error}
 use Rattle.bitstream_count.specs.Entry.{ReadEntry, TooShort, word_front, Takes}
 use Rattle.bitstream_order.specs.Draw.{seen}

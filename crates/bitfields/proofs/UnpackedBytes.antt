@@ -1,7 +1,7 @@
 -- Unpacking from the first byte of a stream on.
 use Rattle.std.specs.Prelude.{Bool, Option, Some, option_map, IsErrAnd}
 use Rattle.std.proofs.Common.{◌≡◌, ℕ, List, ◌++◌, Result, Ok, Err, refl, sym, ap, ◌∙◌, arith, subst, ◌⊎◌, inl, inr}
-use Rattle.bitstream_number.specs.Word.{Order, word, bits}
+use Rattle.bitstream_number.specs.Word.{Order, bits}
 use Rattle.bitfields.specs.declared.field.Field.{Field}
 use Rattle.bitfields.specs.declared.fault.Reason.TheVariants.{BitsEnded, StreamFault, OutOfMemory}
 use Rattle.bitfields.specs.Fault.{fault}

@@ -3,7 +3,7 @@ use Rattle.std.specs.Prelude.{Bool, false}
 use Rattle.std.proofs.Common.{◌≡◌, ℕ, ◌+◌, ◌<◌, ◌≤◌, List, [], ◌∷◌, ◌++◌, length, drop, get_or, refl, sym, ap, ◌∙◌, arith, append_assoc, add-one, drop-cons, length-append, append-nil}
 use Rattle.std.proofs.lemmas.Bool.{lt-ltb}
 use Rattle.std.proofs.lemmas.List.{drop_all}
-use Rattle.bitstream_number.specs.Word.{Order, word, bits}
+use Rattle.bitstream_number.specs.Word.{Order}
 use Rattle.bitfields.specs.declared.field.Field.{Field}
 use Rattle.bitfields.specs.declared.fault.Reason.TheVariants.{BitsEnded, OutOfMemory}
 use Rattle.bitfields.specs.Fault.{fault}

@@ -1,4 +1,4 @@
-use Rattle.std.proofs.Common.{◌≡◌, arith, ℕ, ◌+◌, ◌++◌, ◌∙◌, ap, length}
+use Rattle.std.proofs.Common.{◌≡◌, arith, ◌+◌, ◌∙◌, ap, length}
 use Rattle.std.proofs.lemmas.List.Elements.{recursion_from_All}
 use Rattle.bitfields.specs.Layout.{IsField}
 use Rattle.bitfields.specs.Packing.{words, alignment}

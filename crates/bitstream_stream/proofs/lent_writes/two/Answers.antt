@@ -1,9 +1,8 @@
-use Rattle.std.proofs.Common.{rules, ◌≡◌, ◌++◌, replicate, false, OnOk, ℕ, ◌+◌, ◌-◌, ◌*◌, ◌<◌, ◌≤◌, length, ◌/◌, ◌%◌, Bool, true, List, [], ◌∷◌, Result, Ok, Err, refl, ap, sym, ◌∙◌, length-append, arith}
+use Rattle.std.proofs.Common.{rules, ◌≡◌, ◌++◌, replicate, false, OnOk, ℕ, ◌+◌, Result, Ok, Err, refl, ap, ◌∙◌, length-append, arith}
 use Rattle.bitstream_number.proofs.WordLemmas.{length-word}
 use Rattle.bitstream_number.specs.Word.{High, word}
-use Rattle.bitstream_count.specs.declared.error.Error.{Error}
-use Rattle.bitstream_stream.specs.Writer.{Adds, queue_sink, writer_sink}
-use Rattle.bitstream_stream.proofs.SinkParts.{Begun, Begun-more, written_unsigned, written_align}
+use Rattle.bitstream_stream.specs.Writer.{queue_sink, writer_sink}
+use Rattle.bitstream_stream.proofs.SinkParts.{Begun-more, written_unsigned, written_align}
 use Rattle.bitstream_stream.proofs.WriterLemmas.{lent_adds, lent_held, lent_places}
 use Rattle.bitstream_stream.proofs.lent_writes.two.Goals as goal
 
