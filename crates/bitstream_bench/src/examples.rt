@@ -110,3 +110,14 @@ fn moves_bits(rt: HostRuntime) -> Result<(), Fail> {
     assert_eq!(rt; UnsignedInteger::shl_default(3u8, 8), 0);
     Ok(())
 }
+
+#[test]
+fn reads_a_frame(rt: HostRuntime) -> Result<(), Fail> {
+    let bytes = [0xbe, 0xff, 0xff, 0x80];
+    let mut reader = BitReader::<_, BE>::new(&bytes[..]);
+    let kind = reader.read::<Bits<3>, u8>()?;
+    let level = reader.read::<Bits<5>, i8>()?;
+    let size: u32 = reader.read_var(17)?;
+    assert_eq!(rt; (kind, level, size), (5, -2, 131071));
+    Ok(())
+}

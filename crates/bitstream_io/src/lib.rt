@@ -1,6 +1,17 @@
 //! Reading and writing values of any number of bits, in either order of bits.
 //!
 //! The items stand in modules by their subject, and most again here.
+//!
+//! # Examples
+//!
+//! ```
+//! let bytes = [0xbe, 0xff, 0xff, 0x80];
+//! let mut reader = BitReader::<_, BE>::new(&bytes[..]);
+//! let kind = reader.read::<Bits<3>, u8>()?;
+//! let level = reader.read::<Bits<5>, i8>()?;
+//! let size: u32 = reader.read_var(17)?;
+//! assert_eq!(rt; (kind, level, size), (5, -2, 131071));
+//! ```
 #![tactic(auto)]
 
 /// Why a call is refused.

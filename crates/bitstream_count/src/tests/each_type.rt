@@ -21,6 +21,34 @@ fn bytes<V: Primitive + Copy + PartialEq>(rt: &impl Abort, value: V) {
     assert!(rt; V::from_le_bytes(value.to_le_bytes()) == value);
 }
 
+fn numeric<N: Numeric>(rt: &impl Abort, five: N, three: N)
+    requires five { N.integer five ≡ pos 5 }
+    requires three { N.integer three ≡ pos 3 }
+    requires size { 8 ≤ N.BITS_SIZE }
+{
+    five.known();
+    three.known();
+    assert!(rt; five.to_u8() == 5);
+    assert!(rt; N::from_u8(3) == three);
+    assert!(rt; N::default() == N::ZERO);
+    assert!(rt; five & three == N::ONE);
+    assert!(rt; five | three == N::from_u8(7));
+    assert!(rt; five ^ three == N::from_u8(6));
+    assert!(rt; !!five == five);
+    assert!(rt; three << 2 == N::from_u8(12));
+    assert!(rt; five >> 1 == N::from_u8(2));
+    assert!(rt; five % three == N::from_u8(2));
+    assert!(rt; three < five);
+    let mut value = five;
+    value <<= 1;
+    value |= three;
+    assert!(rt; value == N::from_u8(11));
+    value >>= 1;
+    value.known();
+    value %= three;
+    assert!(rt; value == N::from_u8(2));
+}
+
 fn unsigned<U: UnsignedInteger>(rt: &impl Abort, five: U, three: U)
     requires five { U.value five ≡ 5 }
     requires three { U.value three ≡ 3 }
@@ -147,6 +175,20 @@ fn bytes_of_each_type(rt: HostRuntime) {
     bytes::<i64>(&rt, -5000000000);
     bytes::<i128>(&rt, -20000000000000000000);
     bytes::<[u8; 3]>(&rt, [1, 2, 3]);
+}
+
+#[test]
+fn operators_of_each_type(rt: HostRuntime) {
+    numeric::<u8>(&rt, 5, 3);
+    numeric::<u16>(&rt, 5, 3);
+    numeric::<u32>(&rt, 5, 3);
+    numeric::<u64>(&rt, 5, 3);
+    numeric::<u128>(&rt, 5, 3);
+    numeric::<i8>(&rt, 5, 3);
+    numeric::<i16>(&rt, 5, 3);
+    numeric::<i32>(&rt, 5, 3);
+    numeric::<i64>(&rt, 5, 3);
+    numeric::<i128>(&rt, 5, 3);
 }
 
 #[test]
