@@ -1,11 +1,6 @@
 -- The arguments of a call of the program.
-use Rattle.std.specs.Prelude.{ℕ, if◌then◌else◌, List, [], ◌∷◌, codes, Option, Some, None, Result, Ok, Err, nat_eq}
+use Rattle.std.specs.Prelude.{ℕ, if◌then◌else◌, List, [], ◌∷◌, codes, Option, Some, None, nat_eq}
 use Rattle.std.specs.Cmp.Lexicographic.{pointwise}
-use Rattle.bitfields.specs.declared.fault.Reason.TheVariants.{BadArguments}
-use Rattle.bitfields.specs.declared.fault.Fault.{Fault}
-use Rattle.bitfields.specs.declared.field.Field.{Field}
-use Rattle.bitfields.specs.Fault.{fault}
-use Rattle.bitfields.specs.Layout.{layout_of}
 use Rattle.bitstream_number.specs.Word.{Order, High, Low}
 use Rattle.bitfields.specs.declared.run.Command.{Command}
 use Rattle.bitfields.specs.declared.run.Command.TheVariants.{Pack, Unpack}
@@ -31,22 +26,21 @@ abbrev pub bit_order : NamedOrder → Order
 bit_order Big = High
 bit_order Little = Low
 
--- what is done with the fields of a layout, and in which order of bits
-pub record Task : Type 0 where
+-- what is asked of the program: a command, an order of bits and the text of a layout
+pub record Request : Type 0 where
   pub command : Command
   pub order : Order
-  pub fields : List Field
+  pub layout : List ℕ
 
-abbrev pub task_with : Option Command → Option NamedOrder → Result (List Field) Fault → Result Task Fault
-task_with (Some command) (Some order) (Ok fields) = Ok (record { command = command; order = bit_order order; fields = fields })
-task_with (Some command) (Some order) (Err f) = Err f
-task_with (Some command) None layout = Err (fault 0 BadArguments)
-task_with None order layout = Err (fault 0 BadArguments)
+abbrev pub request_with : Option Command → Option NamedOrder → List ℕ → Option Request
+request_with (Some command) (Some order) layout = Some (record { command = command; order = bit_order order; layout = layout })
+request_with (Some command) None layout = None
+request_with None order layout = None
 
--- what three words ask for, a command, an order of bits and a layout; or the fault in them
-abbrev pub task_of : List (List ℕ) → Result Task Fault
-task_of [] = Err (fault 0 BadArguments)
-task_of (command ∷ []) = Err (fault 0 BadArguments)
-task_of (command ∷ order ∷ []) = Err (fault 0 BadArguments)
-task_of (command ∷ order ∷ layout ∷ []) = task_with (command_of command) (order_of order) (layout_of layout)
-task_of (command ∷ order ∷ layout ∷ more ∷ others) = Err (fault 0 BadArguments)
+-- what words ask for: three words, a command, an order of bits and a layout, and no others
+abbrev pub request_of : List (List ℕ) → Option Request
+request_of [] = None
+request_of (command ∷ []) = None
+request_of (command ∷ order ∷ []) = None
+request_of (command ∷ order ∷ layout ∷ []) = request_with (command_of command) (order_of order) layout
+request_of (command ∷ order ∷ layout ∷ more ∷ others) = None

@@ -1,14 +1,16 @@
 -- What a call of the program does to its streams.
-use Rattle.std.specs.Prelude.{◌≡◌, ◌⊎◌, ℕ, List, Option, Result, Ok, Err}
+use Rattle.std.specs.Prelude.{◌≡◌, ◌⊎◌, ℕ, List, Option, Some, None, Result, Ok, Err}
 use Rattle.std.specs.Io.KnownBytes.{Appends, Consumes, IsAtEnd}
 use Rattle.std.specs.declared.io.ErrorKind.{ErrorKind}
 use Rattle.bitstream_number.specs.Word.{Order}
+use Rattle.bitfields.specs.declared.fault.Reason.TheVariants.{BadArguments}
 use Rattle.bitfields.specs.declared.fault.Fault.{Fault}
 use Rattle.bitfields.specs.declared.field.Field.{Field}
 use Rattle.bitfields.specs.declared.run.Command.{Command}
 use Rattle.bitfields.specs.declared.run.Command.TheVariants.{Pack, Unpack}
-use Rattle.bitfields.specs.Call.{Task}
-use Rattle.bitfields.specs.Layout.{IsUnlessMemory}
+use Rattle.bitfields.specs.Call.{Request}
+use Rattle.bitfields.specs.Fault.{fault}
+use Rattle.bitfields.specs.Layout.{IsUnlessMemory, layout_of}
 use Rattle.bitfields.specs.Packing.{IsOutside, PackedBytes}
 use Rattle.bitfields.specs.Unpacking.{Refused, UnpackedBytes}
 use Rattle.bitfields.specs.Value.{lines, values}
@@ -58,12 +60,19 @@ abbrev pub Performs : {R W : Type 0} → (R → Option (List ℕ)) → (W → Op
 Performs known contents Pack = PacksInput known contents
 Performs known contents Unpack = UnpacksInput known contents
 
--- a task is done, or the fault of the call's words is answered and no stream touched
-abbrev pub Calls : {R W : Type 0} → (R → Option (List ℕ)) → (W → Option (List ℕ)) → Result Task Fault → R → W → Result (Unit {0}) Fault → R → W → Type 0
-Calls known contents (Ok task) input output result input_after output_after =
-    Performs known contents task.command task.order task.fields input output result input_after output_after
-Calls known contents (Err f) input output result input_after output_after =
+-- the fields of a layout are packed or unpacked; or the layout's fault is answered, want of memory aside, and no stream touched
+abbrev pub Follows : {R W : Type 0} → (R → Option (List ℕ)) → (W → Option (List ℕ)) → Command → Order → Result (List Field) Fault → R → W → Result (Unit {0}) Fault → R → W → Type 0
+Follows known contents command o (Ok fields) input output result input_after output_after =
+    Performs known contents command o fields input output result input_after output_after
+Follows known contents command o (Err f) input output result input_after output_after =
     IsUnlessMemory (Err f) result × (input_after ≡ input) × (output_after ≡ output)
+
+-- what is asked for is done; where nothing is, that is answered, and no stream touched
+abbrev pub Calls : {R W : Type 0} → (R → Option (List ℕ)) → (W → Option (List ℕ)) → Option Request → R → W → Result (Unit {0}) Fault → R → W → Type 0
+Calls known contents (Some request) input output result input_after output_after =
+    Follows known contents request.command request.order (layout_of request.layout) input output result input_after output_after
+Calls known contents None input output result input_after output_after =
+    (result ≡ Err (fault 0 BadArguments)) × (input_after ≡ input) × (output_after ≡ output)
 
 -- 0, or the status of a fault
 abbrev pub status_of : Result (Unit {0}) Fault → ℕ
@@ -71,7 +80,7 @@ status_of (Ok done) = 0
 status_of (Err f) = f.status
 
 -- a call ends with the status of what became of it
-pub record Runs {R W : Type 0} (known : R → Option (List ℕ)) (contents : W → Option (List ℕ)) (task : Result Task Fault) (input : R) (output : W) (status : ℕ) (input_after : R) (output_after : W) : Type 0 where
+pub record Runs {R W : Type 0} (known : R → Option (List ℕ)) (contents : W → Option (List ℕ)) (request : Option Request) (input : R) (output : W) (status : ℕ) (input_after : R) (output_after : W) : Type 0 where
   pub outcome : Result (Unit {0}) Fault
-  pub calls : Calls known contents task input output outcome input_after output_after
+  pub calls : Calls known contents request input output outcome input_after output_after
   pub ends : status ≡ status_of outcome

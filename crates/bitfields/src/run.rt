@@ -1,7 +1,7 @@
 //! A whole call of the program, over three streams.
 
 ghost use Rattle.std.specs.Prelude.{◌≡◌, map, string_bytes};
-ghost use Rattle.bitfields.specs.Call.{command_of, order_of, task_of};
+ghost use Rattle.bitfields.specs.Call.{command_of, order_of, request_of};
 ghost use Rattle.bitfields.specs.Run.{Calls, PacksInput, Performs, Runs, UnpacksInput};
 
 use crate::fault::{Fault, Reason};
@@ -39,7 +39,7 @@ pub fn run<R: Read, W: Write, X: Write>(
     output: &mut W,
     faults: &mut X,
 ) -> u8
-    ensures { Runs R.remaining W.contents (task_of (map string_bytes words.now)) input.old output.old result input.new output.new }
+    ensures { Runs R.remaining W.contents (request_of (map string_bytes words.now)) input.old output.old result input.new output.new }
 {
     match call(alloc, words, input, output) {
         Ok(()) => 0,
@@ -61,7 +61,7 @@ fn call<R: Read, W: Write>(
     input: &mut R,
     output: &mut W,
 ) -> Result<(), Fault>
-    ensures { Calls R.remaining W.contents (task_of (map string_bytes words.now)) input.old output.old result input.new output.new }
+    ensures { Calls R.remaining W.contents (request_of (map string_bytes words.now)) input.old output.old result input.new output.new }
 {
     let [command, order, text] = words else {
         return Err(Fault::new(0, Reason::BadArguments));
