@@ -1,6 +1,7 @@
 //! Numbers of bits of unsigned values.
 
 ghost use Rattle.std.specs.Prelude.{◌≡◌, ℕ, ◌+◌, ◌-◌, ◌^◌, ◌<◌, ◌≤◌, false, min, Option, Some, MatchResult, decimal};
+ghost use Rattle.std.specs.Fmt.{styled_decimal};
 ghost use Rattle.std.specs.Option.{SomeIff};
 ghost use Rattle.bitstream_count.specs.Counts.{in_range};
 
@@ -176,6 +177,8 @@ impl<const MAX: u32> From<BitCount<MAX>> for u32 {
 
 impl<const MAX: u32> fmt::Display for BitCount<MAX> {
     ghost output = { λ c. Some (decimal c) };
+
+    ghost styled_output = { λ c s. Some (styled_decimal s c) };
 
     fn fmt<W: fmt::Write>(&self, f: &mut fmt::Formatter<W>) -> fmt::Result {
         let bits = self.bits;

@@ -1,6 +1,6 @@
 //! Values that are known to fit a count of bits.
 
-ghost use Rattle.std.specs.Prelude.{◌≡◌, ℕ, negsuc, ◌%◌, ◌^◌, ◌<◌, ◌≤◌, ◌↔◌, IsTrue, MatchResult};
+ghost use Rattle.std.specs.Prelude.{◌≡◌, ℕ, negsuc, ◌%◌, ◌^◌, ◌<◌, ◌≤◌, ◌↔◌, ⊤, IsTrue, MatchResult};
 ghost use Rattle.bitstream_number.specs.Word.{FitsSignedBits};
 ghost use Rattle.bitstream_count.specs.Checks.{HoldsUnsigned, HoldsSigned, AcceptsUnsigned, RefusesUnsigned, RefusesSigned};
 
@@ -64,6 +64,10 @@ impl<C: Holds<T>, T> Model for Checked<C, T> {
 impl<C: Holds<T> + Copy, T: Copy> Copy for Checked<C, T> {}
 
 impl<C: Holds<T> + Copy, T: Copy> Clone for Checked<C, T> {
+    ghost is_clone = { λ x y. y ≡ x };
+
+    ghost is_infallible = { λ _. ⊤ };
+
     fn clone(&self) -> Result<Self, AllocError> {
         Ok(*self)
     }

@@ -1,6 +1,7 @@
 //! Numbers of bits of signed values.
 
 ghost use Rattle.std.specs.Prelude.{◌≡◌, ℕ, pos, ◌+◌, ◌-◌, ◌^◌, ◌<◌, ◌≤◌, ◌-ℤ◌, false, min, Option, Some, MatchResult, decimal};
+ghost use Rattle.std.specs.Fmt.{styled_decimal};
 ghost use Rattle.std.specs.Option.{SomeIff};
 ghost use Rattle.bitstream_count.specs.Counts.{IsOutside, in_range};
 
@@ -174,6 +175,8 @@ impl<const MAX: u32> From<SignedBitCount<MAX>> for u32 {
 
 impl<const MAX: u32> fmt::Display for SignedBitCount<MAX> {
     ghost output = { λ c. Some (decimal c) };
+
+    ghost styled_output = { λ c s. Some (styled_decimal s c) };
 
     fn fmt<W: fmt::Write>(&self, f: &mut fmt::Formatter<W>) -> fmt::Result {
         let count = self.count;
