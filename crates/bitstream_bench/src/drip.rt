@@ -1,7 +1,7 @@
 //! A stream that drips.
 ghost use Rattle.std.specs.Prelude.{◌≤◌, IfOk};
-ghost use Rattle.std.specs.Io.KnownBytes.{ReadConsumes};
-ghost use Rattle.std.specs.Io.{ReadsAtMost};
+ghost use Rattle.std.specs.Io.KnownBytes.{ReadConsumes, WriteAppends};
+ghost use Rattle.std.specs.Io.{ReadsAtMost, WritesAtMost};
 
 use std::io;
 use std::io::{Read, Write};
@@ -32,7 +32,11 @@ impl<S: Read> Read for Drip<S> {
 impl<S: Write> Write for Drip<S> {
     ghost contents = { λ d. S.contents d.inner };
 
-    fn write(&mut self, buf: &[u8]) -> io::Result<usize> {
+    fn write(&mut self, buf: &[u8]) -> io::Result<usize>
+        ensures bound { WritesAtMost result buf.now }
+        ensures bytes { WriteAppends (S.contents self.old.inner) (S.contents self.new.inner) result buf.now }
+        ensures one { IfOk result (λ n. n ≤ 1) }
+    {
         if buf.is_empty() {
             self.inner.write(buf)
         } else {

@@ -1,5 +1,5 @@
 //! A stream that refuses.
-ghost use Rattle.std.specs.Prelude.{◌≡◌, ◌+◌, ◌-◌, OnOk, IsErrAnd};
+ghost use Rattle.std.specs.Prelude.{◌≡◌, ◌-◌, ◌<◌, OnOk, IsOk, IsErrAnd};
 ghost use Rattle.std.specs.IoError.{error_kind};
 ghost use Rattle.std.specs.Io.{ReadsAtMost, WritesAtMost};
 ghost use Rattle.std.specs.Io.KnownBytes.{ReadConsumes, WriteAppends, Consumes, Appends, Keeps};
@@ -22,7 +22,7 @@ impl<S> Refuse<S> {
     /// Counts a request down, or refuses it.
     fn ask(&mut self) -> io::Result<()>
         ensures refuses { self.old.left ≡ 0 → IsErrAnd result (λ e. error_kind e ≡ self.old.kind) }
-        ensures serves { OnOk result (self.new.left + 1 ≡ self.old.left) }
+        ensures serves { 0 < self.old.left → IsOk result }
         ensures same { (self.new.inner ≡ self.old.inner) × (self.new.kind ≡ self.old.kind) }
         ensures left { self.new.left ≡ self.old.left - 1 }
     {
@@ -41,8 +41,10 @@ impl<S: Read> Read for Refuse<S> {
         ensures bound { ReadsAtMost result buf.new }
         ensures bytes { ReadConsumes (S.remaining self.old.inner) (S.remaining self.new.inner) result buf.new }
         ensures refuses { self.old.left ≡ 0 → IsErrAnd result (λ e. error_kind e ≡ self.old.kind) }
+        ensures untouched { self.old.left ≡ 0 → self.new.inner ≡ self.old.inner }
         ensures left { self.new.left ≡ self.old.left - 1 }
     {
+        // A request that is refused takes no byte.
         self.ask()?;
         self.inner.read(buf)
     }
@@ -50,6 +52,7 @@ impl<S: Read> Read for Refuse<S> {
     fn read_exact(&mut self, buf: &mut [u8]) -> io::Result<()>
         ensures bytes { OnOk result (Consumes (S.remaining self.old.inner) (S.remaining self.new.inner) buf.new) }
         ensures refuses { self.old.left ≡ 0 → IsErrAnd result (λ e. error_kind e ≡ self.old.kind) }
+        ensures untouched { self.old.left ≡ 0 → self.new.inner ≡ self.old.inner }
         ensures left { self.new.left ≡ self.old.left - 1 }
     {
         self.ask()?;
@@ -64,6 +67,7 @@ impl<S: Write> Write for Refuse<S> {
         ensures bound { WritesAtMost result buf.now }
         ensures bytes { WriteAppends (S.contents self.old.inner) (S.contents self.new.inner) result buf.now }
         ensures refuses { self.old.left ≡ 0 → IsErrAnd result (λ e. error_kind e ≡ self.old.kind) }
+        ensures untouched { self.old.left ≡ 0 → self.new.inner ≡ self.old.inner }
         ensures left { self.new.left ≡ self.old.left - 1 }
     {
         self.ask()?;
@@ -73,6 +77,7 @@ impl<S: Write> Write for Refuse<S> {
     fn write_all(&mut self, buf: &[u8]) -> io::Result<()>
         ensures bytes { OnOk result (Appends (S.contents self.old.inner) (S.contents self.new.inner) buf.now) }
         ensures refuses { self.old.left ≡ 0 → IsErrAnd result (λ e. error_kind e ≡ self.old.kind) }
+        ensures untouched { self.old.left ≡ 0 → self.new.inner ≡ self.old.inner }
         ensures left { self.new.left ≡ self.old.left - 1 }
     {
         self.ask()?;
