@@ -1,9 +1,11 @@
-//! Answers of calls, as the vectors spell them.
+//! Answers of calls, as rows spell them.
 ghost use Rattle.std.specs.Prelude.{◌<◌, IfSome};
 
+use crate::objection::Objection;
 use bitstream_io::{CheckedError, Error};
-use std::alloc::{AllocError, Global};
+use std::alloc::Global;
 use std::fmt::Display;
+use std::io::ErrorKind;
 
 /// The name of an error.
 pub fn error_name(error: Error) -> &'static str {
@@ -15,58 +17,57 @@ pub fn error_name(error: Error) -> &'static str {
         Error::BoolWidth => "BoolWidth",
         Error::NonZeroWidth => "NonZeroWidth",
         Error::EndOfInput => "EndOfInput",
+        Error::OutOfMemory => "OutOfMemory",
         Error::Failed => "Failed",
+        Error::Stream(ErrorKind::BrokenPipe) => "Stream(BrokenPipe)",
+        Error::Stream(ErrorKind::ConnectionReset) => "Stream(ConnectionReset)",
+        Error::Stream(ErrorKind::UnexpectedEof) => "Stream(UnexpectedEof)",
         _ => "another error",
     }
+}
+
+/// A text of one's own.
+pub fn text(alloc: Global, name: &str) -> Result<String, Objection> {
+    Ok(String::from_str(alloc, name)?)
+}
+
+/// The name of an error, as an answer.
+pub fn refused(alloc: Global, error: Error) -> Result<String, Objection> {
+    text(alloc, error_name(error))
 }
 
 /// The value that was read, or the name of the error.
 pub fn shown<T: Display + Drop>(
     alloc: Global,
     answer: Result<T, Error>,
-) -> Result<String, AllocError> {
+) -> Result<String, Objection> {
     match answer {
-        Ok(value) => format!(in alloc; "{value}"),
-        Err(error) => String::from_str(alloc, error_name(error)),
+        Ok(value) => Ok(format!(in alloc; "{value}")?),
+        Err(error) => refused(alloc, error),
     }
 }
 
-/// The number that was read, where 0 stands for none, or the name of the error.
-pub fn shown_or_none<T: Display + Drop>(
-    alloc: Global,
-    answer: Result<Option<T>, Error>,
-) -> Result<String, AllocError> {
+/// `ok`, or the name of the error.
+pub fn accepted(alloc: Global, answer: Result<(), Error>) -> Result<String, Objection> {
     match answer {
-        Ok(None) => String::from_str(alloc, "none"),
-        Ok(Some(value)) => format!(in alloc; "{value}"),
-        Err(error) => String::from_str(alloc, error_name(error)),
-    }
-}
-
-/// The bytes that were read as hexadecimal digits, or the name of the error.
-pub fn shown_bytes(alloc: Global, answer: Result<[u8; 4], Error>) -> Result<String, AllocError> {
-    match answer {
-        Ok(bytes) => {
-            let [a, b, c, d] = bytes;
-            format!(in alloc; "{a:02X}{b:02X}{c:02X}{d:02X}")
-        }
-        Err(error) => String::from_str(alloc, error_name(error)),
+        Ok(()) => text(alloc, "ok"),
+        Err(error) => refused(alloc, error),
     }
 }
 
 /// The bytes that hexadecimal digits spell, two a byte; `-` spells none.
-pub fn bytes_of(alloc: Global, text: &str) -> Result<Option<Vec<u8>>, AllocError> {
+pub fn bytes_of(alloc: Global, text: &str) -> Result<Vec<u8>, Objection> {
     let mut bytes = Vec::new(alloc);
     if text == "-" {
-        return Ok(Some(bytes));
+        return Ok(bytes);
     }
     for pair in text.as_bytes().chunks(2) {
         let Some(byte) = byte_of(pair) else {
-            return Ok(None);
+            return Err(Objection::BAD_FORM);
         };
         bytes.push(byte)?;
     }
-    Ok(Some(bytes))
+    Ok(bytes)
 }
 
 fn byte_of(pair: &[u8]) -> Option<u8> {

@@ -1,57 +1,165 @@
-//! The forms of calls, as the vectors spell them.
+//! The forms of calls, as rows spell them.
+use crate::objection::Objection;
 
-/// What a call reads or writes; a number is the size of the type in bits.
+/// The number of bits of a type.
+#[derive(Clone, Copy, Debug, PartialEq, Eq, Drop)]
+pub enum Size {
+    Bits8,
+    Bits16,
+    Bits32,
+    Bits64,
+    Bits128,
+}
+
+/// An integer type.
+#[derive(Clone, Copy, Debug, PartialEq, Eq, Drop)]
+pub enum Number {
+    Unsigned(Size),
+    Signed(Size),
+}
+
+/// An array of items in as many bits each.
+#[derive(Clone, Copy, Debug, PartialEq, Eq, Drop)]
+pub enum Items {
+    /// Four of `u8`.
+    Bytes,
+    /// Four of `bool`.
+    Truths,
+    /// Two of `i8`.
+    Signed,
+    /// None.
+    None,
+}
+
+/// What a call reads or writes, or asks.
 #[derive(Clone, Copy, Debug, PartialEq, Eq, Drop)]
 pub enum Form {
+    /// Whether the stream stands at the end of a byte.
+    Aligned,
     Align,
-    Array,
+    Array(Items),
     Bit,
     Bool,
     Const,
     Count,
-    FixedSigned(u32),
-    FixedUnsigned(u32),
-    NonZero(u32),
-    Optional(u32),
-    Signed(u32),
-    Unsigned(u32),
+    /// A number in a counted number of bits.
+    Counted(Number),
+    /// A number in a constant number of bits.
+    Fixed(Number),
+    NonZero(Size),
+    Optional(Size),
+    /// A number in so many bits, as a value.
+    Value(Number),
+    /// A number in so many bits, by the calls for words alone.
+    Word(Number),
 }
 
-/// The form that a name spells, if it is known.
-pub fn form_of(name: &str) -> Option<Form> {
+impl Form {
+    /// How many words stand behind the call's name where it reads, and where it writes.
+    pub fn arguments(self) -> (usize, usize) {
+        match self {
+            Form::Align | Form::Aligned => (0, 0),
+            Form::Bit => (0, 1),
+            Form::Const => (2, 2),
+            _ => (1, 2),
+        }
+    }
+}
+
+/// The form that a name spells.
+///
+/// # Errors
+///
+/// `NotYet` for a call that is still to come, else that the name spells none.
+pub fn form_of(name: &str) -> Result<Form, Objection> {
+    if let Some(form) = plain_form(name).or_else(|| number_form(name)) {
+        Ok(form)
+    } else if is_to_come(name) {
+        Err(Objection::NotYet)
+    } else {
+        Err(Objection::BAD_FORM)
+    }
+}
+
+fn plain_form(name: &str) -> Option<Form> {
     match name {
         "align" => Some(Form::Align),
-        "array4" => Some(Form::Array),
+        "aligned" => Some(Form::Aligned),
+        "array0" => Some(Form::Array(Items::None)),
+        "array4" => Some(Form::Array(Items::Bytes)),
+        "array4-bool" => Some(Form::Array(Items::Truths)),
+        "array2-i8" => Some(Form::Array(Items::Signed)),
         "bit" => Some(Form::Bit),
         "bool" => Some(Form::Bool),
         "const" => Some(Form::Const),
         "count" => Some(Form::Count),
-        _ => sized_form(name),
+        _ => None,
     }
 }
 
-/// The form that a letter or a word and a size spell.
-fn sized_form(name: &str) -> Option<Form> {
-    if let Some(size) = size_after(name, "fixed-i") {
-        Some(Form::FixedSigned(size))
-    } else if let Some(size) = size_after(name, "fixed-u") {
-        Some(Form::FixedUnsigned(size))
-    } else if let Some(size) = size_after(name, "nonzero") {
-        Some(Form::NonZero(size))
-    } else if let Some(size) = size_after(name, "optional") {
-        Some(Form::Optional(size))
-    } else if let Some(size) = size_after(name, "i") {
-        Some(Form::Signed(size))
+/// The form of a call whose name ends with a type.
+fn number_form(name: &str) -> Option<Form> {
+    if let Some(number) = name.strip_prefix("counted-") {
+        number_of(number).map(Form::Counted)
+    } else if let Some(number) = name.strip_prefix("fixed-") {
+        number_of(number).map(Form::Fixed)
+    } else if let Some(number) = name.strip_prefix("word-") {
+        number_of(number).map(Form::Word)
+    } else if let Some(size) = name.strip_prefix("nonzero") {
+        size_of(size).map(Form::NonZero)
+    } else if let Some(size) = name.strip_prefix("optional") {
+        size_of(size).map(Form::Optional)
     } else {
-        size_after(name, "u").map(Form::Unsigned)
+        number_of(name).map(Form::Value)
     }
 }
 
-fn size_after(name: &str, word: &str) -> Option<u32> {
-    name.strip_prefix(word)?.parse().ok()
+/// The type that a letter and a size spell.
+fn number_of(name: &str) -> Option<Number> {
+    if let Some(size) = name.strip_prefix('u') {
+        size_of(size).map(Number::Unsigned)
+    } else {
+        size_of(name.strip_prefix('i')?).map(Number::Signed)
+    }
 }
 
-/// A number in a call's words.
-pub fn number_at(words: &[&str], at: usize) -> Option<u32> {
-    words.get(at)?.parse().ok()
+fn size_of(name: &str) -> Option<Size> {
+    match name {
+        "8" => Some(Size::Bits8),
+        "16" => Some(Size::Bits16),
+        "32" => Some(Size::Bits32),
+        "64" => Some(Size::Bits64),
+        "128" => Some(Size::Bits128),
+        _ => None,
+    }
+}
+
+/// Whether a name is that of a call that the heads of the files name, and that is still to come.
+fn is_to_come(name: &str) -> bool {
+    match name {
+        "bytes"
+        | "limited0"
+        | "limited1"
+        | "pad"
+        | "prefix"
+        | "skip"
+        | "unary0"
+        | "unary1"
+        | "vector"
+        | "whole"
+        | "whole-be"
+        | "whole-le" => true,
+        _ => is_checked(name) || is_variable(name),
+    }
+}
+
+fn is_checked(name: &str) -> bool {
+    name.strip_prefix("checked-").and_then(number_of).is_some()
+}
+
+/// Whether a name is that of a number in fields of so many bits.
+fn is_variable(name: &str) -> bool {
+    let unsigned = name.strip_prefix("vbr");
+    let field = unsigned.or_else(|| name.strip_prefix("svbr"));
+    field.is_some_and(|bits| bits.parse::<u32>().is_ok())
 }

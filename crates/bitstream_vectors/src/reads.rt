@@ -1,170 +1,232 @@
-//! Read calls of the vectors.
-use crate::answer::{error_name, shown, shown_bytes, shown_or_none};
-use crate::fixed::{read_fixed_signed, read_fixed_unsigned};
-use crate::form::{Form, form_of, number_at};
-use bitstream_io::{BitCount, BitRead, BitReadExt, Bits, Error};
-use std::alloc::{AllocError, Global};
+//! Read calls of the rows.
+use crate::answer::{refused, shown, text};
+use crate::call::{Call, number};
+use crate::fixed::read_fixed;
+use crate::form::{Form, Items, Number, Size};
+use crate::objection::Objection;
+use bitstream_io::{
+    BitCount, BitRead, BitReadExt, Bits, Error, Integer, SignedInteger, UnsignedInteger,
+};
+use std::alloc::Global;
+use std::fmt::Display;
 use std::num::NonZero;
 
-/// Makes the read call that these words spell, and spells its answer; none where the words spell no
-/// known call.
+/// Makes a read call, and spells its answer.
 pub fn read_call<R: BitRead>(
     alloc: Global,
     reader: &mut R,
-    words: &[&str],
-) -> Result<Option<String>, AllocError> {
-    let Some(form) = words.first().and_then(|name| form_of(name)) else {
-        return Ok(None);
-    };
-    let bits = number_at(words, 1).unwrap_or(0);
-    let answer = match form {
-        Form::Align => {
-            reader.byte_align();
-            String::from_str(alloc, "ok")?
-        }
-        Form::Array => shown_bytes(alloc, reader.read_var::<[u8; 4]>(bits))?,
-        Form::Bit => shown(alloc, reader.read_bit().map(|bit| u8::from(bit)))?,
-        Form::Bool => shown(
-            alloc,
-            reader.read_var::<bool>(bits).map(|bit| u8::from(bit)),
-        )?,
-        Form::Const => return read_const(alloc, reader, bits, number_at(words, 2).unwrap_or(0)),
-        Form::Count => return read_count(alloc, reader, bits),
-        Form::FixedSigned(size) => return read_fixed_signed(alloc, reader, size, bits),
-        Form::FixedUnsigned(size) => return read_fixed_unsigned(alloc, reader, size, bits),
-        Form::NonZero(size) => read_non_zero(alloc, reader, size, bits)?,
-        Form::Optional(size) => read_optional(alloc, reader, size, bits)?,
-        Form::Signed(size) => read_signed(alloc, reader, size, bits)?,
-        Form::Unsigned(size) => read_unsigned(alloc, reader, size, bits)?,
-    };
-    Ok(Some(answer))
-}
-
-fn read_unsigned<R: BitRead>(
-    alloc: Global,
-    reader: &mut R,
-    size: u32,
-    bits: u32,
-) -> Result<String, AllocError> {
-    match size {
-        8 => shown(alloc, reader.read_var::<u8>(bits)),
-        16 => shown(alloc, reader.read_var::<u16>(bits)),
-        32 => shown(alloc, reader.read_var::<u32>(bits)),
-        64 => shown(alloc, reader.read_var::<u64>(bits)),
-        _ => shown(alloc, reader.read_var::<u128>(bits)),
+    call: &Call<'_>,
+) -> Result<String, Objection> {
+    let bits = call.bits;
+    match call.form {
+        Form::Align => read_align(alloc, reader),
+        Form::Aligned => text(alloc, if reader.byte_aligned() { "yes" } else { "no" }),
+        Form::Array(items) => read_array(alloc, reader, items, bits),
+        Form::Bit => read_bit(alloc, reader),
+        Form::Bool => read_bool(alloc, reader, bits),
+        Form::Const => read_const(alloc, reader, bits, number(call.value)?),
+        Form::Count => read_count(alloc, reader, bits),
+        Form::Counted(number) => read_counted(alloc, reader, number, bits),
+        Form::Fixed(number) => read_fixed(alloc, reader, number, bits),
+        Form::NonZero(size) => read_non_zero(alloc, reader, size, bits),
+        Form::Optional(size) => read_optional(alloc, reader, size, bits),
+        Form::Value(number) => read_number(alloc, reader, number, bits),
+        Form::Word(number) => read_word(alloc, reader, number, bits),
     }
 }
 
-fn read_signed<R: BitRead>(
+fn read_align<R: BitRead>(alloc: Global, reader: &mut R) -> Result<String, Objection> {
+    reader.byte_align();
+    text(alloc, "ok")
+}
+
+fn read_bit<R: BitRead>(alloc: Global, reader: &mut R) -> Result<String, Objection> {
+    shown(alloc, reader.read_bit().map(|bit| u8::from(bit)))
+}
+
+fn read_bool<R: BitRead>(alloc: Global, reader: &mut R, bits: u32) -> Result<String, Objection> {
+    let answer = reader.read_var::<bool>(bits);
+    shown(alloc, answer.map(|bit| u8::from(bit)))
+}
+
+/// Reads a value that is printed as it is.
+fn read_value<I: Integer + Display + Drop, R: BitRead>(
     alloc: Global,
     reader: &mut R,
-    size: u32,
     bits: u32,
-) -> Result<String, AllocError> {
-    match size {
-        8 => shown(alloc, reader.read_var::<i8>(bits)),
-        16 => shown(alloc, reader.read_var::<i16>(bits)),
-        32 => shown(alloc, reader.read_var::<i32>(bits)),
-        64 => shown(alloc, reader.read_var::<i64>(bits)),
-        _ => shown(alloc, reader.read_var::<i128>(bits)),
+) -> Result<String, Objection> {
+    shown(alloc, reader.read_var::<I>(bits))
+}
+
+fn read_number<R: BitRead>(
+    alloc: Global,
+    reader: &mut R,
+    number: Number,
+    bits: u32,
+) -> Result<String, Objection> {
+    match number {
+        Number::Unsigned(size) => unsigned!(size, read_value(alloc, reader, bits)),
+        Number::Signed(size) => signed!(size, read_value(alloc, reader, bits)),
+    }
+}
+
+/// Reads a value in a number of bits that is known to be no more than 128.
+fn read_value_counted<I: Integer + Display + Drop, R: BitRead>(
+    alloc: Global,
+    reader: &mut R,
+    bits: BitCount<128>,
+) -> Result<String, Objection> {
+    shown(alloc, reader.read_counted::<BitCount<128>, I>(bits))
+}
+
+fn read_counted<R: BitRead>(
+    alloc: Global,
+    reader: &mut R,
+    number: Number,
+    bits: u32,
+) -> Result<String, Objection> {
+    let Ok(count) = BitCount::<128>::try_from(bits) else {
+        return Err(Objection::BAD_FORM);
+    };
+    match number {
+        Number::Unsigned(size) => unsigned!(size, read_value_counted(alloc, reader, count)),
+        Number::Signed(size) => signed!(size, read_value_counted(alloc, reader, count)),
+    }
+}
+
+fn read_unsigned_word<U: UnsignedInteger + Display + Drop, R: BitRead>(
+    alloc: Global,
+    reader: &mut R,
+    bits: u32,
+) -> Result<String, Objection> {
+    shown(alloc, reader.read_unsigned_var::<U>(bits))
+}
+
+fn read_signed_word<S: SignedInteger + Display + Drop, R: BitRead>(
+    alloc: Global,
+    reader: &mut R,
+    bits: u32,
+) -> Result<String, Objection> {
+    shown(alloc, reader.read_signed_var::<S>(bits))
+}
+
+fn read_word<R: BitRead>(
+    alloc: Global,
+    reader: &mut R,
+    number: Number,
+    bits: u32,
+) -> Result<String, Objection> {
+    match number {
+        Number::Unsigned(size) => unsigned!(size, read_unsigned_word(alloc, reader, bits)),
+        Number::Signed(size) => signed!(size, read_signed_word(alloc, reader, bits)),
     }
 }
 
 fn read_non_zero<R: BitRead>(
     alloc: Global,
     reader: &mut R,
-    size: u32,
+    size: Size,
     bits: u32,
-) -> Result<String, AllocError> {
+) -> Result<String, Objection> {
     match size {
-        8 => shown(
-            alloc,
-            reader
-                .read_var::<NonZero<u8>>(bits)
-                .map(|value| value.get()),
-        ),
-        16 => shown(
-            alloc,
-            reader
-                .read_var::<NonZero<u16>>(bits)
-                .map(|value| value.get()),
-        ),
-        32 => shown(
-            alloc,
-            reader
-                .read_var::<NonZero<u32>>(bits)
-                .map(|value| value.get()),
-        ),
-        64 => shown(
-            alloc,
-            reader
-                .read_var::<NonZero<u64>>(bits)
-                .map(|value| value.get()),
-        ),
-        _ => shown(
-            alloc,
-            reader
-                .read_var::<NonZero<u128>>(bits)
-                .map(|value| value.get()),
-        ),
+        Size::Bits8 => read_value::<NonZero<u8>, R>(alloc, reader, bits),
+        Size::Bits16 => read_value::<NonZero<u16>, R>(alloc, reader, bits),
+        Size::Bits32 => read_value::<NonZero<u32>, R>(alloc, reader, bits),
+        Size::Bits64 => read_value::<NonZero<u64>, R>(alloc, reader, bits),
+        Size::Bits128 => read_value::<NonZero<u128>, R>(alloc, reader, bits),
+    }
+}
+
+/// A value, or `none`.
+fn shown_or_none<T: Display + Drop>(
+    alloc: Global,
+    answer: Result<Option<T>, Error>,
+) -> Result<String, Objection> {
+    match answer {
+        Ok(None) => text(alloc, "none"),
+        Ok(Some(value)) => Ok(format!(in alloc; "{value}")?),
+        Err(error) => refused(alloc, error),
     }
 }
 
 fn read_optional<R: BitRead>(
     alloc: Global,
     reader: &mut R,
-    size: u32,
+    size: Size,
     bits: u32,
-) -> Result<String, AllocError> {
+) -> Result<String, Objection> {
     match size {
-        8 => shown_or_none(
-            alloc,
-            reader
-                .read_var::<Option<NonZero<u8>>>(bits)
-                .map(|value| value.map(|some| some.get())),
-        ),
-        16 => shown_or_none(
-            alloc,
-            reader
-                .read_var::<Option<NonZero<u16>>>(bits)
-                .map(|value| value.map(|some| some.get())),
-        ),
-        32 => shown_or_none(
-            alloc,
-            reader
-                .read_var::<Option<NonZero<u32>>>(bits)
-                .map(|value| value.map(|some| some.get())),
-        ),
-        64 => shown_or_none(
-            alloc,
-            reader
-                .read_var::<Option<NonZero<u64>>>(bits)
-                .map(|value| value.map(|some| some.get())),
-        ),
-        _ => shown_or_none(
-            alloc,
-            reader
-                .read_var::<Option<NonZero<u128>>>(bits)
-                .map(|value| value.map(|some| some.get())),
-        ),
+        Size::Bits8 => shown_or_none(alloc, reader.read_var::<Option<NonZero<u8>>>(bits)),
+        Size::Bits16 => shown_or_none(alloc, reader.read_var::<Option<NonZero<u16>>>(bits)),
+        Size::Bits32 => shown_or_none(alloc, reader.read_var::<Option<NonZero<u32>>>(bits)),
+        Size::Bits64 => shown_or_none(alloc, reader.read_var::<Option<NonZero<u64>>>(bits)),
+        Size::Bits128 => shown_or_none(alloc, reader.read_var::<Option<NonZero<u128>>>(bits)),
     }
 }
 
-fn read_count<R: BitRead>(
+fn read_array<R: BitRead>(
     alloc: Global,
     reader: &mut R,
-    max: u32,
-) -> Result<Option<String>, AllocError> {
-    let answer = match max {
-        1 => shown(alloc, reader.read_count::<BitCount<1>>())?,
-        3 => shown(alloc, reader.read_count::<BitCount<3>>())?,
-        7 => shown(alloc, reader.read_count::<BitCount<7>>())?,
-        63 => shown(alloc, reader.read_count::<BitCount<63>>())?,
-        127 => shown(alloc, reader.read_count::<BitCount<127>>())?,
-        4294967295 => shown(alloc, reader.read_count::<BitCount<4294967295>>())?,
-        _ => return Ok(None),
-    };
-    Ok(Some(answer))
+    items: Items,
+    bits: u32,
+) -> Result<String, Objection> {
+    match items {
+        Items::Bytes => shown_bytes(alloc, reader.read_var::<[u8; 4]>(bits)),
+        Items::None => shown_nothing(alloc, reader.read_var::<[u8; 0]>(bits)),
+        Items::Signed => shown_signed(alloc, reader.read_var::<[i8; 2]>(bits)),
+        Items::Truths => shown_truths(alloc, reader.read_var::<[bool; 4]>(bits)),
+    }
+}
+
+/// Bytes as hexadecimal digits.
+fn shown_bytes(alloc: Global, answer: Result<[u8; 4], Error>) -> Result<String, Objection> {
+    match answer {
+        Ok(bytes) => {
+            let [a, b, c, d] = bytes;
+            Ok(format!(in alloc; "{a:02X}{b:02X}{c:02X}{d:02X}")?)
+        }
+        Err(error) => refused(alloc, error),
+    }
+}
+
+fn shown_nothing(alloc: Global, answer: Result<[u8; 0], Error>) -> Result<String, Objection> {
+    match answer {
+        Ok([]) => text(alloc, "-"),
+        Err(error) => refused(alloc, error),
+    }
+}
+
+fn shown_signed(alloc: Global, answer: Result<[i8; 2], Error>) -> Result<String, Objection> {
+    match answer {
+        Ok(pair) => {
+            let [a, b] = pair;
+            Ok(format!(in alloc; "{a},{b}")?)
+        }
+        Err(error) => refused(alloc, error),
+    }
+}
+
+/// Truths as binary digits.
+fn shown_truths(alloc: Global, answer: Result<[bool; 4], Error>) -> Result<String, Objection> {
+    match answer {
+        Ok(truths) => {
+            let [a, b, c, d] = truths.map(|truth| u8::from(truth));
+            Ok(format!(in alloc; "{a}{b}{c}{d}")?)
+        }
+        Err(error) => refused(alloc, error),
+    }
+}
+
+fn read_count<R: BitRead>(alloc: Global, reader: &mut R, max: u32) -> Result<String, Objection> {
+    match max {
+        1 => shown(alloc, reader.read_count::<BitCount<1>>()),
+        3 => shown(alloc, reader.read_count::<BitCount<3>>()),
+        7 => shown(alloc, reader.read_count::<BitCount<7>>()),
+        63 => shown(alloc, reader.read_count::<BitCount<63>>()),
+        127 => shown(alloc, reader.read_count::<BitCount<127>>()),
+        4294967295 => shown(alloc, reader.read_count::<BitCount<4294967295>>()),
+        _ => Err(Objection::NotYet),
+    }
 }
 
 /// Why a constant was not read.
@@ -185,24 +247,23 @@ fn read_const<R: BitRead>(
     reader: &mut R,
     bits: u32,
     value: u32,
-) -> Result<Option<String>, AllocError> {
+) -> Result<String, Objection> {
+    let err = NotRead::Differs;
     let answer = match (bits, value) {
-        (0, 0) => reader.read_const::<Bits<0>, Bits<0>, NotRead>(NotRead::Differs),
-        (0, 1) => reader.read_const::<Bits<0>, Bits<1>, NotRead>(NotRead::Differs),
-        (1, 1) => reader.read_const::<Bits<1>, Bits<1>, NotRead>(NotRead::Differs),
-        (3, 5) => reader.read_const::<Bits<3>, Bits<5>, NotRead>(NotRead::Differs),
-        (4, 2) => reader.read_const::<Bits<4>, Bits<2>, NotRead>(NotRead::Differs),
-        (8, 177) => reader.read_const::<Bits<8>, Bits<177>, NotRead>(NotRead::Differs),
-        (12, 2643) => reader.read_const::<Bits<12>, Bits<2643>, NotRead>(NotRead::Differs),
-        (32, 4294967295) => reader.read_const::<Bits<32>, Bits<4294967295>, NotRead>(
-            NotRead::Differs,
-        ),
-        _ => return Ok(None),
+        (0, 0) => reader.read_const::<Bits<0>, Bits<0>, NotRead>(err),
+        (0, 1) => reader.read_const::<Bits<0>, Bits<1>, NotRead>(err),
+        (1, 1) => reader.read_const::<Bits<1>, Bits<1>, NotRead>(err),
+        (3, 5) => reader.read_const::<Bits<3>, Bits<5>, NotRead>(err),
+        (4, 2) => reader.read_const::<Bits<4>, Bits<2>, NotRead>(err),
+        (5, 19) => reader.read_const::<Bits<5>, Bits<19>, NotRead>(err),
+        (8, 177) => reader.read_const::<Bits<8>, Bits<177>, NotRead>(err),
+        (12, 2643) => reader.read_const::<Bits<12>, Bits<2643>, NotRead>(err),
+        (32, 4294967295) => reader.read_const::<Bits<32>, Bits<4294967295>, NotRead>(err),
+        _ => return Err(Objection::NotYet),
     };
-    let name = match answer {
-        Ok(()) => "ok",
-        Err(NotRead::Differs) => "Differs",
-        Err(NotRead::Refused(error)) => error_name(error),
-    };
-    Ok(Some(String::from_str(alloc, name)?))
+    match answer {
+        Ok(()) => text(alloc, "ok"),
+        Err(NotRead::Differs) => text(alloc, "Differs"),
+        Err(NotRead::Refused(error)) => refused(alloc, error),
+    }
 }

@@ -1,101 +1,145 @@
-//! Rows of the vectors.
-use crate::answer::{bytes_of, error_name};
-use crate::form::form_of;
-use crate::reads::read_call;
-use crate::writes::write_call;
-use bitstream_io::{BE, BitReader, BitWrite, BitWriter, Endianness, LE};
-use std::alloc::{AllocError, Global};
+//! Rows of the files.
+use crate::answer::bytes_of;
+use crate::call::{Call, number};
+use crate::objection::Objection;
+use std::alloc::Global;
 
-/// What became of a row.
+/// Whether the calls of a row read or write.
 #[derive(Clone, Copy, Debug, PartialEq, Eq, Drop)]
-pub enum Outcome {
-    /// It has a call that is not known.
-    Unknown,
-    /// Each answer and the bytes are as the row says.
-    Agrees,
-    /// Some answer or byte is not.
-    Differs,
+pub enum Kind {
+    Read,
+    Write,
 }
 
-/// Replays a row: its kind, order, calls and bytes, apart by tabs.
-pub fn replay(alloc: Global, line: &str) -> Result<Outcome, AllocError> {
-    let columns: Vec<&str> = line.split('\t').collect(alloc)?;
-    let [kind, order, calls, bytes] = columns.as_slice() else {
-        return Ok(Outcome::Unknown);
-    };
-    let Some(bytes) = bytes_of(alloc, bytes)? else {
-        return Ok(Outcome::Unknown);
-    };
-    if !is_known(calls) {
-        return Ok(Outcome::Unknown);
+/// The order of bits of a row.
+#[derive(Clone, Copy, Debug, PartialEq, Eq, Drop)]
+pub enum Order {
+    Big,
+    Little,
+}
+
+/// A row: calls with their answers, on a stream of these bytes.
+#[derive(Debug, Drop)]
+pub struct Row<'a> {
+    pub kind: Kind,
+    pub order: Order,
+    /// The calls, of a row that writes with the last alignment, if it has one.
+    pub calls: Vec<Call<'a>>,
+    /// What is read, or what stands written after the calls.
+    pub bytes: Vec<u8>,
+    pub after: After,
+}
+
+/// What a row says of the stream after its calls.
+#[derive(Clone, Copy, Debug, Drop)]
+pub struct After {
+    /// How many bits were taken.
+    pub place: Option<usize>,
+    /// How many bytes were fetched or handed on.
+    pub moved: Option<usize>,
+    /// How many requests were made.
+    pub requests: Option<u64>,
+    /// How many requests were made at most.
+    pub most_requests: Option<u64>,
+    /// Whether the bytes were handed on by the calls alone, with no last alignment.
+    pub unpadded: bool,
+}
+
+impl<'a> Row<'a> {
+    /// The row of a line: its kind, order, calls, bytes and, where it has more to say, what holds
+    /// after the calls, apart by tabs.
+    ///
+    /// # Errors
+    ///
+    /// `NotYet` where a call is still to come, else that the row is of a bad form.
+    pub fn parse(alloc: Global, line: &'a str) -> Result<Row<'a>, Objection> {
+        let columns: Vec<&'a str> = line.split('\t').collect(alloc)?;
+        let (kind, order, calls, bytes, after) = match columns.as_slice() {
+            [kind, order, calls, bytes] => (*kind, *order, *calls, *bytes, ""),
+            [kind, order, calls, bytes, after] => (*kind, *order, *calls, *bytes, *after),
+            _ => return Err(Objection::BAD_FORM),
+        };
+        let kind = kind_of(kind)?;
+        let order = order_of(order)?;
+        let bytes = bytes_of(alloc, bytes)?;
+        let after = After::parse(after)?;
+        let mut calls = calls_of(alloc, kind, calls)?;
+        if kind == Kind::Write && !after.unpadded {
+            calls.push(Call::aligns())?;
+        }
+        Ok(Row {
+            kind,
+            order,
+            calls,
+            bytes,
+            after,
+        })
     }
-    let agrees = match (*kind, *order) {
-        ("read", "be") => reads_as::<BE>(alloc, calls, &bytes)?,
-        ("read", "le") => reads_as::<LE>(alloc, calls, &bytes)?,
-        ("write", "be") => writes_as::<BE>(alloc, calls, &bytes)?,
-        ("write", "le") => writes_as::<LE>(alloc, calls, &bytes)?,
-        _ => return Ok(Outcome::Unknown),
-    };
-    Ok(if agrees {
-        Outcome::Agrees
+}
+
+fn kind_of(name: &str) -> Result<Kind, Objection> {
+    match name {
+        "read" => Ok(Kind::Read),
+        "write" => Ok(Kind::Write),
+        _ => Err(Objection::BAD_FORM),
+    }
+}
+
+fn order_of(name: &str) -> Result<Order, Objection> {
+    match name {
+        "be" => Ok(Order::Big),
+        "le" => Ok(Order::Little),
+        _ => Err(Objection::BAD_FORM),
+    }
+}
+
+/// The calls of a list. A call of a bad form is named before one that is still to come.
+fn calls_of<'a>(alloc: Global, kind: Kind, list: &'a str) -> Result<Vec<Call<'a>>, Objection> {
+    let mut calls = Vec::new(alloc);
+    let mut to_come = false;
+    for spelled in list.split(';') {
+        match Call::parse(alloc, kind, spelled) {
+            Ok(call) => calls.push(call)?,
+            Err(Objection::NotYet) => to_come = true,
+            Err(objection) => return Err(objection),
+        }
+    }
+    if to_come {
+        Err(Objection::NotYet)
     } else {
-        Outcome::Differs
-    })
+        Ok(calls)
+    }
 }
 
-/// Whether each call of a list is of a known form.
-fn is_known(calls: &str) -> bool {
-    for call in calls.split(';') {
-        let mut words = call.split_whitespace();
-        let Some(name) = words.next() else {
-            return false;
+impl After {
+    fn parse(list: &str) -> Result<After, Objection> {
+        let mut after = After {
+            place: None,
+            moved: None,
+            requests: None,
+            most_requests: None,
+            unpadded: false,
         };
-        if form_of(name).is_none() {
-            return false;
+        if list.is_empty() {
+            return Ok(after);
         }
+        for fact in list.split(';') {
+            after.note(fact.trim())?;
+        }
+        Ok(after)
     }
-    true
-}
 
-/// Whether reads of the bytes answer as the list says.
-fn reads_as<E: Endianness + Drop>(
-    alloc: Global,
-    calls: &str,
-    bytes: &[u8],
-) -> Result<bool, AllocError> {
-    let mut reader = BitReader::<&[u8], E>::new(bytes);
-    for call in calls.split(';') {
-        let words: Vec<&str> = call.split_whitespace().collect(alloc)?;
-        let Some(answer) = read_call(alloc, &mut reader, &words)? else {
-            return Ok(false);
-        };
-        if words.last().copied() != Some(answer.as_str()) {
-            return Ok(false);
+    /// Notes a fact: its name, and mostly a number.
+    fn note(&mut self, fact: &str) -> Result<(), Objection> {
+        let (name, value) = fact.split_once(' ').unwrap_or((fact, ""));
+        match name {
+            "place" => self.place = Some(number(value)?),
+            "moved" => self.moved = Some(number(value)?),
+            "requests" => self.requests = Some(number(value)?),
+            "requests-at-most" => self.most_requests = Some(number(value)?),
+            "unpadded" => self.unpadded = true,
+            _ => return Err(Objection::BAD_FORM),
         }
+        Ok(())
     }
-    Ok(true)
-}
-
-/// Whether writes answer as the list says, and leave the bytes.
-fn writes_as<E: Endianness + Drop>(
-    alloc: Global,
-    calls: &str,
-    bytes: &[u8],
-) -> Result<bool, AllocError> {
-    let mut written = Vec::new(alloc);
-    let mut writer = BitWriter::<&mut Vec<u8>, E>::new(&mut written);
-    for call in calls.split(';') {
-        let words: Vec<&str> = call.split_whitespace().collect(alloc)?;
-        let agrees = match write_call(alloc, &mut writer, &words)? {
-            Some(Ok(())) => !words.as_slice().contains(&"=>"),
-            Some(Err(error)) => words.last().copied() == Some(error_name(error)),
-            None => false,
-        };
-        if !agrees {
-            return Ok(false);
-        }
-    }
-    let aligned = writer.byte_align().is_ok();
-    let _ = writer;
-    Ok(aligned && written.as_slice() == bytes)
 }

@@ -1,157 +1,232 @@
-//! Write calls of the vectors.
-use crate::answer::bytes_of;
-use crate::fixed::{write_fixed_signed, write_fixed_unsigned};
-use crate::form::{Form, form_of, number_at};
-use bitstream_io::{BitCount, BitWrite, BitWriteExt, Bits, Error};
-use std::alloc::{AllocError, Global};
-use std::num::NonZero;
+//! Write calls of the rows.
+ghost use Rattle.std.specs.Prelude.{◌<◌};
 
-/// Makes the write call that these words spell, and answers as it does; none where the words spell
-/// no known call.
+use crate::answer::{accepted, bytes_of, text};
+use crate::call::{Call, number};
+use crate::fixed::write_fixed;
+use crate::form::{Form, Items, Number, Size};
+use crate::objection::Objection;
+use bitstream_io::{
+    BitCount, BitWrite, BitWriteExt, Bits, Error, Integer, SignedInteger, UnsignedInteger,
+};
+use std::alloc::Global;
+use std::num::{NonZero, ParseIntError};
+use std::str::FromStr;
+
+/// What a write call answers, where its row spells one.
+type Answer = Result<Result<(), Error>, Objection>;
+
+/// Makes a write call, and spells its answer.
 pub fn write_call<W: BitWrite>(
     alloc: Global,
     writer: &mut W,
-    words: &[&str],
-) -> Result<Option<Result<(), Error>>, AllocError> {
-    let Some(form) = words.first().and_then(|name| form_of(name)) else {
-        return Ok(None);
+    call: &Call<'_>,
+) -> Result<String, Objection> {
+    let (bits, value) = (call.bits, call.value);
+    let answer = match call.form {
+        Form::Align => Ok(writer.byte_align()),
+        Form::Aligned => return text(alloc, if writer.byte_aligned() { "yes" } else { "no" }),
+        Form::Array(items) => write_array(alloc, writer, items, bits, value),
+        Form::Bit => write_bit(writer, bits),
+        Form::Bool => write_bool(writer, bits, value),
+        Form::Const => write_const(writer, bits, number(value)?),
+        Form::Count => write_count(writer, bits, number(value)?),
+        Form::Counted(number) => write_counted(writer, number, bits, value),
+        Form::Fixed(number) => write_fixed(writer, number, bits, value),
+        Form::NonZero(size) => write_non_zero(writer, size, bits, value),
+        Form::Optional(size) => write_optional(writer, size, bits, value),
+        Form::Value(number) => write_number(writer, number, bits, value),
+        Form::Word(number) => write_word(writer, number, bits, value),
     };
-    if form == Form::Array {
-        return write_array(alloc, writer, words);
-    }
-    Ok(write_number(writer, form, words))
+    accepted(alloc, answer?)
 }
 
-/// Writes four bytes, each in so many bits.
+/// The truth that a binary digit spells.
+fn truth(digit: char) -> Result<bool, Objection> {
+    match digit {
+        '0' => Ok(false),
+        '1' => Ok(true),
+        _ => Err(Objection::BAD_FORM),
+    }
+}
+
+fn write_bit<W: BitWrite>(writer: &mut W, bit: u32) -> Answer {
+    match bit {
+        0 => Ok(writer.write_bit(false)),
+        1 => Ok(writer.write_bit(true)),
+        _ => Err(Objection::BAD_FORM),
+    }
+}
+
+fn write_bool<W: BitWrite>(writer: &mut W, bits: u32, value: &str) -> Answer {
+    match value {
+        "0" => Ok(writer.write_var(bits, false)),
+        "1" => Ok(writer.write_var(bits, true)),
+        _ => Err(Objection::BAD_FORM),
+    }
+}
+
+/// Writes the value that a text spells.
+fn write_value<I: Integer + FromStr<Err = ParseIntError>, W: BitWrite>(
+    writer: &mut W,
+    bits: u32,
+    value: &str,
+) -> Answer {
+    Ok(writer.write_var::<I>(bits, number(value)?))
+}
+
+fn write_number<W: BitWrite>(writer: &mut W, number: Number, bits: u32, value: &str) -> Answer {
+    match number {
+        Number::Unsigned(size) => unsigned!(size, write_value(writer, bits, value)),
+        Number::Signed(size) => signed!(size, write_value(writer, bits, value)),
+    }
+}
+
+/// Writes the value that a text spells in a number of bits that is known to be no more than 128.
+fn write_value_counted<I: Integer + FromStr<Err = ParseIntError>, W: BitWrite>(
+    writer: &mut W,
+    bits: BitCount<128>,
+    value: &str,
+) -> Answer {
+    Ok(writer.write_counted::<BitCount<128>, I>(bits, number(value)?))
+}
+
+fn write_counted<W: BitWrite>(writer: &mut W, number: Number, bits: u32, value: &str) -> Answer {
+    let Ok(count) = BitCount::<128>::try_from(bits) else {
+        return Err(Objection::BAD_FORM);
+    };
+    match number {
+        Number::Unsigned(size) => unsigned!(size, write_value_counted(writer, count, value)),
+        Number::Signed(size) => signed!(size, write_value_counted(writer, count, value)),
+    }
+}
+
+fn write_unsigned_word<U: UnsignedInteger + FromStr<Err = ParseIntError>, W: BitWrite>(
+    writer: &mut W,
+    bits: u32,
+    value: &str,
+) -> Answer {
+    Ok(writer.write_unsigned_var::<U>(bits, number(value)?))
+}
+
+fn write_signed_word<S: SignedInteger + FromStr<Err = ParseIntError>, W: BitWrite>(
+    writer: &mut W,
+    bits: u32,
+    value: &str,
+) -> Answer {
+    Ok(writer.write_signed_var::<S>(bits, number(value)?))
+}
+
+fn write_word<W: BitWrite>(writer: &mut W, number: Number, bits: u32, value: &str) -> Answer {
+    match number {
+        Number::Unsigned(size) => unsigned!(size, write_unsigned_word(writer, bits, value)),
+        Number::Signed(size) => signed!(size, write_signed_word(writer, bits, value)),
+    }
+}
+
+fn write_non_zero<W: BitWrite>(writer: &mut W, size: Size, bits: u32, value: &str) -> Answer {
+    match size {
+        Size::Bits8 => write_value::<NonZero<u8>, W>(writer, bits, value),
+        Size::Bits16 => write_value::<NonZero<u16>, W>(writer, bits, value),
+        Size::Bits32 => write_value::<NonZero<u32>, W>(writer, bits, value),
+        Size::Bits64 => write_value::<NonZero<u64>, W>(writer, bits, value),
+        Size::Bits128 => write_value::<NonZero<u128>, W>(writer, bits, value),
+    }
+}
+
+/// Writes a number that is not 0, or none where the text spells 0.
+fn write_optional<W: BitWrite>(writer: &mut W, size: Size, bits: u32, value: &str) -> Answer {
+    Ok(match size {
+        Size::Bits8 => writer.write_var(bits, NonZero::<u8>::new(number(value)?)),
+        Size::Bits16 => writer.write_var(bits, NonZero::<u16>::new(number(value)?)),
+        Size::Bits32 => writer.write_var(bits, NonZero::<u32>::new(number(value)?)),
+        Size::Bits64 => writer.write_var(bits, NonZero::<u64>::new(number(value)?)),
+        Size::Bits128 => writer.write_var(bits, NonZero::<u128>::new(number(value)?)),
+    })
+}
+
 fn write_array<W: BitWrite>(
     alloc: Global,
     writer: &mut W,
-    words: &[&str],
-) -> Result<Option<Result<(), Error>>, AllocError> {
-    let (Some(bits), Some(text)) = (number_at(words, 1), words.get(2)) else {
-        return Ok(None);
-    };
-    let Some(bytes) = bytes_of(alloc, text)? else {
-        return Ok(None);
-    };
-    let [a, b, c, d] = bytes.as_slice() else {
-        return Ok(None);
-    };
-    Ok(Some(writer.write_var(bits, [*a, *b, *c, *d])))
-}
-
-fn write_number<W: BitWrite>(
-    writer: &mut W,
-    form: Form,
-    words: &[&str],
-) -> Option<Result<(), Error>> {
-    let bits = number_at(words, 1).unwrap_or(0);
-    let value = words.get(2).copied().unwrap_or("");
-    match form {
-        Form::Align => Some(writer.byte_align()),
-        Form::Array => None,
-        Form::Bit => Some(writer.write_bit(bits == 1)),
-        Form::Bool => Some(writer.write_var(bits, value == "1")),
-        Form::Const => write_const(writer, bits, number_at(words, 2)?),
-        Form::Count => write_count(writer, bits, number_at(words, 2)?),
-        Form::FixedSigned(size) => write_fixed_signed(writer, size, bits, value),
-        Form::FixedUnsigned(size) => write_fixed_unsigned(writer, size, bits, value),
-        Form::NonZero(size) => write_non_zero(writer, size, bits, value),
-        Form::Optional(size) => write_optional(writer, size, bits, value),
-        Form::Signed(size) => write_signed(writer, size, bits, value),
-        Form::Unsigned(size) => write_unsigned(writer, size, bits, value),
+    items: Items,
+    bits: u32,
+    value: &str,
+) -> Answer {
+    match items {
+        Items::Bytes => write_bytes(alloc, writer, bits, value),
+        Items::None => write_nothing(writer, bits, value),
+        Items::Signed => write_signed_pair(writer, bits, value),
+        Items::Truths => write_truths(alloc, writer, bits, value),
     }
 }
 
-fn write_unsigned<W: BitWrite>(
-    writer: &mut W,
-    size: u32,
-    bits: u32,
-    value: &str,
-) -> Option<Result<(), Error>> {
-    let answer = match size {
-        8 => writer.write_var(bits, value.parse::<u8>().ok()?),
-        16 => writer.write_var(bits, value.parse::<u16>().ok()?),
-        32 => writer.write_var(bits, value.parse::<u32>().ok()?),
-        64 => writer.write_var(bits, value.parse::<u64>().ok()?),
-        _ => writer.write_var(bits, value.parse::<u128>().ok()?),
+fn write_bytes<W: BitWrite>(alloc: Global, writer: &mut W, bits: u32, value: &str) -> Answer {
+    let bytes = bytes_of(alloc, value)?;
+    let [a, b, c, d] = bytes.as_slice() else {
+        return Err(Objection::BAD_FORM);
     };
-    Some(answer)
+    Ok(writer.write_var(bits, [*a, *b, *c, *d]))
 }
 
-fn write_signed<W: BitWrite>(
-    writer: &mut W,
-    size: u32,
-    bits: u32,
-    value: &str,
-) -> Option<Result<(), Error>> {
-    let answer = match size {
-        8 => writer.write_var(bits, value.parse::<i8>().ok()?),
-        16 => writer.write_var(bits, value.parse::<i16>().ok()?),
-        32 => writer.write_var(bits, value.parse::<i32>().ok()?),
-        64 => writer.write_var(bits, value.parse::<i64>().ok()?),
-        _ => writer.write_var(bits, value.parse::<i128>().ok()?),
-    };
-    Some(answer)
+fn write_nothing<W: BitWrite>(writer: &mut W, bits: u32, value: &str) -> Answer {
+    if value == "-" {
+        Ok(writer.write_var::<[u8; 0]>(bits, []))
+    } else {
+        Err(Objection::BAD_FORM)
+    }
 }
 
-fn write_non_zero<W: BitWrite>(
-    writer: &mut W,
-    size: u32,
-    bits: u32,
-    value: &str,
-) -> Option<Result<(), Error>> {
-    let answer = match size {
-        8 => writer.write_var(bits, NonZero::<u8>::new(value.parse().ok()?)?),
-        16 => writer.write_var(bits, NonZero::<u16>::new(value.parse().ok()?)?),
-        32 => writer.write_var(bits, NonZero::<u32>::new(value.parse().ok()?)?),
-        64 => writer.write_var(bits, NonZero::<u64>::new(value.parse().ok()?)?),
-        _ => writer.write_var(bits, NonZero::<u128>::new(value.parse().ok()?)?),
+fn write_signed_pair<W: BitWrite>(writer: &mut W, bits: u32, value: &str) -> Answer {
+    let Some((first, second)) = value.split_once(',') else {
+        return Err(Objection::BAD_FORM);
     };
-    Some(answer)
+    Ok(writer.write_var::<[i8; 2]>(bits, [number(first)?, number(second)?]))
 }
 
-fn write_optional<W: BitWrite>(
-    writer: &mut W,
-    size: u32,
-    bits: u32,
-    value: &str,
-) -> Option<Result<(), Error>> {
-    let answer = match size {
-        8 => writer.write_var(bits, NonZero::<u8>::new(value.parse().ok()?)),
-        16 => writer.write_var(bits, NonZero::<u16>::new(value.parse().ok()?)),
-        32 => writer.write_var(bits, NonZero::<u32>::new(value.parse().ok()?)),
-        64 => writer.write_var(bits, NonZero::<u64>::new(value.parse().ok()?)),
-        _ => writer.write_var(bits, NonZero::<u128>::new(value.parse().ok()?)),
+fn write_truths<W: BitWrite>(alloc: Global, writer: &mut W, bits: u32, value: &str) -> Answer {
+    let digits: Vec<char> = value.chars().collect(alloc)?;
+    let [a, b, c, d] = digits.as_slice() else {
+        return Err(Objection::BAD_FORM);
     };
-    Some(answer)
+    let truths = [truth(*a)?, truth(*b)?, truth(*c)?, truth(*d)?];
+    Ok(writer.write_var::<[bool; 4]>(bits, truths))
 }
 
-fn write_count<W: BitWrite>(writer: &mut W, max: u32, value: u32) -> Option<Result<(), Error>> {
-    let answer = match max {
-        1 => writer.write_count(BitCount::<1>::try_from(value).ok()?),
-        3 => writer.write_count(BitCount::<3>::try_from(value).ok()?),
-        5 => writer.write_count(BitCount::<5>::try_from(value).ok()?),
-        7 => writer.write_count(BitCount::<7>::try_from(value).ok()?),
-        63 => writer.write_count(BitCount::<63>::try_from(value).ok()?),
-        100 => writer.write_count(BitCount::<100>::try_from(value).ok()?),
-        127 => writer.write_count(BitCount::<127>::try_from(value).ok()?),
-        4294967295 => writer.write_count(BitCount::<4294967295>::try_from(value).ok()?),
-        _ => return None,
-    };
-    Some(answer)
+/// Writes a count of no more than MAX.
+fn write_count_below<const MAX: u32, W: BitWrite>(writer: &mut W, value: u32) -> Answer
+    requires { 0 < MAX }
+{
+    match BitCount::<MAX>::try_from(value) {
+        Ok(count) => Ok(writer.write_count(count)),
+        Err(_) => Err(Objection::BAD_FORM),
+    }
 }
 
-fn write_const<W: BitWrite>(writer: &mut W, bits: u32, value: u32) -> Option<Result<(), Error>> {
+fn write_count<W: BitWrite>(writer: &mut W, max: u32, value: u32) -> Answer {
+    match max {
+        1 => write_count_below::<1, W>(writer, value),
+        3 => write_count_below::<3, W>(writer, value),
+        5 => write_count_below::<5, W>(writer, value),
+        7 => write_count_below::<7, W>(writer, value),
+        63 => write_count_below::<63, W>(writer, value),
+        100 => write_count_below::<100, W>(writer, value),
+        127 => write_count_below::<127, W>(writer, value),
+        4294967295 => write_count_below::<4294967295, W>(writer, value),
+        _ => Err(Objection::NotYet),
+    }
+}
+
+fn write_const<W: BitWrite>(writer: &mut W, bits: u32, value: u32) -> Answer {
     match (bits, value) {
-        (0, 0) => Some(writer.write_const::<Bits<0>, Bits<0>>()),
-        (0, 1) => Some(writer.write_const::<Bits<0>, Bits<1>>()),
-        (1, 1) => Some(writer.write_const::<Bits<1>, Bits<1>>()),
-        (3, 5) => Some(writer.write_const::<Bits<3>, Bits<5>>()),
-        (4, 2) => Some(writer.write_const::<Bits<4>, Bits<2>>()),
-        (8, 177) => Some(writer.write_const::<Bits<8>, Bits<177>>()),
-        (12, 2643) => Some(writer.write_const::<Bits<12>, Bits<2643>>()),
-        (32, 4294967295) => Some(writer.write_const::<Bits<32>, Bits<4294967295>>()),
-        _ => None,
+        (0, 0) => Ok(writer.write_const::<Bits<0>, Bits<0>>()),
+        (0, 1) => Ok(writer.write_const::<Bits<0>, Bits<1>>()),
+        (1, 1) => Ok(writer.write_const::<Bits<1>, Bits<1>>()),
+        (3, 5) => Ok(writer.write_const::<Bits<3>, Bits<5>>()),
+        (4, 2) => Ok(writer.write_const::<Bits<4>, Bits<2>>()),
+        (5, 19) => Ok(writer.write_const::<Bits<5>, Bits<19>>()),
+        (8, 177) => Ok(writer.write_const::<Bits<8>, Bits<177>>()),
+        (12, 2643) => Ok(writer.write_const::<Bits<12>, Bits<2643>>()),
+        (32, 4294967295) => Ok(writer.write_const::<Bits<32>, Bits<4294967295>>()),
+        _ => Err(Objection::NotYet),
     }
 }

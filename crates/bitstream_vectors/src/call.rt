@@ -1,0 +1,97 @@
+//! Calls, as rows spell them.
+use crate::form::{Form, Items, form_of};
+use crate::objection::Objection;
+use crate::row::Kind;
+use std::alloc::Global;
+use std::num::ParseIntError;
+use std::str::FromStr;
+
+/// A call with the answer that a row wants.
+#[derive(Clone, Copy, Debug, Drop)]
+pub struct Call<'a> {
+    /// What it reads or writes, or asks.
+    pub form: Form,
+    /// In how many bits, or the greatest number of a count.
+    pub bits: u32,
+    /// What it writes, or the number of a constant.
+    pub value: &'a str,
+    /// What it answers.
+    pub answer: &'a str,
+}
+
+impl<'a> Call<'a> {
+    /// The call of a row that a text spells.
+    pub fn parse(alloc: Global, kind: Kind, spelled: &'a str) -> Result<Call<'a>, Objection> {
+        let (call, answer) = match spelled.split_once("=>") {
+            Some((call, answer)) => (call, Some(answer.trim())),
+            None => (spelled, None),
+        };
+        let words: Vec<&'a str> = call.split_whitespace().collect(alloc)?;
+        let form = form_of(word_at(&words, 0))?;
+        let (reads, writes) = form.arguments();
+        let (arguments, usual) = match kind {
+            Kind::Read => (reads, None),
+            Kind::Write => (writes, Some("ok")),
+        };
+        let Some(answer) = answer.or(usual) else {
+            return Err(Objection::BAD_FORM);
+        };
+        if words.len() != arguments.saturating_add(1) {
+            return Err(Objection::BAD_FORM);
+        }
+        Ok(Call {
+            form,
+            bits: if arguments == 0 {
+                0
+            } else {
+                number(word_at(&words, 1))?
+            },
+            value: word_at(&words, 2),
+            answer,
+        })
+    }
+
+    /// The call that reads one bit, which is answered so.
+    pub fn reads_bit(answer: &'static str) -> Call<'static> {
+        Call {
+            form: Form::Bit,
+            bits: 0,
+            value: "",
+            answer,
+        }
+    }
+
+    /// The call that writes zeros up to the end of a byte.
+    pub fn aligns() -> Call<'static> {
+        Call {
+            form: Form::Align,
+            bits: 0,
+            value: "",
+            answer: "ok",
+        }
+    }
+
+    /// What it answers on a stream that has failed.
+    pub fn answer_of_failed(&self, kind: Kind) -> &'static str {
+        match (self.form, kind) {
+            (Form::Aligned, _) => "no",
+            (Form::Align, Kind::Read) => "ok",
+            (Form::Array(Items::None), Kind::Read) => "-",
+            (Form::Array(Items::None), Kind::Write) => "ok",
+            _ => "Failed",
+        }
+    }
+}
+
+/// A word of a call, or none.
+fn word_at<'a>(words: &[&'a str], at: usize) -> &'a str {
+    words.get(at).copied().unwrap_or("")
+}
+
+/// The number that a text spells.
+pub fn number<T: FromStr<Err = ParseIntError>>(text: &str) -> Result<T, Objection> {
+    match text.parse() {
+        Ok(number) => Ok(number),
+        Err(_) => Err(Objection::BAD_FORM),
+    }
+}

@@ -1,0 +1,215 @@
+//! Plays of a row's calls over a stream.
+use crate::answer::error_name;
+use crate::call::Call;
+use crate::objection::{Difference, Objection, agrees};
+use crate::reads::read_call;
+use crate::row::{Kind, Order, Row};
+use crate::writes::write_call;
+use bitstream_bench::{Count, Drip, Refuse};
+use bitstream_io::{BE, BitReader, BitWriter, Endianness, Error, LE, Source, Target};
+use std::alloc::Global;
+use std::io::{ErrorKind, Read, Write};
+
+/// A request that a stream refuses, as each later one.
+#[derive(Clone, Copy, Debug, Drop)]
+pub struct Fault {
+    /// How many requests it serves before.
+    pub served: u32,
+    /// The kind of the refusal.
+    pub kind: ErrorKind,
+    /// The place of the call that makes the request.
+    pub call: usize,
+}
+
+/// What the stream of a play does.
+#[derive(Clone, Copy, Debug, Drop)]
+pub enum Way {
+    /// It is a slice or a vector.
+    Plain,
+    /// It gives or takes a byte a request.
+    Dripped,
+    /// It refuses requests from one on.
+    Refused(Fault),
+}
+
+impl Fault {
+    /// What the call answers whose request is refused.
+    fn answer(self, kind: Kind) -> &'static str {
+        match (kind, self.kind) {
+            (Kind::Read, ErrorKind::UnexpectedEof) => "EndOfInput",
+            (_, ErrorKind::OutOfMemory) => "OutOfMemory",
+            (_, kind) => error_name(Error::Stream(kind)),
+        }
+    }
+}
+
+impl Way {
+    /// What a call answers on such a stream: on one that refuses, the answer of the row before the
+    /// call that is refused, that of the refusal there, and that of a failed stream behind it.
+    fn answer<'a>(self, kind: Kind, at: usize, call: &Call<'a>) -> &'a str {
+        match self {
+            Way::Refused(fault) if at == fault.call => fault.answer(kind),
+            Way::Refused(fault) if fault.call < at => call.answer_of_failed(kind),
+            _ => call.answer,
+        }
+    }
+
+    /// What differs where an answer does.
+    fn difference(self) -> Difference {
+        match self {
+            Way::Plain => Difference::Answer,
+            Way::Dripped => Difference::Dripped,
+            Way::Refused(_) => Difference::Refused,
+        }
+    }
+}
+
+/// What a play did to its stream.
+#[derive(Clone, Copy, Debug, PartialEq, Eq, Drop)]
+pub struct Moved {
+    /// How many requests were made.
+    pub requests: u64,
+    /// How many of them were refused.
+    pub refused: u64,
+    /// How many bytes were fetched or handed on.
+    pub bytes: usize,
+}
+
+/// A reader or writer of bits on which calls are made.
+trait Stage {
+    /// Makes a call, and spells its answer.
+    fn call(&mut self, alloc: Global, call: &Call<'_>) -> Result<String, Objection>;
+}
+
+impl<R: Source, E: Endianness> Stage for BitReader<R, E> {
+    fn call(&mut self, alloc: Global, call: &Call<'_>) -> Result<String, Objection> {
+        read_call(alloc, self, call)
+    }
+}
+
+impl<W: Target, E: Endianness> Stage for BitWriter<W, E> {
+    fn call(&mut self, alloc: Global, call: &Call<'_>) -> Result<String, Objection> {
+        write_call(alloc, self, call)
+    }
+}
+
+/// Makes calls one behind the other, and objects to the first answer that differs.
+fn make_calls<S: Stage>(
+    alloc: Global,
+    stage: &mut S,
+    kind: Kind,
+    calls: &[Call<'_>],
+    way: Way,
+) -> Result<(), Objection> {
+    for (at, call) in calls.iter().enumerate() {
+        let answer = stage.call(alloc, call)?;
+        agrees(
+            answer.as_str() == way.answer(kind, at, call),
+            way.difference(),
+        )?;
+    }
+    Ok(())
+}
+
+/// Makes read calls on a stream. Gives how many requests they made, and how many were refused.
+fn read_over<S: Read + Drop, E: Endianness + Drop>(
+    alloc: Global,
+    stream: S,
+    calls: &[Call<'_>],
+    way: Way,
+) -> Result<(u64, u64), Objection> {
+    let mut count = Count {
+        inner: stream,
+        requests: 0,
+        refused: 0,
+    };
+    let mut reader = BitReader::<_, E>::new(&mut count);
+    make_calls(alloc, &mut reader, Kind::Read, calls, way)?;
+    let _ = reader;
+    Ok((count.requests, count.refused))
+}
+
+/// Makes write calls on a stream. Gives how many requests they made, and how many were refused.
+fn write_over<S: Write + Drop, E: Endianness + Drop>(
+    alloc: Global,
+    stream: S,
+    calls: &[Call<'_>],
+    way: Way,
+) -> Result<(u64, u64), Objection> {
+    let mut count = Count {
+        inner: stream,
+        requests: 0,
+        refused: 0,
+    };
+    let mut writer = BitWriter::<_, E>::new(&mut count);
+    make_calls(alloc, &mut writer, Kind::Write, calls, way)?;
+    let _ = writer;
+    Ok((count.requests, count.refused))
+}
+
+/// A stream that refuses as a fault says.
+fn refusing<S>(inner: S, fault: Fault) -> Refuse<S> {
+    Refuse {
+        inner,
+        left: fault.served,
+        kind: fault.kind,
+    }
+}
+
+/// Makes read calls on bytes.
+fn read_bytes<E: Endianness + Drop>(
+    alloc: Global,
+    bytes: &[u8],
+    calls: &[Call<'_>],
+    way: Way,
+) -> Result<Moved, Objection> {
+    let mut left = bytes;
+    let (requests, refused) = match way {
+        Way::Plain => read_over::<_, E>(alloc, &mut left, calls, way)?,
+        Way::Dripped => read_over::<_, E>(alloc, Drip { inner: &mut left }, calls, way)?,
+        Way::Refused(fault) => read_over::<_, E>(alloc, refusing(&mut left, fault), calls, way)?,
+    };
+    Ok(Moved {
+        requests,
+        refused,
+        bytes: bytes.len().saturating_sub(left.len()),
+    })
+}
+
+/// Makes write calls, whose bytes are a beginning of those that a row has.
+fn write_bytes<E: Endianness + Drop>(
+    alloc: Global,
+    bytes: &[u8],
+    calls: &[Call<'_>],
+    way: Way,
+) -> Result<Moved, Objection> {
+    let mut written: Vec<u8> = Vec::new(alloc);
+    let to = &mut written;
+    let (requests, refused) = match way {
+        Way::Plain => write_over::<_, E>(alloc, to, calls, way)?,
+        Way::Dripped => write_over::<_, E>(alloc, Drip { inner: to }, calls, way)?,
+        Way::Refused(fault) => write_over::<_, E>(alloc, refusing(to, fault), calls, way)?,
+    };
+    agrees(bytes.starts_with(written.as_slice()), Difference::Bytes)?;
+    Ok(Moved {
+        requests,
+        refused,
+        bytes: written.len(),
+    })
+}
+
+/// Makes calls on a stream of the row's kind, order and bytes.
+pub fn play(
+    alloc: Global,
+    row: &Row<'_>,
+    calls: &[Call<'_>],
+    way: Way,
+) -> Result<Moved, Objection> {
+    let bytes = row.bytes.as_slice();
+    match (row.kind, row.order) {
+        (Kind::Read, Order::Big) => read_bytes::<BE>(alloc, bytes, calls, way),
+        (Kind::Read, Order::Little) => read_bytes::<LE>(alloc, bytes, calls, way),
+        (Kind::Write, Order::Big) => write_bytes::<BE>(alloc, bytes, calls, way),
+        (Kind::Write, Order::Little) => write_bytes::<LE>(alloc, bytes, calls, way),
+    }
+}

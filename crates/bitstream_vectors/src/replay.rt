@@ -1,0 +1,163 @@
+//! Rows played in each way.
+use crate::call::Call;
+use crate::objection::{Difference, Objection, agrees};
+use crate::play::{Fault, Moved, Way, play};
+use crate::row::{Kind, Order, Row};
+use std::alloc::Global;
+use std::io::ErrorKind;
+
+/// The kinds of refusals of streams that are read.
+const READ_FAULTS: [ErrorKind; 3] = [
+    ErrorKind::ConnectionReset,
+    ErrorKind::OutOfMemory,
+    ErrorKind::UnexpectedEof,
+];
+
+/// The kinds of refusals of streams that are written.
+const WRITE_FAULTS: [ErrorKind; 3] = [
+    ErrorKind::BrokenPipe,
+    ErrorKind::OutOfMemory,
+    ErrorKind::UnexpectedEof,
+];
+
+/// Plays a row as it is, over a stream that drips, and over streams that refuse from each of its
+/// requests on.
+///
+/// # Errors
+///
+/// The first thing that is not as the row says.
+pub fn replay(alloc: Global, line: &str) -> Result<(), Objection> {
+    let row = Row::parse(alloc, line)?;
+    let steps = steps_of(alloc, &row)?;
+    play_whole(alloc, &row, Way::Plain)?;
+    play_whole(alloc, &row, Way::Dripped)?;
+    refuse_each(alloc, &row, &steps)
+}
+
+/// What the calls before each call move, and then what all of them do.
+fn steps_of(alloc: Global, row: &Row<'_>) -> Result<Vec<Moved>, Objection> {
+    let calls = row.calls.as_slice();
+    let mut steps = Vec::new(alloc);
+    steps.push(play(alloc, row, &[], Way::Plain)?)?;
+    for at in 0..calls.len() {
+        steps.push(play(alloc, row, &calls[..=at], Way::Plain)?)?;
+    }
+    Ok(steps)
+}
+
+/// Plays a whole row over a stream that serves each request, and holds what stands behind its calls
+/// against what the row says.
+fn play_whole(alloc: Global, row: &Row<'_>, way: Way) -> Result<(), Objection> {
+    let moved = play(alloc, row, &row.calls, way)?;
+    let after = row.after;
+    if row.kind == Kind::Write {
+        agrees(moved.bytes == row.bytes.len(), Difference::Bytes)?;
+    }
+    agrees_with(after.moved, moved.bytes, Difference::Bytes)?;
+    agrees_with(after.requests, moved.requests, Difference::Requests)?;
+    let most = after.most_requests.unwrap_or(u64::MAX);
+    agrees(moved.requests <= most, Difference::Requests)?;
+    match after.place {
+        Some(place) => stands_at(alloc, row, way, moved, place),
+        None => Ok(()),
+    }
+}
+
+/// Objects where a row says what holds, and something else does.
+fn agrees_with<T: Copy + PartialEq>(
+    want: Option<T>,
+    found: T,
+    what: Difference,
+) -> Result<(), Objection> {
+    match want {
+        Some(want) => agrees(want == found, what),
+        None => Ok(()),
+    }
+}
+
+/// Objects where a row's calls take other than so many bits: the bits that are left follow one by
+/// one, and then the input ends.
+fn stands_at(
+    alloc: Global,
+    row: &Row<'_>,
+    way: Way,
+    moved: Moved,
+    place: usize,
+) -> Result<(), Objection> {
+    agrees(moved.bytes == place.div_ceil(8), Difference::Place)?;
+    let calls = with_rest(alloc, row, place)?;
+    match play(alloc, row, &calls, way) {
+        Err(Objection::Differs(_)) => Err(Objection::Differs(Difference::Place)),
+        Err(objection) => Err(objection),
+        Ok(_) => Ok(()),
+    }
+}
+
+/// The calls of a row, and then calls that read its bits from a place on, and its end.
+fn with_rest<'a>(alloc: Global, row: &Row<'a>, place: usize) -> Result<Vec<Call<'a>>, Objection> {
+    let mut calls: Vec<Call<'a>> = row.calls.iter().copied().collect(alloc)?;
+    for at in place..row.bytes.len().saturating_mul(8) {
+        calls.push(Call::reads_bit(bit_at(row, at)))?;
+    }
+    calls.push(Call::reads_bit("EndOfInput"))?;
+    Ok(calls)
+}
+
+/// A bit of a row's bytes, in its order.
+fn bit_at(row: &Row<'_>, at: usize) -> &'static str {
+    let byte = row.bytes.get(at / 8).copied().unwrap_or(0);
+    let bits = match row.order {
+        Order::Big => byte.reverse_bits(),
+        Order::Little => byte,
+    };
+    if (bits >> (at % 8)) & 1 == 1 {
+        "1"
+    } else {
+        "0"
+    }
+}
+
+/// Plays a row over streams that refuse from each request on that it makes.
+fn refuse_each(alloc: Global, row: &Row<'_>, steps: &[Moved]) -> Result<(), Objection> {
+    let requests = steps.last().map_or(0, |whole| whole.requests);
+    for served in 0..requests {
+        refuse(alloc, row, steps, served)?;
+    }
+    Ok(())
+}
+
+/// Plays a row over streams that serve so many requests, and refuse each later one.
+fn refuse(alloc: Global, row: &Row<'_>, steps: &[Moved], served: u64) -> Result<(), Objection> {
+    let call = steps
+        .iter()
+        .skip(1)
+        .take_while(|step| step.requests <= served)
+        .count();
+    let faults = match row.kind {
+        Kind::Read => READ_FAULTS,
+        Kind::Write => WRITE_FAULTS,
+    };
+    for kind in faults {
+        let fault = Fault {
+            served: u32::try_from(served).unwrap_or(u32::MAX),
+            kind,
+            call,
+        };
+        let moved = play(alloc, row, &row.calls, Way::Refused(fault))?;
+        stops_at(steps, fault, moved)?;
+    }
+    Ok(())
+}
+
+/// Objects where a request was made behind the one that was refused, or where other bytes moved than
+/// those of the calls before and of a part of the call that was refused.
+fn stops_at(steps: &[Moved], fault: Fault, moved: Moved) -> Result<(), Objection> {
+    let once = moved.refused == 1 && moved.requests == u64::from(fault.served) + 1;
+    agrees(once, Difference::Refused)?;
+    let least = steps.get(fault.call).map_or(0, |step| step.bytes);
+    let most = steps
+        .get(fault.call.saturating_add(1))
+        .map_or(usize::MAX, |step| step.bytes);
+    let within = least <= moved.bytes && moved.bytes <= most;
+    agrees(within, Difference::Refused)
+}
