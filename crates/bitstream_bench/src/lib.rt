@@ -2,17 +2,21 @@
 #![tactic(auto)]
 
 mod count;
+#[cfg(test)]
+mod counts;
 mod drip;
 mod endless;
 #[cfg(test)]
+mod errors;
+#[cfg(test)]
 mod examples;
 #[cfg(test)]
-mod own;
+mod numbers;
 #[cfg(test)]
-mod r03_words;
+mod own;
 mod refuse;
 #[cfg(test)]
-mod words;
+mod streams;
 
 pub use count::Count;
 pub use drip::Drip;
