@@ -1,10 +1,11 @@
 //! A stream, with counts of what was asked of it that clauses alone read.
-ghost use Rattle.std.specs.Prelude.{◌≡◌, ℕ, ◌+◌, length};
+ghost use Rattle.std.specs.Prelude.{◌≡◌, [], ◌∷◌, None};
 ghost use Rattle.std.specs.IoError.{error_kind};
-ghost use Rattle.bitstream_order.specs.Fault.{read_refusal_of, refusal_of, misled_by};
-ghost use Rattle.bitstream_order.specs.Mislead.{MisledOnlyBy};
+ghost use Rattle.bitstream_order.specs.Fault.{read_refusal_of, refusal_of};
+ghost use Rattle.bitstream_order.specs.Refusal.{Refusal, MayRefuse, MayReject, bytes_left};
 ghost use Rattle.bitstream_order.specs.Port.{port_state, Fetches, Sends};
 
+use crate::refusals::Refusals;
 use crate::source::Source;
 use crate::tally::Tally;
 use crate::target::Target;
@@ -21,8 +22,7 @@ pub struct Port<S> {
     fetched: Tally,
     sent: Tally,
     requests: Tally,
-    refused: Tally,
-    misled: Tally,
+    refusals: Refusals,
 }
 
 /// The error for a write that the stream refused.
@@ -45,13 +45,32 @@ fn read_refusal(error: io::Error) -> Error
     }
 }
 
-/// Counts a refusal that misled.
-fn judge<S: Source>(misled: &mut Tally, _before: &Snapshot<S>, _wanted: usize, _error: &Error)
-    ghost by: { ℕ }
-    requires { by ≡ misled_by (S.known _before.now.value) _wanted _error.now }
-    ensures { misled.new.count ≡ misled.old.count + by }
+/// Notes a refused request for bytes.
+fn note_read<S: Source>(
+    refusals: &mut Refusals,
+    _before: &Snapshot<S>,
+    _wanted: usize,
+    _error: &io::Error,
+)
+    ghost by: { Refusal }
+    requires { by ≡ record { kind = error_kind _error.now; wanted = _wanted; left = bytes_left (S.known _before.now.value) } }
+    ensures { refusals.new.list ≡ by ∷ refusals.old.list }
 {
-    misled.grow(0);
+    refusals.push(0);
+}
+
+/// Notes a refused request to hand on bytes.
+fn note_write<S: Target>(
+    refusals: &mut Refusals,
+    _before: &Snapshot<S>,
+    _wanted: usize,
+    _error: &io::Error,
+)
+    ghost by: { Refusal }
+    requires { by ≡ record { kind = error_kind _error.now; wanted = _wanted; left = None } }
+    ensures { refusals.new.list ≡ by ∷ refusals.old.list }
+{
+    refusals.push(0);
 }
 
 impl<S> Port<S> {
@@ -61,16 +80,14 @@ impl<S> Port<S> {
         ensures fetched { result.fetched.count ≡ 0 }
         ensures sent { result.sent.count ≡ 0 }
         ensures requests { result.requests.count ≡ 0 }
-        ensures refused { result.refused.count ≡ 0 }
-        ensures misled { result.misled.count ≡ 0 }
+        ensures refusals { result.refusals.list ≡ [] }
     {
         Port {
             stream,
             fetched: Tally::new(),
             sent: Tally::new(),
             requests: Tally::new(),
-            refused: Tally::new(),
-            misled: Tally::new(),
+            refusals: Refusals::new(),
         }
     }
 }
@@ -78,8 +95,7 @@ impl<S> Port<S> {
 impl<S: Source> Port<S> {
     /// Makes one request, which fills the buffer.
     pub fn fetch(&mut self, buf: &mut [u8]) -> Result<(), Error>
-        ensures fetches { Fetches (port_state S.known S.places self.old) buf.new result (port_state S.known S.places self.new) }
-        ensures misled { MisledOnlyBy S.known S.refuses (port_state S.known S.places self.old).misled (port_state S.known S.places self.new).misled }
+        ensures fetches { Fetches (MayRefuse S.known S.refuses) (port_state S.known S.places self.old) buf.new result (port_state S.known S.places self.new) }
     {
         let before = Snapshot::of(&self.stream);
         self.requests.add(1);
@@ -89,10 +105,8 @@ impl<S: Source> Port<S> {
                 Ok(())
             }
             Err(refused) => {
-                self.refused.add(1);
-                let error = read_refusal(refused);
-                judge(&mut self.misled, &before, buf.len(), &error);
-                Err(error)
+                note_read(&mut self.refusals, &before, buf.len(), &refused);
+                Err(read_refusal(refused))
             }
         }
     }
@@ -101,8 +115,9 @@ impl<S: Source> Port<S> {
 impl<S: Target> Port<S> {
     /// Makes one request, which hands the bytes on.
     pub fn send(&mut self, bytes: &[u8]) -> Result<(), Error>
-        ensures { Sends (port_state S.held S.places self.old) bytes.now result (port_state S.held S.places self.new) }
+        ensures { Sends (MayReject S.refuses) (port_state S.held S.places self.old) bytes.now result (port_state S.held S.places self.new) }
     {
+        let before = Snapshot::of(&self.stream);
         self.requests.add(1);
         match self.stream.hand(bytes) {
             Ok(()) => {
@@ -110,7 +125,7 @@ impl<S: Target> Port<S> {
                 Ok(())
             }
             Err(refused) => {
-                self.refused.add(1);
+                note_write(&mut self.refusals, &before, bytes.len(), &refused);
                 Err(refusal(refused))
             }
         }

@@ -1,5 +1,6 @@
 //! Words to the bytes of a stream.
 ghost use Rattle.std.specs.Prelude.{◌≡◌, ℕ, ◌+◌, ◌-◌, ◌*◌, ◌^◌, ◌<◌, ◌≤◌, ◌++◌, ◌⊎◌, length, IfOk};
+ghost use Rattle.bitstream_order.specs.Refusal.{MayReject};
 ghost use Rattle.bitstream_number.specs.Word.{word};
 ghost use Rattle.bitstream_order.specs.Port.{port_state};
 ghost use Rattle.bitstream_order.specs.Pass.{PassesMore, PassesFront};
@@ -21,7 +22,7 @@ pub fn pour<T: Target, E: Endianness, U: UnsignedInteger>(
     buf: &mut [u8],
 ) -> Result<u32, Error>
     requires { at + 8 * length buf.old ≤ n }
-    ensures passes { PassesMore E.order (word E.order n (U.value value)) at (port_state T.held T.places port.old) result (port_state T.held T.places port.new) }
+    ensures passes { PassesMore (MayReject T.refuses) E.order (word E.order n (U.value value)) at (port_state T.held T.places port.old) result (port_state T.held T.places port.new) }
     ensures gone { IfOk result (λ done. done ≡ at + 8 * length buf.old) }
     ensures requests { (port_state T.held T.places port.new).requests ≡ (port_state T.held T.places port.old).requests + 1 }
 {
@@ -42,7 +43,7 @@ pub fn send_whole<T: Target, E: Endianness, U: UnsignedInteger>(
 ) -> Result<u32, Error>
     requires within { at ≤ n }
     requires room { n ≤ U.BITS_SIZE }
-    ensures passes { PassesMore E.order (word E.order n (U.value value)) at (port_state T.held T.places port.old) result (port_state T.held T.places port.new) }
+    ensures passes { PassesMore (MayReject T.refuses) E.order (word E.order n (U.value value)) at (port_state T.held T.places port.old) result (port_state T.held T.places port.new) }
     ensures within { IfOk result (λ done. done ≤ n) }
     ensures rest { IfOk result (λ done. n < done + 8) }
     ensures requests { (port_state T.held T.places port.new).requests ≤ (port_state T.held T.places port.old).requests + 1 }
@@ -75,7 +76,7 @@ pub fn send_first<T: Target, E: Endianness, U: UnsignedInteger>(
     requires few { queued < 8 }
     requires small { queue < 2 ^ queued }
     requires full { 8 ≤ queued + n }
-    ensures passes { PassesFront E.order (word E.order queued queue) (word E.order n (U.value value)) (port_state T.held T.places port.old) result (port_state T.held T.places port.new) }
+    ensures passes { PassesFront (MayReject T.refuses) E.order (word E.order queued queue) (word E.order n (U.value value)) (port_state T.held T.places port.old) result (port_state T.held T.places port.new) }
     ensures within { IfOk result (λ done. done ≤ n) }
     ensures gone { IfOk result (λ done. (queued ≡ 0) ⊎ (queued + done ≡ 8)) }
     ensures requests { (port_state T.held T.places port.new).requests ≤ (port_state T.held T.places port.old).requests + 1 }
@@ -105,7 +106,7 @@ pub fn send_front<T: Target, E: Endianness, U: UnsignedInteger>(
     requires small { queue < 2 ^ queued }
     requires full { 8 ≤ queued + n }
     requires room { n ≤ U.BITS_SIZE }
-    ensures passes { PassesFront E.order (word E.order queued queue) (word E.order n (U.value value)) (port_state T.held T.places port.old) result (port_state T.held T.places port.new) }
+    ensures passes { PassesFront (MayReject T.refuses) E.order (word E.order queued queue) (word E.order n (U.value value)) (port_state T.held T.places port.old) result (port_state T.held T.places port.new) }
     ensures within { IfOk result (λ done. done ≤ n) }
     ensures rest { IfOk result (λ done. n < done + 8) }
     ensures requests { (port_state T.held T.places port.new).requests ≤ (port_state T.held T.places port.old).requests + 2 }

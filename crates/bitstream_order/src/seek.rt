@@ -1,0 +1,48 @@
+//! Sources that go to other places.
+ghost use Rattle.std.specs.Prelude.{◌≡◌, ℕ, List, IfErr, Option};
+ghost use Rattle.std.specs.Io.KnownBytes.{Keeps};
+ghost use Rattle.std.specs.Io.Seek.{SeekMoves};
+ghost use Rattle.std.specs.IoError.{error_kind};
+
+use crate::lent::Lent;
+use crate::source::Source;
+use std::io;
+use std::io::{Read, Seek, SeekFrom};
+
+/// A source that can go to another place: any `Read` that is a `Seek`, or such a source that is
+/// [`Lent`].
+pub trait SeekSource: Source {
+    // How many bytes lie before the next one, where the source tells.
+    ghost position: { Self → Option ℕ };
+
+    // All bytes from position 0 on, where the source tells.
+    ghost bytes: { Self → Option (List ℕ) };
+
+    /// Makes one request: goes to a place and answers how many bytes lie before it, or refuses and
+    /// stays.
+    fn seek(&mut self, to: SeekFrom) -> io::Result<u64>
+        ensures moves { SeekMoves (position self.old) (position self.new) (bytes self.old) to result }
+        ensures bytes { Keeps (bytes self.old) (bytes self.new) }
+        ensures places { Self.places self.new ≡ Self.places self.old }
+        ensures refused { IfErr result (λ e. Self.refuses self.old 0 (error_kind e) self.new) };
+}
+
+impl<R: Read + Seek> SeekSource for R {
+    ghost position = { λ r. R.stream_position r };
+
+    ghost bytes = { λ r. R.stream_bytes r };
+
+    fn seek(&mut self, to: SeekFrom) -> io::Result<u64> {
+        Seek::seek(self, to)
+    }
+}
+
+impl<'a, S: SeekSource> SeekSource for Lent<'a, S> {
+    ghost position = { λ lent. S.position lent.at.now };
+
+    ghost bytes = { λ lent. S.bytes lent.at.now };
+
+    fn seek(&mut self, to: SeekFrom) -> io::Result<u64> {
+        SeekSource::seek(&mut *self.at, to)
+    }
+}
