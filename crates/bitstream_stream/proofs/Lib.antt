@@ -5,10 +5,6 @@ pub mod ReaderLemmas
 pub mod ReadsLemmas
 pub mod Rows
 pub mod SignedLemmas
-pub mod SinkLemmas
-pub mod SinkParts
+pub mod SliceLemmas
 pub mod TableLemmas
-pub mod TakenLemmas
 pub mod WriteLemmas
-pub mod WriteParts
-pub mod WriterLemmas

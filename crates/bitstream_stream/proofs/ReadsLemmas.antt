@@ -1,44 +1,249 @@
 -- How reads compose.
-use Rattle.std.proofs.Common.{◌≡◌, ℕ, ◌+◌, ◌≤◌, Bool, true, false, List, [], ◌∷◌, ◌++◌, length, drop, Option, Some, None, Result, Ok, Err, refl, sym, ap, ◌∙◌, subst, append_assoc, length-append, arith, add_assoc, inl, inr, ◌⊎◌}
+use Rattle.std.proofs.Common.{◌≡◌, ℕ, ◌+◌, ◌*◌, ◌/◌, ◌<◌, ◌≤◌, Bool, true, false, List, [], ◌∷◌, ◌++◌, length, drop, Option, Some, None, Result, Ok, Err, refl, sym, ap, ◌∙◌, subst, append_assoc, append-nil, length-append, arith, inl, inr, ◌⊎◌}
 use Rattle.std.proofs.KnownBytes.{Consumes-nil, Consumes-trans}
 use Rattle.std.proofs.Math.Seq.{drop-append_seam}
-use Rattle.bitstream_count.specs.declared.error.Error.{Error}
-use Rattle.bitstream_count.specs.declared.error.Error.TheVariants.{EndOfInput}
+use Rattle.std.proofs.lemmas.List.{nil_from_length}
+use Rattle.std.specs.Borrow.{GName, MutBor}
+use Rattle.std.specs.Io.KnownBytes.{Consumes}
 use Rattle.std.specs.Result.{IsErrAnd}
-use Rattle.bitstream_stream.proofs.EntryLemmas.{Same, chain-ok, chain-err, chain-none, chain-failed}
+use Rattle.bitstream_count.specs.declared.error.Error.{Error}
+use Rattle.bitstream_count.specs.declared.error.Error.TheVariants.{EndOfInput, OutOfMemory, Failed, RunTooLong}
 use Rattle.bitstream_count.specs.Entry.{ReadEntry, TooShort, Takes, longer, chain, gives}
-use Rattle.std.specs.Borrow.{GName}
+use Rattle.bitstream_number.specs.Word.{Order, bits}
+use Rattle.bitstream_number.proofs.WordLemmas.{bits-append}
 use Rattle.bitstream_order.specs.Draw.{seen}
-use Rattle.bitstream_stream.specs.Reads.{lent, ReaderState, Reads, stays, answers, faults, Loses, Drains, is_run_too_long}
+use Rattle.bitstream_order.specs.Fault.{read_refusal_of}
+use Rattle.bitstream_order.specs.Refusal.{Refusal, IsTrueEnd}
+use Rattle.bitstream_stream.proofs.EntryLemmas.{Same, chain-ok, chain-err, chain-none, chain-failed}
+use Rattle.bitstream_stream.specs.Reads.{ReaderState, BitSource, Demands, Holds, Answers, Faults, Starves, ReadOutcome, stays, answers, faults, starves, Reads, ReadsGrowing, TakesBytes, bits_left, is_run_too_long, failing, lent, lent_source}
 
-pub Loses-nil : (a : Option (List Bool)) → Loses a a []
-Loses-nil None = tt
-Loses-nil (Some b) = refl
+-- ---- lists
 
-pub Drains-nil : (s : ReaderState) → Drains s s
-Drains-nil s = record { gone = []; loses = Consumes-nil s.bytes; fetched = omega arith }
-
-pub Drains-trans : (s t z : ReaderState) → Drains s t → Drains t z → Drains s z
-Drains-trans s t z h k = record {
-  gone = h.gone ++ k.gone;
-  loses = Consumes-trans s.bytes t.bytes z.bytes h.gone k.gone h.loses k.loses;
-  fetched = let a = h.fetched in let b = k.fetched in let l = length-append h.gone k.gone in omega arith;
-}
-
-pub Loses-trans : (a b c : Option (List Bool)) (u v : List Bool) → Loses a b u → Loses b c v → Loses a c (u ++ v)
-Loses-trans None b c u v p q = tt
-Loses-trans (Some x) None c u v p q = absurd p
-Loses-trans (Some x) (Some y) None u v p q = absurd q
-Loses-trans (Some x) (Some y) (Some z) u v p q = p ∙ ap (λ l. u ++ l) q ∙ sym (append_assoc u v z)
-
--- known bits that lost w began with it
-pub Loses-known : (a c : Option (List Bool)) (w b : List Bool) → Loses a c w → a ≡ Some b → (rest : List Bool) × (c ≡ Some rest) × (b ≡ w ++ rest)
-Loses-known None c w b p e = cc
-Loses-known (Some x) None w b p e = absurd p
-Loses-known (Some x) (Some y) w b p e = let same : b ≡ x = cc in (y, refl, same ∙ p)
+-- Two ways to part one list: the second front is longer, or the first front begins with it.
+pub cut : (x y u v : List Bool) → x ++ y ≡ u ++ v → ((b : Bool) × (r : List Bool) × (u ≡ x ++ b ∷ r)) ⊎ ((z : List Bool) × (x ≡ u ++ z) × (z ++ y ≡ v))
+cut [] y [] v e = inr ([], refl, e)
+cut [] y (b ∷ u) v e = inl (b, u, refl)
+cut (c ∷ x) y [] v e = inr (c ∷ x, refl, e)
+cut (c ∷ x) y (b ∷ u) v e =
+    let head : c ≡ b = cc in
+    let tail : x ++ y ≡ u ++ v = cc in
+    elim (cut x y u v tail) [
+      | inl longer ↦ inl (longer.0, longer.1, ap (λ d. d ∷ u) (sym head) ∙ ap (λ l. c ∷ l) longer.2)
+      | inr begins ↦ inr (begins.0, ap (λ d. d ∷ x) head ∙ ap (λ l. b ∷ l) begins.1, begins.2)
+    ]
 
 pub drop_front : (u v : List Bool) → drop (length u) (u ++ v) ≡ v
 drop_front u v = drop-append_seam u v
+
+-- known bytes that lost some began with them
+pub Consumes-known : (a c : Option (List ℕ)) (gone xs : List ℕ) → Consumes a c gone → a ≡ Some xs → (ys : List ℕ) × (c ≡ Some ys) × (xs ≡ gone ++ ys)
+Consumes-known None c gone xs h e = cc
+Consumes-known (Some x) None gone xs h e = absurd h
+Consumes-known (Some x) (Some y) gone xs h e = let same : xs ≡ x = cc in (y, refl, same ∙ h)
+
+-- ---- a word that was taken, by calls that all answered with values
+
+pub record Took (o : Order) (old : ReaderState) (word : List Bool) (new : ReaderState) : Type 0 where
+  pub fine : old.failed ≡ false
+  pub gone : List ℕ
+  pub loses : Consumes old.bytes new.bytes gone
+  pub parts : old.held ++ bits o gone ≡ word ++ new.held
+  pub fetched : new.fetched ≡ old.fetched + length gone
+  pub taken : new.taken ≡ old.taken + length word
+  pub refusals : new.refusals ≡ old.refusals
+  pub places : new.places ≡ old.places
+  pub failed : new.failed ≡ false
+
+pub Took-nil : (o : Order) (s : ReaderState) → s.failed ≡ false → Took o s [] s
+Took-nil o s fine = record {
+  fine = fine;
+  gone = [];
+  loses = Consumes-nil s.bytes;
+  parts = append-nil s.held;
+  fetched = omega arith;
+  taken = omega arith;
+  refusals = refl;
+  places = refl;
+  failed = fine;
+}
+
+-- the bits held before and those of all bytes fetched are both words and then the bits held now
+parts-trans : (o : Order) (a b c u v : List Bool) (g h : List ℕ) → a ++ bits o g ≡ u ++ b → b ++ bits o h ≡ v ++ c → a ++ bits o (g ++ h) ≡ (u ++ v) ++ c
+parts-trans o a b c u v g h p q =
+    ap (λ w. a ++ w) (bits-append o g h) ∙ sym (append_assoc a (bits o g) (bits o h)) ∙ ap (λ w. w ++ bits o h) p ∙ append_assoc u b (bits o h) ∙ ap (λ w. u ++ w) q ∙ sym (append_assoc u v c)
+
+pub Took-trans : (o : Order) (u v : List Bool) (s t z : ReaderState) → Took o s u t → Took o t v z → Took o s (u ++ v) z
+Took-trans o u v s t z h k = record {
+  fine = h.fine;
+  gone = h.gone ++ k.gone;
+  loses = Consumes-trans s.bytes t.bytes z.bytes h.gone k.gone h.loses k.loses;
+  parts = parts-trans o s.held t.held z.held u v h.gone k.gone h.parts k.parts;
+  fetched = let a = h.fetched in let b = k.fetched in let l = length-append h.gone k.gone in omega arith;
+  taken = let a = h.taken in let b = k.taken in let l = length-append u v in omega arith;
+  refusals = k.refusals ∙ h.refusals;
+  places = k.places ∙ h.places;
+  failed = k.failed;
+}
+
+-- a call that answered with a value took its word
+pub took : {A : Type 0} (o : Order) (e : ReadEntry A) (a : A) (s t : ReaderState) (h : Answers o e s (Ok a) t) → Took o s h.word t
+took o e a s t h = record {
+  fine = h.fine;
+  gone = h.gone;
+  loses = h.loses;
+  parts = h.parts ∙ ap (λ l. h.word ++ l) (sym h.held);
+  fetched = h.fetched;
+  taken = h.taken;
+  refusals = h.refusals;
+  places = h.places;
+  failed = h.failed;
+}
+
+-- a call's word that was taken so is answered
+pub Took-answers : {A : Type 0} (o : Order) (e : ReadEntry A) (a : A) (w : List Bool) (s t : ReaderState) → Took o s w t
+    → ((more : List Bool) → e.reads s.taken (w ++ more) ≡ Takes (length w) (Ok a))
+    → ((front : List Bool) (b : Bool) (back : List Bool) → w ≡ front ++ b ∷ back → e.reads s.taken front ≡ TooShort)
+    → Answers o e s (Ok a) t
+Took-answers o e a w s t h decides needs = record {
+  fine = h.fine;
+  word = w;
+  decides = decides;
+  needs = needs;
+  gone = h.gone;
+  loses = h.loses;
+  rest = t.held;
+  parts = h.parts;
+  held = refl;
+  fetched = h.fetched;
+  taken = h.taken;
+  refusals = h.refusals;
+  places = h.places;
+  failed = h.failed;
+}
+
+-- a word that the held bits begin with fetches nothing
+nothing_gone : (a b p q f g m : ℕ) → a + b ≡ 8 * f → f ≡ (a + 7) / 8 → p ≤ b → q ≡ a + p → g ≡ (q + 7) / 8 → g ≡ f + m → m ≡ 0
+nothing_gone a b p q f g m holds whole le taken demand more = omega arith
+
+-- What the bits held before were, where the rest of them was too few for what came behind a word: they were
+-- too few for the word itself, or they are the word and the bits held now.
+pub Took-held : (o : Order) (w : List Bool) (s t : ReaderState) → Demands s → Holds s → Demands t → Took o s w t
+    → ((b : Bool) × (r : List Bool) × (w ≡ s.held ++ b ∷ r)) ⊎ (s.held ≡ w ++ t.held)
+Took-held o w s t demands holds later h = elim (cut s.held (bits o h.gone) w t.held h.parts) [
+  | inl short ↦ inl short
+  | inr all ↦
+      let size : length s.held ≡ length w + length all.0 = ap (λ l. length l) all.1 ∙ length-append w all.0 in
+      let none : length h.gone ≡ 0 =
+      nothing_gone s.taken (length s.held) (length w) t.taken s.fetched t.fetched (length h.gone) (holds h.fine) demands (omega arith) h.taken later h.fetched in
+      let same : all.0 ++ bits o h.gone ≡ all.0 = ap (λ g. all.0 ++ bits o g) (nil_from_length h.gone none) ∙ append-nil all.0 in
+      inr (all.1 ∙ ap (λ l. w ++ l) (sym same ∙ all.2))
+]
+
+-- all bits that are left, behind a word
+pub Took-left : (o : Order) (w : List Bool) (s t : ReaderState) → Took o s w t → (xs : List ℕ) → s.bytes ≡ Some xs → (ys : List ℕ) × (t.bytes ≡ Some ys) × (s.held ++ bits o xs ≡ w ++ (t.held ++ bits o ys))
+Took-left o w s t h xs known =
+    let lost = Consumes-known s.bytes t.bytes h.gone xs h.loses known in
+    (lost.0, lost.1, ap (λ l. s.held ++ bits o l) lost.2 ∙ ap (λ l. s.held ++ l) (bits-append o h.gone lost.0) ∙ sym (append_assoc s.held (bits o h.gone) (bits o lost.0)) ∙ ap (λ l. l ++ bits o lost.0) h.parts ∙ append_assoc w t.held (bits o lost.0))
+
+-- ---- a call behind a word that was taken: of a chain, or of a loop's next turn
+
+-- no beginning of the word has a front, and behind the word a call is too short where the next one is
+pub record Behind {A B : Type 0} (e : ReadEntry A) (p : ℕ) (w : List Bool) (d : ReadEntry B) (q : ℕ) : Type 0 where
+  pub needs : (front : List Bool) (b : Bool) (back : List Bool) → w ≡ front ++ b ∷ back → e.reads p front ≡ TooShort
+  pub short : (more : List Bool) → d.reads q more ≡ TooShort → e.reads p (w ++ more) ≡ TooShort
+
+pub Behind-needs : {A B : Type 0} {e : ReadEntry A} {p : ℕ} {w : List Bool} {d : ReadEntry B} {q : ℕ} (v : List Bool) → Behind e p w d q
+    → ((front : List Bool) (b : Bool) (back : List Bool) → v ≡ front ++ b ∷ back → d.reads q front ≡ TooShort)
+    → (front : List Bool) (b : Bool) (back : List Bool) → w ++ v ≡ front ++ b ∷ back → e.reads p front ≡ TooShort
+Behind-needs {e = e} {p = p} {w = w} v h needs front b back parts = elim (cut front (b ∷ back) w v (sym parts)) [
+  | inl in_word ↦ h.needs front in_word.0 in_word.1 in_word.2
+  | inr behind ↦ ap (λ l. e.reads p l) behind.1 ∙ h.short behind.0 (needs behind.0 b back (sym behind.2))
+]
+
+pub Answers-behind : {A B : Type 0} (o : Order) (e : ReadEntry A) (d : ReadEntry B) (w : List Bool) (r : Result A Error) (x : Result B Error) (s t z : ReaderState)
+    → Took o s w t → Behind e s.taken w d t.taken → is_run_too_long r ≡ is_run_too_long x → (k : Answers o d t x z)
+    → ((more : List Bool) → e.reads s.taken ((w ++ k.word) ++ more) ≡ Takes (length (w ++ k.word)) r)
+    → Answers o e s r z
+Answers-behind o e d w r x s t z h behind same k decides = record {
+  fine = h.fine;
+  word = w ++ k.word;
+  decides = decides;
+  needs = Behind-needs k.word behind k.needs;
+  gone = h.gone ++ k.gone;
+  loses = Consumes-trans s.bytes t.bytes z.bytes h.gone k.gone h.loses k.loses;
+  rest = k.rest;
+  parts = parts-trans o s.held t.held k.rest w k.word h.gone k.gone h.parts k.parts;
+  held = rw same k.held;
+  fetched = let a = h.fetched in let b = k.fetched in let l = length-append h.gone k.gone in omega arith;
+  taken = let a = h.taken in let b = k.taken in let l = length-append w k.word in omega arith;
+  refusals = k.refusals ∙ h.refusals;
+  places = k.places ∙ h.places;
+  failed = k.failed ∙ sym same;
+}
+
+pub Faults-behind : {A B : Type 0} (o : Order) (may : Refusal → Type 0) (e : ReadEntry A) (d : ReadEntry B) (w : List Bool) (r : Result A Error) (x : Result B Error) (s t z : ReaderState)
+    → Demands s → Holds s → Demands t → Took o s w t → Behind e s.taken w d t.taken → (k : Faults o may d t x z) → r ≡ Err (read_refusal_of k.refusal.kind)
+    → Faults o may e s r z
+Faults-behind o may e d w r x s t z demands holds later h behind k answer = record {
+  fine = h.fine;
+  refusal = k.refusal;
+  allowed = k.allowed;
+  answer = answer;
+  short = elim (Took-held o w s t demands holds later h) [
+    | inl first ↦ behind.needs s.held first.0 first.1 first.2
+    | inr all ↦ ap (λ l. e.reads s.taken l) all ∙ behind.short t.held k.short
+  ];
+  gone = h.gone ++ k.gone;
+  fetched = let a = h.fetched in let b = k.fetched in let l = length-append h.gone k.gone in omega arith;
+  few = ap (λ l. e.reads s.taken l) (ap (λ l. s.held ++ l) (bits-append o h.gone k.gone) ∙ sym (append_assoc s.held (bits o h.gone) (bits o k.gone)) ∙ ap (λ l. l ++ bits o k.gone) h.parts ∙ append_assoc w t.held (bits o k.gone))
+      ∙ behind.short (t.held ++ bits o k.gone) k.few;
+  ended = λ end xs known.
+      let left = Took-left o w s t h xs known in
+      ap (λ l. e.reads s.taken l) left.2 ∙ behind.short (t.held ++ bits o left.0) (k.ended end left.0 left.1);
+  refusals = k.refusals ∙ ap (λ l. k.refusal ∷ l) h.refusals;
+  places = k.places ∙ h.places;
+  failed = k.failed;
+}
+
+pub Starves-behind : {A B : Type 0} (o : Order) (e : ReadEntry A) (d : ReadEntry B) (w : List Bool) (r : Result A Error) (x : Result B Error) (s t z : ReaderState)
+    → Took o s w t → Behind e s.taken w d t.taken → r ≡ Err OutOfMemory → Starves o d t x z → Starves o e s r z
+Starves-behind o e d w r x s t z h behind answer k = record {
+  fine = h.fine;
+  answer = answer;
+  word = w ++ k.word;
+  needs = Behind-needs k.word behind k.needs;
+  gone = h.gone ++ k.gone;
+  loses = Consumes-trans s.bytes t.bytes z.bytes h.gone k.gone h.loses k.loses;
+  rest = k.rest;
+  parts = parts-trans o s.held t.held k.rest w k.word h.gone k.gone h.parts k.parts;
+  fetched = let a = h.fetched in let b = k.fetched in let l = length-append h.gone k.gone in omega arith;
+  taken = let a = h.taken in let b = k.taken in let l = length-append w k.word in omega arith;
+  refusals = k.refusals ∙ h.refusals;
+  places = k.places ∙ h.places;
+  failed = k.failed;
+}
+
+-- the reader was made to fail behind a word, since memory was refused
+pub Took-starves : {A : Type 0} (o : Order) (e : ReadEntry A) (w : List Bool) (s t z : ReaderState) → Took o s w t → z ≡ failing t
+    → ((front : List Bool) (b : Bool) (back : List Bool) → w ≡ front ++ b ∷ back → e.reads s.taken front ≡ TooShort)
+    → Starves o e s (Err OutOfMemory) z
+Took-starves o e w s t z h broken needs = rw broken (record {
+  fine = h.fine;
+  answer = refl;
+  word = w;
+  needs = needs;
+  gone = h.gone;
+  loses = h.loses;
+  rest = t.held;
+  parts = h.parts;
+  fetched = h.fetched;
+  taken = h.taken;
+  refusals = h.refusals;
+  places = h.places;
+  failed = refl;
+})
+
+-- ---- chains
 
 -- two fronts, one behind the other
 pub chain_decides : {A B : Type 0} (e : ReadEntry A) (f : A → ReadEntry B) (p q : ℕ) (u v : List Bool) (a : A) (r : Result B Error)
@@ -53,8 +258,19 @@ chain_decides e f p q u v a r first place second more =
     rw (drop_front u (v ++ more), ← place) (second more) in
     rw (append_assoc u v more, here, there, length-append u v) refl
 
-pub Reads-chain-ok : {A B : Type 0} (e : ReadEntry A) (f : A → ReadEntry B) {a : A} {r : Result B Error} {s t z : ReaderState}
-    → Reads e s (Ok a) t → Reads (f a) t r z → Reads (chain e f) s r z
+chain-behind : {A B : Type 0} (o : Order) (e : ReadEntry A) (f : A → ReadEntry B) (a : A) (s t : ReaderState) (h : Answers o e s (Ok a) t) → Behind (chain e f) s.taken h.word (f a) t.taken
+chain-behind o e f a s t h = record {
+  needs = λ front b back is. chain-none e f s.taken front (h.needs front b back is);
+  short = λ more short.
+      let here : (chain e f).reads s.taken (h.word ++ more) ≡ longer (length h.word) ((f a).reads (s.taken + length h.word) (drop (length h.word) (h.word ++ more))) =
+      chain-ok e f s.taken (h.word ++ more) (length h.word) a (h.decides more) in
+      let there : (f a).reads (s.taken + length h.word) (drop (length h.word) (h.word ++ more)) ≡ TooShort =
+      rw (drop_front h.word more, ← h.taken) short in
+      rw (here, there) refl;
+}
+
+pub Reads-chain-ok : {R A B : Type 0} {K : BitSource R} {grows : Bool} (e : ReadEntry A) (f : A → ReadEntry B) {a : A} {r : Result B Error} {s t z : R}
+    → ReadOutcome K grows e s (Ok a) t → ReadOutcome K grows (f a) t r z → ReadOutcome K grows (chain e f) s r z
 Reads-chain-ok e f (stays h) (stays k) = stays (record {
   failed = h.failed;
   answer = rw (chain-failed e f, ← h.answer) k.answer;
@@ -62,202 +278,419 @@ Reads-chain-ok e f (stays h) (stays k) = stays (record {
 })
 Reads-chain-ok e f (stays h) (answers k) = let same = ap (λ (x : ReaderState). x.failed) h.same in let p = h.failed in let q = k.fine in cc
 Reads-chain-ok e f (stays h) (faults k) = let same = ap (λ (x : ReaderState). x.failed) h.same in let p = h.failed in let q = k.fine in cc
+Reads-chain-ok e f (stays h) (starves g k) = let same = ap (λ (x : ReaderState). x.failed) h.same in let p = h.failed in let q = k.fine in cc
 Reads-chain-ok e f (answers h) (stays k) = let p = h.failed in let q = k.failed in cc
-Reads-chain-ok e f {a = a} {r = r} {s = s} {t = t} {z = z} (answers h) (answers k) = answers (record {
-  fine = h.fine;
-  word = h.word ++ k.word;
-  decides = chain_decides e f s.taken t.taken h.word k.word a r h.decides h.taken k.decides;
-  loses = Loses-trans s.bits t.bits z.bits h.word k.word h.loses k.loses;
-  taken = rw (length-append h.word k.word) (k.taken ∙ ap (λ n. n + length k.word) h.taken ∙ add_assoc s.taken (length h.word) (length k.word));
-  drains = Drains-trans s t z h.drains k.drains;
-  refused = k.refused ∙ h.refused;
-  misled = k.misled ∙ h.misled;
-  places = k.places ∙ h.places;
-  failed = k.failed;
-})
-Reads-chain-ok e f {a = a} {r = r} {s = s} {t = t} {z = z} (answers h) (faults k) = faults (record {
-  fine = h.fine;
-  fault = k.fault;
-  answer = k.answer;
-  kind = k.kind;
-  by_kind = k.by_kind;
-  failed = k.failed;
-  refused = k.refused ∙ ap (λ n. n + 1) h.refused;
-  misled = subst (λ n. n ≤ z.misled) h.misled k.misled;
-  places = k.places ∙ h.places;
-  ended = λ b known honest.
-      let parts = Loses-known s.bits t.bits h.word b h.loses known in
-      let end = k.ended parts.0 parts.1 (honest ∙ sym h.misled) in (
-        end.0,
-        let here : (chain e f).reads s.taken (h.word ++ parts.0) ≡ longer (length h.word) ((f a).reads (s.taken + length h.word) (drop (length h.word) (h.word ++ parts.0))) =
-            chain-ok e f s.taken (h.word ++ parts.0) (length h.word) a (h.decides parts.0) in
-            let there : (f a).reads (s.taken + length h.word) (drop (length h.word) (h.word ++ parts.0)) ≡ TooShort =
-            rw (drop_front h.word parts.0, ← h.taken) end.1 in
-            rw (parts.2, here, there) refl,
-      );
-})
+Reads-chain-ok {K = K} e f {a = a} {r = r} {s = s} {t = t} {z = z} (answers h) (answers k) =
+    answers (Answers-behind K.order (chain e f) (f a) h.word r r (K.state s) (K.state t) (K.state z) (took K.order e a (K.state s) (K.state t) h) (chain-behind K.order e f a (K.state s) (K.state t) h) refl k
+    (chain_decides e f (K.state s).taken (K.state t).taken h.word k.word a r h.decides h.taken k.decides))
+Reads-chain-ok {K = K} e f {a = a} {r = r} {s = s} {t = t} {z = z} (answers h) (faults k) =
+    faults (Faults-behind K.order K.may (chain e f) (f a) h.word r r (K.state s) (K.state t) (K.state z) (K.demands s) (K.holds s) (K.demands t)
+    (took K.order e a (K.state s) (K.state t) h) (chain-behind K.order e f a (K.state s) (K.state t) h) k k.answer)
+Reads-chain-ok {K = K} e f {a = a} {r = r} {s = s} {t = t} {z = z} (answers h) (starves g k) =
+    starves g (Starves-behind K.order (chain e f) (f a) h.word r r (K.state s) (K.state t) (K.state z) (took K.order e a (K.state s) (K.state t) h) (chain-behind K.order e f a (K.state s) (K.state t) h) k.answer k)
 Reads-chain-ok e f (faults h) k = let p = h.answer in cc
+Reads-chain-ok e f (starves g h) k = let p = h.answer in cc
 
-pub Reads-chain-err : {A B : Type 0} (e : ReadEntry A) (f : A → ReadEntry B) {x : Error} {s t : ReaderState}
-    → Reads e s (Err x) t → Reads (chain e f) s (Err x) t
+pub Reads-chain-err : {R A B : Type 0} {K : BitSource R} {grows : Bool} (e : ReadEntry A) (f : A → ReadEntry B) {x : Error} {s t : R}
+    → ReadOutcome K grows e s (Err x) t → ReadOutcome K grows (chain e f) s (Err x) t
 Reads-chain-err e f (stays h) = stays (record { failed = h.failed; answer = rw (chain-failed e f, ← h.answer) refl; same = h.same })
-Reads-chain-err e f {x = x} {s = s} (answers h) = answers (record {
+Reads-chain-err {K = K} e f {x = x} {s = s} {t = t} (answers h) = answers (record {
   fine = h.fine;
   word = h.word;
-  decides = λ more. chain-err e f s.taken (h.word ++ more) (length h.word) x (h.decides more);
+  decides = λ more. chain-err e f (K.state s).taken (h.word ++ more) (length h.word) x (h.decides more);
+  needs = λ front b back is. chain-none e f (K.state s).taken front (h.needs front b back is);
+  gone = h.gone;
   loses = h.loses;
+  rest = h.rest;
+  parts = h.parts;
+  held = h.held;
+  fetched = h.fetched;
   taken = h.taken;
-  drains = h.drains;
-  refused = h.refused;
-  misled = h.misled;
+  refusals = h.refusals;
   places = h.places;
   failed = h.failed;
 })
-Reads-chain-err e f {s = s} (faults h) = faults (record {
+Reads-chain-err {K = K} e f {s = s} (faults h) = faults (record {
   fine = h.fine;
-  fault = h.fault;
+  refusal = h.refusal;
+  allowed = h.allowed;
   answer = let p = h.answer in cc;
-  kind = h.kind;
-  by_kind = h.by_kind;
-  failed = h.failed;
-  refused = h.refused;
-  misled = h.misled;
+  short = chain-none e f (K.state s).taken (K.state s).held h.short;
+  gone = h.gone;
+  fetched = h.fetched;
+  few = chain-none e f (K.state s).taken ((K.state s).held ++ bits K.order h.gone) h.few;
+  ended = λ end xs known. chain-none e f (K.state s).taken ((K.state s).held ++ bits K.order xs) (h.ended end xs known);
+  refusals = h.refusals;
   places = h.places;
-  ended = λ b known honest. let end = h.ended b known honest in (end.0, chain-none e f s.taken b end.1);
+  failed = h.failed;
+})
+Reads-chain-err {K = K} e f {s = s} (starves g h) = starves g (record {
+  fine = h.fine;
+  answer = let p = h.answer in cc;
+  word = h.word;
+  needs = λ front b back is. chain-none e f (K.state s).taken front (h.needs front b back is);
+  gone = h.gone;
+  loses = h.loses;
+  rest = h.rest;
+  parts = h.parts;
+  fetched = h.fetched;
+  taken = h.taken;
+  refusals = h.refusals;
+  places = h.places;
+  failed = h.failed;
 })
 
-pub Reads-same : {A : Type 0} {d e : ReadEntry A} {r : Result A Error} {s t : ReaderState} → Same d e → Reads d s r t → Reads e s r t
+pub Reads-same : {R A : Type 0} {K : BitSource R} {grows : Bool} {d e : ReadEntry A} {r : Result A Error} {s t : R} → Same d e → ReadOutcome K grows d s r t → ReadOutcome K grows e s r t
 Reads-same same (stays h) = stays (record { failed = h.failed; answer = h.answer ∙ same.on_failed; same = h.same })
-Reads-same {s = s} same (answers h) = answers (record {
+Reads-same {K = K} {s = s} same (answers h) = answers (record {
   fine = h.fine;
   word = h.word;
-  decides = λ more. sym (same.reads s.taken (h.word ++ more)) ∙ h.decides more;
+  decides = λ more. sym (same.reads (K.state s).taken (h.word ++ more)) ∙ h.decides more;
+  needs = λ front b back is. sym (same.reads (K.state s).taken front) ∙ h.needs front b back is;
+  gone = h.gone;
   loses = h.loses;
+  rest = h.rest;
+  parts = h.parts;
+  held = h.held;
+  fetched = h.fetched;
   taken = h.taken;
-  drains = h.drains;
-  refused = h.refused;
-  misled = h.misled;
+  refusals = h.refusals;
   places = h.places;
   failed = h.failed;
 })
-Reads-same {s = s} same (faults h) = faults (record {
+Reads-same {K = K} {s = s} same (faults h) = faults (record {
   fine = h.fine;
-  fault = h.fault;
+  refusal = h.refusal;
+  allowed = h.allowed;
   answer = h.answer;
-  kind = h.kind;
-  by_kind = h.by_kind;
-  failed = h.failed;
-  refused = h.refused;
-  misled = h.misled;
+  short = sym (same.reads (K.state s).taken (K.state s).held) ∙ h.short;
+  gone = h.gone;
+  fetched = h.fetched;
+  few = sym (same.reads (K.state s).taken ((K.state s).held ++ bits K.order h.gone)) ∙ h.few;
+  ended = λ end xs known. sym (same.reads (K.state s).taken ((K.state s).held ++ bits K.order xs)) ∙ h.ended end xs known;
+  refusals = h.refusals;
   places = h.places;
-  ended = λ b known honest. let end = h.ended b known honest in (end.0, sym (same.reads s.taken b) ∙ end.1);
+  failed = h.failed;
+})
+Reads-same {K = K} {s = s} same (starves g h) = starves g (record {
+  fine = h.fine;
+  answer = h.answer;
+  word = h.word;
+  needs = λ front b back is. sym (same.reads (K.state s).taken front) ∙ h.needs front b back is;
+  gone = h.gone;
+  loses = h.loses;
+  rest = h.rest;
+  parts = h.parts;
+  fetched = h.fetched;
+  taken = h.taken;
+  refusals = h.refusals;
+  places = h.places;
+  failed = h.failed;
 })
 
--- no call at all
-gives-fine : {A : Type 0} (a : A) (s : ReaderState) → s.failed ≡ false → Reads (gives a) s (Ok a) s
-gives-fine a s h = answers (record {
-  fine = h;
+-- ---- a call that takes nothing
+
+none_needed : (front : List Bool) (b : Bool) (back : List Bool) → [] ≡ front ++ b ∷ back → ⊥
+none_needed [] b back e = cc
+none_needed (c ∷ front) b back e = cc
+
+pub Reads-nothing : {R A : Type 0} {K : BitSource R} {grows : Bool} (e : ReadEntry A) (r : Result A Error) (s : R) → (K.state s).failed ≡ false → is_run_too_long r ≡ false
+    → ((more : List Bool) → e.reads (K.state s).taken more ≡ Takes 0 r) → ReadOutcome K grows e s r s
+Reads-nothing {K = K} e r s fine short decides = answers (record {
+  fine = fine;
   word = [];
-  decides = λ more. refl;
-  loses = Loses-nil s.bits;
+  decides = decides;
+  needs = λ front b back is. absurd (none_needed front b back is);
+  gone = [];
+  loses = Consumes-nil (K.state s).bytes;
+  rest = (K.state s).held;
+  parts = append-nil (K.state s).held;
+  held = rw short refl;
+  fetched = omega arith;
   taken = omega arith;
-  drains = Drains-nil s;
-  refused = refl;
-  misled = refl;
+  refusals = refl;
   places = refl;
-  failed = h;
+  failed = fine ∙ sym short;
 })
 
-gives-failed : {A : Type 0} (a : A) (s : ReaderState) → s.failed ≡ true → Reads (gives a) s (Ok a) s
-gives-failed a s h = stays (record { failed = h; answer = refl; same = refl })
+gives-by : {R A : Type 0} {K : BitSource R} {grows : Bool} (a : A) (s : R) (v : Bool) → (K.state s).failed ≡ v → ReadOutcome K grows (gives a) s (Ok a) s
+gives-by a s true h = stays (record { failed = h; answer = refl; same = refl })
+gives-by a s false h = Reads-nothing (gives a) (Ok a) s h refl (λ more. refl)
 
-gives-by : {A : Type 0} (a : A) (s : ReaderState) (v : Bool) → s.failed ≡ v → Reads (gives a) s (Ok a) s
-gives-by a s true h = gives-failed a s h
-gives-by a s false h = gives-fine a s h
-
-pub Reads-gives : {A : Type 0} (a : A) (s : ReaderState) → Reads (gives a) s (Ok a) s
-Reads-gives a s = gives-by a s s.failed refl
+pub Reads-gives : {R A : Type 0} {K : BitSource R} {grows : Bool} (a : A) (s : R) → ReadOutcome K grows (gives a) s (Ok a) s
+Reads-gives {K = K} a s = gives-by a s (K.state s).failed refl
 
 -- what the exit of a `?` returns
-pub exit : {A B : Type 0} {e : ReadEntry A} (f : A → ReadEntry B) {x : Error} {s t : ReaderState} (r : Result B Error) → IsErrAnd r (λ y. y ≡ x) → Reads e s (Err x) t → Reads (chain e f) s r t
+pub exit : {R A B : Type 0} {K : BitSource R} {grows : Bool} {e : ReadEntry A} (f : A → ReadEntry B) {x : Error} {s t : R} (r : Result B Error) → IsErrAnd r (λ y. y ≡ x) → ReadOutcome K grows e s (Err x) t
+    → ReadOutcome K grows (chain e f) s r t
 exit f (Ok b) h k = absurd h
-exit {e = e} f {s = s} {t = t} (Err y) h k = subst (λ z. Reads (chain e f) s (Err z) t) (sym h) (Reads-chain-err e f k)
+exit {K = K} {grows = grows} {e = e} f {s = s} {t = t} (Err y) h k = subst (λ z. ReadOutcome K grows (chain e f) s (Err z) t) (sym h) (Reads-chain-err e f k)
 
 -- what the exit of a `?` returns, where a clause sees the answer by a view
 pub seen_err : {B C : Type 0} {x : Error} (view : B → C) (r : Result B Error) → IsErrAnd r (λ y. y ≡ x) → seen view r ≡ Err x
 seen_err view (Ok b) h = absurd h
 seen_err view (Err y) h = ap Err h
 
-pub result_err : {B : Type 0} {x : Error} (r : Result B Error) → IsErrAnd r (λ y. y ≡ x) → r ≡ Err x
-result_err (Ok b) h = absurd h
-result_err (Err y) h = ap Err h
-
 pub ruleset reading = (Reads-chain-ok, Reads-chain-err, Reads-gives, exit)
 
--- what a caller knows of a stream that tells its bits and does not mislead
-pub record Told {A : Type 0} (entry : ReadEntry A) (old : ReaderState) (b : List Bool) (result : Result A Error) (new : ReaderState) : Type 0 where
+-- a read that asks for no memory is one that may
+pub Reads-growing : {R A : Type 0} {K : BitSource R} {e : ReadEntry A} {r : Result A Error} {s t : R} → Reads K e s r t → ReadsGrowing K e s r t
+Reads-growing (stays h) = stays h
+Reads-growing (answers h) = answers h
+Reads-growing (faults h) = faults h
+Reads-growing (starves g h) = starves refl h
+
+-- ---- a stream that refuses at true ends alone
+
+-- what a caller then knows: the call was answered by its front, or was too short
+pub record Told {R A : Type 0} (K : BitSource R) (entry : ReadEntry A) (old : R) (b : List Bool) (result : Result A Error) (new : R) : Type 0 where
   pub len : ℕ
-  pub front : entry.reads old.taken b ≡ Takes len result
-  pub bits : new.bits ≡ Some (drop len b)
-  pub taken : new.taken ≡ old.taken + len
-  pub failed : new.failed ≡ is_run_too_long result
+  pub front : entry.reads (K.state old).taken b ≡ Takes len result
+  pub bits : is_run_too_long result ≡ false → bits_left K.order (K.state new) ≡ Some (drop len b)
+  pub taken : (K.state new).taken ≡ (K.state old).taken + len
+  pub failed : (K.state new).failed ≡ is_run_too_long result
 
-pub record Ended {A : Type 0} (entry : ReadEntry A) (old : ReaderState) (b : List Bool) (result : Result A Error) (new : ReaderState) : Type 0 where
-  pub front : entry.reads old.taken b ≡ TooShort
+pub record Ended {R A : Type 0} (K : BitSource R) (entry : ReadEntry A) (old : R) (b : List Bool) (result : Result A Error) (new : R) : Type 0 where
+  pub front : entry.reads (K.state old).taken b ≡ TooShort
   pub answer : result ≡ Err EndOfInput
-  pub failed : new.failed ≡ true
-  pub refused : new.refused ≡ old.refused + 1
+  pub failed : (K.state new).failed ≡ true
 
-pub Reads-known : {A : Type 0} {e : ReadEntry A} {r : Result A Error} {s t : ReaderState} (b : List Bool) → s.failed ≡ false → s.bits ≡ Some b → t.misled ≡ s.misled → Reads e s r t → Told e s b r t ⊎ Ended e s b r t
-Reads-known b fine known honest (stays h) = let p = h.failed in cc
-Reads-known {e = e} {s = s} {t = t} b fine known honest (answers h) =
-    let parts = Loses-known s.bits t.bits h.word b h.loses known in
-    let cut : drop (length h.word) b ≡ parts.0 = ap (λ l. drop (length h.word) l) parts.2 ∙ drop_front h.word parts.0 in
+answers_left : {A : Type 0} (o : Order) (e : ReadEntry A) (r : Result A Error) (s t : ReaderState) (h : Answers o e s r t) (xs : List ℕ) → s.bytes ≡ Some xs
+    → (ys : List ℕ) × (t.bytes ≡ Some ys) × (s.held ++ bits o xs ≡ h.word ++ (h.rest ++ bits o ys))
+answers_left o e r s t h xs known =
+    let lost = Consumes-known s.bytes t.bytes h.gone xs h.loses known in
+    (lost.0, lost.1, ap (λ l. s.held ++ bits o l) lost.2 ∙ ap (λ l. s.held ++ l) (bits-append o h.gone lost.0) ∙ sym (append_assoc s.held (bits o h.gone) (bits o lost.0)) ∙ ap (λ l. l ++ bits o lost.0) h.parts ∙ append_assoc h.word h.rest (bits o lost.0))
+
+pub Reads-sure : {R A : Type 0} {K : BitSource R} {e : ReadEntry A} {r : Result A Error} {s t : R} → ((x : Refusal) → K.may x → IsTrueEnd x) → (xs : List ℕ) → (K.state s).failed ≡ false → (K.state s).bytes ≡ Some xs → Reads K e s r t
+    → Told K e s ((K.state s).held ++ bits K.order xs) r t ⊎ Ended K e s ((K.state s).held ++ bits K.order xs) r t
+Reads-sure ends xs fine known (stays h) = let p = h.failed in cc
+Reads-sure {K = K} {e = e} {r = r} {s = s} {t = t} ends xs fine known (answers h) =
+    let left = answers_left K.order e r (K.state s) (K.state t) h xs known in
+    let behind : drop (length h.word) ((K.state s).held ++ bits K.order xs) ≡ h.rest ++ bits K.order left.0 =
+    ap (λ l. drop (length h.word) l) left.2 ∙ drop_front h.word (h.rest ++ bits K.order left.0) in
     inl (record {
       len = length h.word;
-      front = ap (λ l. e.reads s.taken l) parts.2 ∙ h.decides parts.0;
-      bits = parts.1 ∙ ap Some (sym cut);
+      front = ap (λ l. e.reads (K.state s).taken l) left.2 ∙ h.decides (h.rest ++ bits K.order left.0);
+      bits = λ short. rw (left.1, behind) (ap (λ l. Some (l ++ bits K.order left.0)) (rw short at h.held));
       taken = h.taken;
       failed = h.failed;
     })
-Reads-known b fine known honest (faults h) =
-    let end = h.ended b known honest in
-    inr (record { front = end.1; answer = h.answer ∙ ap Err end.0; failed = h.failed; refused = h.refused })
+Reads-sure ends xs fine known (faults h) =
+    let end = ends h.refusal h.allowed in
+    inr (record { front = h.ended end xs known; answer = h.answer ∙ ap (λ k. Err (read_refusal_of k)) end.kind; failed = h.failed })
+Reads-sure ends xs fine known (starves g h) = cc
 
--- a call with a front is not answered by the end
-pub not_ended : {A : Type 0} {e : ReadEntry A} {r x : Result A Error} {s t : ReaderState} (b : List Bool) (n : ℕ) → s.failed ≡ false → s.bits ≡ Some b → t.misled ≡ s.misled → e.reads s.taken b ≡ Takes n x → Reads e s r t → r ≡ x
-not_ended {e = e} {r = r} {x = x} {s = s} {t = t} b n fine known honest has h = elim (Reads-known b fine known honest h) [
+-- a call with a front is answered by it
+pub front_sure : {R A : Type 0} {K : BitSource R} {e : ReadEntry A} {r x : Result A Error} {s t : R} → ((x : Refusal) → K.may x → IsTrueEnd x) → (xs : List ℕ) (n : ℕ) → (K.state s).failed ≡ false → (K.state s).bytes ≡ Some xs
+    → e.reads (K.state s).taken ((K.state s).held ++ bits K.order xs) ≡ Takes n x → Reads K e s r t → r ≡ x
+front_sure {r = r} {x = x} ends xs n fine known has h = elim (Reads-sure ends xs fine known h) [
   | inl told ↦ let same : Takes n x ≡ Takes told.len r = sym has ∙ told.front in cc
   | inr ended ↦ let none = ended.front in cc
 ]
 
--- a reader that is seen through a reference
-pub Reads-lent : {A : Type 0} {e : ReadEntry A} {r : Result A Error} {s t : ReaderState} (n : GName) → Reads e s r t → Reads e (lent n s) r (lent n t)
-Reads-lent n (stays h) = stays (record { failed = h.failed; answer = h.answer; same = ap (lent n) h.same })
-Reads-lent n (answers h) = answers (record {
+-- a call with none answers the end
+pub none_sure : {R A : Type 0} {K : BitSource R} {e : ReadEntry A} {r : Result A Error} {s t : R} → ((x : Refusal) → K.may x → IsTrueEnd x) → (xs : List ℕ) → (K.state s).failed ≡ false → (K.state s).bytes ≡ Some xs
+    → e.reads (K.state s).taken ((K.state s).held ++ bits K.order xs) ≡ TooShort → Reads K e s r t → r ≡ Err EndOfInput
+none_sure {r = r} ends xs fine known none h = elim (Reads-sure ends xs fine known h) [
+  | inl told ↦ let some = told.front in cc
+  | inr ended ↦ ended.answer
+]
+
+-- ---- a reader that is seen through a reference
+
+Answers-lent : {A : Type 0} {o : Order} {e : ReadEntry A} {r : Result A Error} {s t : ReaderState} (n : GName) → Answers o e s r t → Answers o e (lent n s) r (lent n t)
+Answers-lent n h = record {
   fine = h.fine;
   word = h.word;
   decides = h.decides;
+  needs = h.needs;
+  gone = h.gone;
   loses = h.loses;
+  rest = h.rest;
+  parts = h.parts;
+  held = h.held;
+  fetched = h.fetched;
   taken = h.taken;
-  drains = record { gone = h.drains.gone; loses = h.drains.loses; fetched = h.drains.fetched };
-  refused = h.refused;
-  misled = h.misled;
+  refusals = h.refusals;
   places = ap (λ l. n ∷ l) h.places;
   failed = h.failed;
-})
-Reads-lent n (faults h) = faults (record {
+}
+
+Faults-lent : {A : Type 0} {o : Order} {may : Refusal → Type 0} {e : ReadEntry A} {r : Result A Error} {s t : ReaderState} (n : GName) → Faults o may e s r t → Faults o may e (lent n s) r (lent n t)
+Faults-lent n h = record {
   fine = h.fine;
-  fault = h.fault;
+  refusal = h.refusal;
+  allowed = h.allowed;
   answer = h.answer;
-  kind = h.kind;
-  by_kind = h.by_kind;
-  failed = h.failed;
-  refused = h.refused;
-  misled = h.misled;
-  places = ap (λ l. n ∷ l) h.places;
+  short = h.short;
+  gone = h.gone;
+  fetched = h.fetched;
+  few = h.few;
   ended = h.ended;
+  refusals = h.refusals;
+  places = ap (λ l. n ∷ l) h.places;
+  failed = h.failed;
+}
+
+pub Reads-lent : {R A : Type 0} {K : BitSource R} {grows : Bool} {e : ReadEntry A} {r : Result A Error} (s t : MutBor R) → t.ghost_name ≡ s.ghost_name → ReadOutcome K grows e s.now r t.now → ReadOutcome (lent_source K) grows e s r t
+Reads-lent {K = K} s t same (stays h) = stays (record { failed = h.failed; answer = h.answer; same = ap (λ n. lent n (K.state t.now)) same ∙ ap (λ x. lent s.ghost_name x) h.same })
+Reads-lent {K = K} {e = e} {r = r} s t same (answers h) = answers (subst (λ n. Answers K.order e (lent s.ghost_name (K.state s.now)) r (lent n (K.state t.now))) (sym same) (Answers-lent s.ghost_name h))
+Reads-lent {K = K} {e = e} {r = r} s t same (faults h) = faults (subst (λ n. Faults K.order K.may e (lent s.ghost_name (K.state s.now)) r (lent n (K.state t.now))) (sym same) (Faults-lent s.ghost_name h))
+Reads-lent {K = K} s t same (starves g h) = starves g (record {
+  fine = h.fine;
+  answer = h.answer;
+  word = h.word;
+  needs = h.needs;
+  gone = h.gone;
+  loses = h.loses;
+  rest = h.rest;
+  parts = h.parts;
+  fetched = h.fetched;
+  taken = h.taken;
+  refusals = h.refusals;
+  places = ap (λ n. n ∷ (K.state t.now).places) same ∙ ap (λ l. s.ghost_name ∷ l) h.places;
+  failed = h.failed;
 })
+
+pub Reads-places : {R A : Type 0} {K : BitSource R} {grows : Bool} {e : ReadEntry A} {r : Result A Error} {s t : R} → ReadOutcome K grows e s r t → (K.state t).places ≡ (K.state s).places
+Reads-places (stays h) = ap (λ (x : ReaderState). x.places) h.same
+Reads-places (answers h) = h.places
+Reads-places (faults h) = h.places
+Reads-places (starves g h) = h.places
+
+-- ---- loops
+
+-- so far a loop took a word, or it did nothing yet
+pub Begun : {R : Type 0} → BitSource R → R → List Bool → R → Type 0
+Begun K s w t = ((w ≡ []) × (t ≡ s)) ⊎ Took K.order (K.state s) w (K.state t)
+
+pub Begun-nil : {R : Type 0} (K : BitSource R) (s : R) → Begun K s [] s
+unfolding Begun
+Begun-nil K s = inl (refl, refl)
+
+pub Begun-took : {R : Type 0} (K : BitSource R) (s : R) (w : List Bool) (t : R) → Begun K s w t → (K.state t).failed ≡ false → Took K.order (K.state s) w (K.state t)
+unfolding Begun
+Begun-took K s w t (inl h) fine =
+    subst (λ v. Took K.order (K.state s) v (K.state t)) (sym h.0) (subst (λ x. Took K.order (K.state x) [] (K.state t)) h.1 (Took-nil K.order (K.state t) fine))
+Begun-took K s w t (inr h) fine = h
+
+-- the next turn's call answered with a value
+pub Begun-more : {R A : Type 0} {K : BitSource R} {grows : Bool} (d : ReadEntry A) (a : A) (s : R) (w : List Bool) (t z : R) → Begun K s w t → d.on_failed ≡ Err Failed → ReadOutcome K grows d t (Ok a) z
+    → (v : List Bool) × ((more : List Bool) → d.reads (K.state t).taken (v ++ more) ≡ Takes (length v) (Ok a)) × Begun K s (w ++ v) z
+unfolding Begun
+Begun-more d a s w t z b failed (stays h) = let p = h.answer in cc
+Begun-more {K = K} d a s w t z b failed (answers h) =
+    (h.word, h.decides, inr (Took-trans K.order w h.word (K.state s) (K.state t) (K.state z) (Begun-took K s w t b h.fine) (took K.order d a (K.state t) (K.state z) h)))
+Begun-more d a s w t z b failed (faults h) = let p = h.answer in cc
+Begun-more d a s w t z b failed (starves g h) = let p = h.answer in cc
+
+begun_failed : {R : Type 0} (K : BitSource R) (s : R) (w : List Bool) (t : R) → Begun K s w t → (K.state t).failed ≡ true → t ≡ s
+unfolding Begun
+begun_failed K s w t (inl h) failed = h.1
+begun_failed K s w t (inr h) failed = let p = h.failed in cc
+
+-- A call that is left behind a word, with the answer of the last call or with one that its value decides.
+pub Reads-behind : {R A B : Type 0} {K : BitSource R} {grows : Bool} (e : ReadEntry A) (d : ReadEntry B) (w : List Bool) (r : Result A Error) (x : Result B Error) (s t z : R)
+    → Begun K s w t → Behind e (K.state s).taken w d (K.state t).taken → e.on_failed ≡ Err Failed → d.on_failed ≡ Err Failed
+    → ((y : Error) → x ≡ Err y → r ≡ Err y) → is_run_too_long r ≡ is_run_too_long x
+    → ((v : List Bool) → ((more : List Bool) → d.reads (K.state t).taken (v ++ more) ≡ Takes (length v) x) → (more : List Bool) → e.reads (K.state s).taken ((w ++ v) ++ more) ≡ Takes (length (w ++ v)) r)
+    → ReadOutcome K grows d t x z → ReadOutcome K grows e s r z
+Reads-behind {K = K} e d w r x s t z b behind e_failed d_failed passes same decides (stays h) =
+    let here = begun_failed K s w t b h.failed in
+    stays (record {
+      failed = ap (λ y. (K.state y).failed) (sym here) ∙ h.failed;
+      answer = passes Failed (h.answer ∙ d_failed) ∙ sym e_failed;
+      same = h.same ∙ ap K.state here;
+    })
+Reads-behind {K = K} e d w r x s t z b behind e_failed d_failed passes same decides (answers h) =
+    answers (Answers-behind K.order e d w r x (K.state s) (K.state t) (K.state z) (Begun-took K s w t b h.fine) behind same h (decides h.word h.decides))
+Reads-behind {K = K} e d w r x s t z b behind e_failed d_failed passes same decides (faults h) =
+    faults (Faults-behind K.order K.may e d w r x (K.state s) (K.state t) (K.state z) (K.demands s) (K.holds s) (K.demands t) (Begun-took K s w t b h.fine) behind h (passes (read_refusal_of h.refusal.kind) h.answer))
+Reads-behind {K = K} e d w r x s t z b behind e_failed d_failed passes same decides (starves g h) =
+    starves g (Starves-behind K.order e d w r x (K.state s) (K.state t) (K.state z) (Begun-took K s w t b h.fine) behind (passes OutOfMemory h.answer) h)
+
+-- a run that was too long: the reader was then made to fail
+pub Took-too_long : {A : Type 0} (o : Order) (e : ReadEntry A) (w : List Bool) (s t z : ReaderState) → Took o s w t → z ≡ failing t
+    → ((more : List Bool) → e.reads s.taken (w ++ more) ≡ Takes (length w) (Err RunTooLong))
+    → ((front : List Bool) (b : Bool) (back : List Bool) → w ≡ front ++ b ∷ back → e.reads s.taken front ≡ TooShort)
+    → Answers o e s (Err RunTooLong) z
+Took-too_long o e w s t z h broken decides needs = rw broken (record {
+  fine = h.fine;
+  word = w;
+  decides = decides;
+  needs = needs;
+  gone = h.gone;
+  loses = h.loses;
+  rest = t.held;
+  parts = h.parts;
+  held = refl;
+  fetched = h.fetched;
+  taken = h.taken;
+  refusals = h.refusals;
+  places = h.places;
+  failed = refl;
+})
+
+-- bits were taken
+pub Begun-word : {R : Type 0} (K : BitSource R) (s : R) (w : List Bool) (t : R) → Begun K s w t → 0 < length w → Took K.order (K.state s) w (K.state t)
+unfolding Begun
+Begun-word K s w t (inl h) some = let none : length w ≡ 0 = ap (λ l. length l) h.0 in absurd (omega arith)
+Begun-word K s w t (inr h) some = h
+
+-- ---- what no reader of bits may do
+
+-- a call that finds its front in the bits held back does not fault, in any reader
+pub held_serves : {R A : Type 0} {K : BitSource R} {e : ReadEntry A} {r : Result A Error} (n : ℕ) (x : Result A Error) {s t : R} → (K.state s).failed ≡ false → e.reads (K.state s).taken (K.state s).held ≡ Takes n x → Reads K e s r t
+    → Answers K.order e (K.state s) r (K.state t)
+held_serves n x fine has (stays h) = let p = h.failed in cc
+held_serves n x fine has (answers h) = h
+held_serves n x fine has (faults h) = let none = h.short in cc
+held_serves n x fine has (starves g h) = cc
+
+-- a call that takes nothing, as one that is refused for its width, answers just that
+pub none_asked : {R A : Type 0} {K : BitSource R} {e : ReadEntry A} {r : Result A Error} (x : Result A Error) {s t : R} → (K.state s).failed ≡ false → ((b : List Bool) → e.reads (K.state s).taken b ≡ Takes 0 x) → Reads K e s r t
+    → (r ≡ x) × ((K.state t).taken ≡ (K.state s).taken) × ((K.state t).fetched ≡ (K.state s).fetched) × ((K.state t).refusals ≡ (K.state s).refusals)
+none_asked {K = K} {r = r} x {s = s} {t = t} fine has h =
+    let k = held_serves 0 x fine (has (K.state s).held) h in
+    let same : Takes 0 x ≡ Takes (length k.word) r = sym (has (k.word ++ [])) ∙ k.decides [] in
+    let none : 0 ≡ length k.word = cc in
+    let taken : (K.state t).taken ≡ (K.state s).taken = let a = k.taken in omega arith in
+    (let is : x ≡ r = cc in sym is, taken, K.demands t ∙ ap (λ n. (n + 7) / 8) taken ∙ sym (K.demands s), k.refusals)
+
+-- ---- a whole list of reads from a new reader
+
+least_bytes : (f p g w : ℕ) → f ≡ (p + 7) / 8 → f ≡ 0 + g → p ≡ 0 + w → (8 * g < w + 8) × (w ≤ 8 * g)
+least_bytes f p g w demand fetched taken = (omega arith, omega arith)
+
+Answers-taken : {A : Type 0} (o : Order) (e : ReadEntry A) (r : Result A Error) (s t : ReaderState) → s.held ≡ [] → s.taken ≡ 0 → s.fetched ≡ 0 → Demands t → Answers o e s r t → TakesBytes o e s.bytes r t.bytes
+Answers-taken o e r s t held taken fetched demands h = record {
+  gone = h.gone;
+  loses = h.loses;
+  len = length h.word;
+  least = least_bytes t.fetched t.taken (length h.gone) (length h.word) demands (h.fetched ∙ ap (λ n. n + length h.gone) fetched) (h.taken ∙ ap (λ n. n + length h.word) taken);
+  front = ap (λ l. e.reads 0 l) (ap (λ l. l ++ bits o h.gone) (sym held) ∙ h.parts) ∙ ap (λ p. e.reads p (h.word ++ h.rest)) (sym taken) ∙ h.decides h.rest;
+}
+
+-- a new reader's stream lost the bytes of the front, where a call answered with a value
+pub Reads-taken_ok : {R A : Type 0} {K : BitSource R} {grows : Bool} {e : ReadEntry A} {a : A} {s t : R} → (K.state s).failed ≡ false → (K.state s).held ≡ [] → (K.state s).taken ≡ 0 → (K.state s).fetched ≡ 0 → ReadOutcome K grows e s (Ok a) t
+    → TakesBytes K.order e (K.state s).bytes (Ok a) (K.state t).bytes
+Reads-taken_ok fine held taken fetched (stays h) = let p = h.failed in cc
+Reads-taken_ok {K = K} {e = e} {a = a} {s = s} {t = t} fine held taken fetched (answers h) = Answers-taken K.order e (Ok a) (K.state s) (K.state t) held taken fetched (K.demands t) h
+Reads-taken_ok fine held taken fetched (faults h) = let p = h.answer in cc
+Reads-taken_ok fine held taken fetched (starves g h) = let p = h.answer in cc
+
+-- ---- memory of the call's own
+
+-- memory was refused behind a call that answered with a value, and the reader was made to fail
+pub Reads-starve : {R A B : Type 0} {K : BitSource R} (e : ReadEntry A) (f : A → ReadEntry B) (a : A) (s t z : R) → e.on_failed ≡ Err Failed → ReadOutcome K true e s (Ok a) t → K.state z ≡ failing (K.state t) → ReadsGrowing K (chain e f) s (Err OutOfMemory) z
+Reads-starve e f a s t z failed (stays h) broken = let p = h.answer in cc
+Reads-starve {K = K} e f a s t z failed (answers h) broken =
+    starves refl (Took-starves K.order (chain e f) h.word (K.state s) (K.state t) (K.state z) (took K.order e a (K.state s) (K.state t) h) broken
+    (λ front b back is. chain-none e f (K.state s).taken front (h.needs front b back is)))
+Reads-starve e f a s t z failed (faults h) broken = let p = h.answer in cc
+Reads-starve e f a s t z failed (starves g h) broken = let p = h.answer in cc
+
+-- ---- what came back through a reference
 
 tail_of : List GName → List GName
 tail_of [] = []
@@ -278,51 +711,66 @@ tails : (n m : GName) (k l : List GName) → m ∷ l ≡ n ∷ k → l ≡ k
 unfolding tail_of
 tails n m k l e = ap tail_of e
 
-pub heads : (n m : GName) (k l : List GName) → m ∷ l ≡ n ∷ k → m ≡ n
+heads : (n m : GName) (k l : List GName) → m ∷ l ≡ n ∷ k → m ≡ n
 unfolding head_of
 heads n m k l e = ap (head_of n) e
 
--- what came back through a reference
-pub Reads-back : {A : Type 0} {e : ReadEntry A} {r : Result A Error} {s t : ReaderState} (n m : GName) → Reads e (lent n s) r (lent m t) → (n ≡ m) × Reads e s r t
-Reads-back {s = s} {t = t} n m (stays h) =
-    (sym (heads n m s.places t.places (ap (λ (x : ReaderState). x.places) h.same)), stays (record { failed = h.failed; answer = h.answer; same = same_behind n m s t h.same }))
-Reads-back {s = s} {t = t} n m (answers h) = (
-  sym (heads n m s.places t.places h.places),
+pub Reads-back : {R A : Type 0} {K : BitSource R} {grows : Bool} {e : ReadEntry A} {r : Result A Error} {s t : MutBor R} → ReadOutcome (lent_source K) grows e s r t → (t.ghost_name ≡ s.ghost_name) × ReadOutcome K grows e s.now r t.now
+Reads-back {K = K} {s = s} {t = t} (stays h) = (
+  heads s.ghost_name t.ghost_name (K.state s.now).places (K.state t.now).places (ap (λ (x : ReaderState). x.places) h.same),
+  stays (record { failed = h.failed; answer = h.answer; same = same_behind s.ghost_name t.ghost_name (K.state s.now) (K.state t.now) h.same }),
+)
+Reads-back {K = K} {s = s} {t = t} (answers h) = (
+  heads s.ghost_name t.ghost_name (K.state s.now).places (K.state t.now).places h.places,
   answers (record {
     fine = h.fine;
     word = h.word;
     decides = h.decides;
+    needs = h.needs;
+    gone = h.gone;
     loses = h.loses;
+    rest = h.rest;
+    parts = h.parts;
+    held = h.held;
+    fetched = h.fetched;
     taken = h.taken;
-    drains = record { gone = h.drains.gone; loses = h.drains.loses; fetched = h.drains.fetched };
-    refused = h.refused;
-    misled = h.misled;
-    places = tails n m s.places t.places h.places;
+    refusals = h.refusals;
+    places = tails s.ghost_name t.ghost_name (K.state s.now).places (K.state t.now).places h.places;
     failed = h.failed;
   }),
 )
-Reads-back {s = s} {t = t} n m (faults h) = (
-  sym (heads n m s.places t.places h.places),
+Reads-back {K = K} {s = s} {t = t} (faults h) = (
+  heads s.ghost_name t.ghost_name (K.state s.now).places (K.state t.now).places h.places,
   faults (record {
     fine = h.fine;
-    fault = h.fault;
+    refusal = h.refusal;
+    allowed = h.allowed;
     answer = h.answer;
-    kind = h.kind;
-    by_kind = h.by_kind;
-    failed = h.failed;
-    refused = h.refused;
-    misled = h.misled;
-    places = tails n m s.places t.places h.places;
+    short = h.short;
+    gone = h.gone;
+    fetched = h.fetched;
+    few = h.few;
     ended = h.ended;
+    refusals = h.refusals;
+    places = tails s.ghost_name t.ghost_name (K.state s.now).places (K.state t.now).places h.places;
+    failed = h.failed;
   }),
 )
-
--- ---- a whole list of reads from a new reader
-
-pub Reads-places : {A : Type 0} {e : ReadEntry A} {r : Result A Error} {s t : ReaderState} → Reads e s r t → t.places ≡ s.places
-Reads-places (stays h) = ap (λ (x : ReaderState). x.places) h.same
-Reads-places (answers h) = h.places
-Reads-places (faults h) = h.places
-
-pub one_place : (n m : GName) → n ∷ [] ≡ m ∷ [] → n ≡ m
-one_place n m e = heads m n [] [] e
+Reads-back {K = K} {s = s} {t = t} (starves g h) = (
+  heads s.ghost_name t.ghost_name (K.state s.now).places (K.state t.now).places h.places,
+  starves g (record {
+    fine = h.fine;
+    answer = h.answer;
+    word = h.word;
+    needs = h.needs;
+    gone = h.gone;
+    loses = h.loses;
+    rest = h.rest;
+    parts = h.parts;
+    fetched = h.fetched;
+    taken = h.taken;
+    refusals = h.refusals;
+    places = tails s.ghost_name t.ghost_name (K.state s.now).places (K.state t.now).places h.places;
+    failed = h.failed;
+  }),
+)

@@ -3,6 +3,4 @@ pub mod ReadTable
 pub mod Reader
 pub mod Reads
 pub mod Run
-pub mod Sink
 pub mod WriteTable
-pub mod Writer

@@ -1,40 +1,53 @@
 -- What one read does to a reader.
-use Rattle.std.specs.Prelude.{◌≡◌, ℕ, ◌+◌, ◌*◌, ◌/◌, ◌<◌, ◌≤◌, Bool, true, false, List, ◌∷◌, ◌++◌, length, Option, option_map, Some, None, Result, Ok, Err, ⊤}
-use Rattle.std.specs.Borrow.{GName}
+use Rattle.std.specs.Prelude.{◌≡◌, ℕ, ◌+◌, ◌*◌, ◌/◌, ◌<◌, ◌≤◌, Bool, true, false, if◌then◌else◌, List, [], ◌∷◌, ◌++◌, length, Option, option_map, Some, Result, Ok, Err}
+use Rattle.std.specs.Borrow.{GName, MutBor}
 use Rattle.std.specs.Result.{IsErrAnd}
 use Rattle.std.specs.Io.KnownBytes.{Consumes}
-use Rattle.std.specs.declared.io.ErrorKind.{ErrorKind}
 use Rattle.bitstream_count.specs.declared.error.Error.{Error}
-use Rattle.bitstream_count.specs.declared.error.Error.TheVariants.{RunTooLong, EndOfInput}
-use Rattle.bitstream_count.specs.Entry.{ReadEntry, TooShort, Takes}
+use Rattle.bitstream_count.specs.declared.error.Error.TheVariants.{RunTooLong, OutOfMemory, EndOfInput}
+use Rattle.bitstream_count.specs.Entry.{ReadEntry, Front, TooShort, Takes}
 use Rattle.bitstream_number.specs.Word.{Order, bits}
 use Rattle.bitstream_order.specs.Fault.{read_refusal_of}
+use Rattle.bitstream_order.specs.Refusal.{Refusal, IsTrueEnd}
 
 pub record ReaderState : Type 0 where
-  -- the bits left to read, and the bytes left in the stream, where the stream tells
-  pub bits : Option (List Bool)
+  -- the bits of the bytes fetched that were not taken, and the bytes left in the stream, where it tells
+  pub held : List Bool
   pub bytes : Option (List ℕ)
   -- how many bits were taken so far, and how many bytes were fetched from the stream for them
   pub taken : ℕ
   pub fetched : ℕ
   pub failed : Bool
-  -- how many requests of the stream were refused, and how many of those were no true end of the known bytes
-  pub refused : ℕ
-  pub misled : ℕ
+  -- the requests of the stream that were refused, the last one first
+  pub refusals : List Refusal
   -- the names of the references through which the stream is reached
   pub places : List GName
 
--- bits, where they are told, begin with w and lose it
-abbrev pub Loses : Option (List Bool) → Option (List Bool) → List Bool → Type 0
-Loses None new w = ⊤
-Loses (Some b) None w = ⊥
-Loses (Some b) (Some c) w = b ≡ w ++ c
+-- a reader has fetched the bytes of the bits taken, and no more
+abbrev pub Demands : ReaderState → Type 0
+Demands s = s.fetched ≡ (s.taken + 7) / 8
 
--- the stream lost as many bytes as were fetched
-pub record Drains (old new : ReaderState) : Type 0 where
-  pub gone : List ℕ
-  pub loses : Consumes old.bytes new.bytes gone
-  pub fetched : new.fetched ≡ old.fetched + length gone
+-- what was fetched and not taken is held back
+abbrev pub Holds : ReaderState → Type 0
+Holds s = s.failed ≡ false → s.taken + length s.held ≡ 8 * s.fetched
+
+-- a reader that has failed holds nothing back
+abbrev pub Empties : ReaderState → Type 0
+Empties s = s.failed ≡ true → s.held ≡ []
+
+-- what the states of a reader mean, with the laws
+pub record BitSource (R : Type 0) : Type 1 where
+  pub order : Order
+  pub state : R → ReaderState
+  -- the refusals that its stream may make
+  pub may : Refusal → Type 0
+  pub demands : (r : R) → Demands (state r)
+  pub holds : (r : R) → Holds (state r)
+  pub empties : (r : R) → Empties (state r)
+
+-- the bits left to read, where the stream tells its bytes
+abbrev pub bits_left : Order → ReaderState → Option (List Bool)
+bits_left o s = option_map (λ xs. s.held ++ bits o xs) s.bytes
 
 -- the answer after which a reader that answered has failed
 abbrev pub is_run_too_long : {A : Type 0} → Result A Error → Bool
@@ -47,54 +60,102 @@ pub record Stays {A : Type 0} (entry : ReadEntry A) (old : ReaderState) (result 
   pub answer : result ≡ entry.on_failed
   pub same : new ≡ old
 
--- the call takes its front and gives the front's answer: whatever bits follow the front, it is this one
-pub record Answers {A : Type 0} (entry : ReadEntry A) (old : ReaderState) (result : Result A Error) (new : ReaderState) : Type 0 where
+-- The call takes its front, a word, and gives the front's answer: whatever bits follow the word, it is
+-- this one, and no shorter beginning of the word has a front. The bits held before and those of the
+-- bytes fetched are the word and then the bits held now.
+pub record Answers {A : Type 0} (o : Order) (entry : ReadEntry A) (old : ReaderState) (result : Result A Error) (new : ReaderState) : Type 0 where
   pub fine : old.failed ≡ false
   pub word : List Bool
   pub decides : (more : List Bool) → entry.reads old.taken (word ++ more) ≡ Takes (length word) result
-  pub loses : Loses old.bits new.bits word
+  pub needs : (front : List Bool) (b : Bool) (back : List Bool) → word ≡ front ++ b ∷ back → entry.reads old.taken front ≡ TooShort
+  pub gone : List ℕ
+  pub loses : Consumes old.bytes new.bytes gone
+  pub rest : List Bool
+  pub parts : old.held ++ bits o gone ≡ word ++ rest
+  pub held : new.held ≡ (if is_run_too_long result then [] else rest)
+  pub fetched : new.fetched ≡ old.fetched + length gone
   pub taken : new.taken ≡ old.taken + length word
-  pub drains : Drains old new
-  pub refused : new.refused ≡ old.refused
-  pub misled : new.misled ≡ old.misled
+  pub refusals : new.refusals ≡ old.refusals
   pub places : new.places ≡ old.places
   pub failed : new.failed ≡ is_run_too_long result
 
--- A request was refused, with this error for its kind, and the reader has failed. A stream that did
--- not mislead was at its end, and the bits left were too few for the call.
-pub record Faults {A : Type 0} (entry : ReadEntry A) (old : ReaderState) (result : Result A Error) (new : ReaderState) : Type 0 where
+-- A request was refused, as the stream may refuse, and the reader has failed. The bits held were too few
+-- for the call, and so were those with the bytes fetched for it; at a true end so were all bits left.
+pub record Faults {A : Type 0} (o : Order) (may : Refusal → Type 0) (entry : ReadEntry A) (old : ReaderState) (result : Result A Error) (new : ReaderState) : Type 0 where
   pub fine : old.failed ≡ false
-  pub fault : Error
-  pub answer : result ≡ Err fault
-  pub kind : ErrorKind
-  pub by_kind : fault ≡ read_refusal_of kind
-  pub failed : new.failed ≡ true
-  pub refused : new.refused ≡ old.refused + 1
-  pub misled : old.misled ≤ new.misled
+  pub refusal : Refusal
+  pub allowed : may refusal
+  pub answer : result ≡ Err (read_refusal_of refusal.kind)
+  pub short : entry.reads old.taken old.held ≡ TooShort
+  pub gone : List ℕ
+  pub fetched : new.fetched ≡ old.fetched + length gone
+  pub few : entry.reads old.taken (old.held ++ bits o gone) ≡ TooShort
+  pub ended : IsTrueEnd refusal → (xs : List ℕ) → old.bytes ≡ Some xs → entry.reads old.taken (old.held ++ bits o xs) ≡ TooShort
+  pub refusals : new.refusals ≡ refusal ∷ old.refusals
   pub places : new.places ≡ old.places
-  pub ended : (b : List Bool) → old.bits ≡ Some b → new.misled ≡ old.misled → (fault ≡ EndOfInput) × (entry.reads old.taken b ≡ TooShort)
+  pub failed : new.failed ≡ true
 
--- one read, by what the call means
-pub data Reads {A : Type 0} (entry : ReadEntry A) (old : ReaderState) (result : Result A Error) (new : ReaderState) : Type 0 where
-  stays : Stays entry old result new → Reads entry old result new
-  answers : Answers entry old result new → Reads entry old result new
-  faults : Faults entry old result new → Reads entry old result new
+-- Memory that the call asked for itself was refused, and the reader has failed. The bits that were taken
+-- until then are no more than the call's front: no beginning of them has one.
+pub record Starves {A : Type 0} (o : Order) (entry : ReadEntry A) (old : ReaderState) (result : Result A Error) (new : ReaderState) : Type 0 where
+  pub fine : old.failed ≡ false
+  pub answer : result ≡ Err OutOfMemory
+  pub word : List Bool
+  pub needs : (front : List Bool) (b : Bool) (back : List Bool) → word ≡ front ++ b ∷ back → entry.reads old.taken front ≡ TooShort
+  pub gone : List ℕ
+  pub loses : Consumes old.bytes new.bytes gone
+  pub rest : List Bool
+  pub parts : old.held ++ bits o gone ≡ word ++ rest
+  pub fetched : new.fetched ≡ old.fetched + length gone
+  pub taken : new.taken ≡ old.taken + length word
+  pub refusals : new.refusals ≡ old.refusals
+  pub places : new.places ≡ old.places
+  pub failed : new.failed ≡ true
 
--- a reader has fetched the bytes of the bits taken, and no more
-abbrev pub Demands : ReaderState → Type 0
-Demands s = s.fetched ≡ (s.taken + 7) / 8
+-- one read, by what the call means; `grows` where the call asks for memory of its own
+pub data ReadOutcome {R A : Type 0} (K : BitSource R) (grows : Bool) (entry : ReadEntry A) (old : R) (result : Result A Error) (new : R) : Type 0 where
+  stays : Stays entry (K.state old) result (K.state new) → ReadOutcome K grows entry old result new
+  answers : Answers K.order entry (K.state old) result (K.state new) → ReadOutcome K grows entry old result new
+  faults : Faults K.order K.may entry (K.state old) result (K.state new) → ReadOutcome K grows entry old result new
+  starves : grows ≡ true → Starves K.order entry (K.state old) result (K.state new) → ReadOutcome K grows entry old result new
 
--- the bits left to read are some of the bytes fetched that were not taken, and then those of the stream
-abbrev pub Holds : Order → ReaderState → Type 0
-Holds o s = (held : List Bool) × (s.taken + length held ≡ 8 * s.fetched) × (s.bits ≡ option_map (λ bs. held ++ bits o bs) s.bytes)
+-- one read
+abbrev pub Reads : {R A : Type 0} → BitSource R → ReadEntry A → R → Result A Error → R → Type 0
+Reads K entry old result new = ReadOutcome K false entry old result new
 
--- the same reader, which has failed
+-- one read that asks for memory of its own
+abbrev pub ReadsGrowing : {R A : Type 0} → BitSource R → ReadEntry A → R → Result A Error → R → Type 0
+ReadsGrowing K entry old result new = ReadOutcome K true entry old result new
+
+-- the same reader, which has failed and holds nothing back
 abbrev pub failing : ReaderState → ReaderState
-failing s = record s { failed = true }
+failing s = record s { failed = true; held = [] }
 
 -- the same reader, seen through a reference of this name
 abbrev pub lent : GName → ReaderState → ReaderState
 lent name s = record s { places = name ∷ s.places }
+
+-- a reader behind a `&mut`
+abbrev pub lent_source : {R : Type 0} → BitSource R → BitSource (MutBor R)
+lent_source K = record {
+  order = K.order;
+  state = λ r. lent r.ghost_name (K.state r.now);
+  may = K.may;
+  demands = λ r. K.demands r.now;
+  holds = λ r. K.holds r.now;
+  empties = λ r. K.empties r.now;
+}
+
+-- a reader inside a state
+abbrev pub inner_source : {S R : Type 0} → (S → R) → BitSource R → BitSource S
+inner_source f K = record {
+  order = K.order;
+  state = λ s. K.state (f s);
+  may = K.may;
+  demands = λ s. K.demands (f s);
+  holds = λ s. K.holds (f s);
+  empties = λ s. K.empties (f s);
+}
 
 -- A new reader's stream lost these bytes to calls that answered: they are those of the front, and no
 -- more than it needs.
@@ -103,7 +164,7 @@ pub record TakesBytes {A : Type 0} (o : Order) (entry : ReadEntry A) (old : Opti
   pub loses : Consumes old new gone
   pub len : ℕ
   pub least : (8 * length gone < len + 8) × (len ≤ 8 * length gone)
-  pub front : (xs : List ℕ) → old ≡ Some xs → entry.reads 0 (bits o gone) ≡ Takes len result
+  pub front : entry.reads 0 (bits o gone) ≡ Takes len result
 
 -- the answer of a call that compares, and whose own error is of another type
 abbrev pub ConstAnswer : {E : Type 0} → (Error → E → Type 0) → E → Result Bool Error → Result (Unit {0}) E → Type 0
@@ -112,7 +173,12 @@ ConstAnswer gives err (Ok false) result = result ≡ Err err
 ConstAnswer gives err (Err x) result = IsErrAnd result (gives x)
 
 -- a call that answers `err` where a word is not what it should be, and turns any other refusal into its own type
-pub record ReadsConst {E : Type 0} (gives : Error → E → Type 0) (entry : ReadEntry Bool) (err : E) (old : ReaderState) (result : Result (Unit {0}) E) (new : ReaderState) : Type 0 where
+pub record ReadsConst {R E : Type 0} (K : BitSource R) (gives : Error → E → Type 0) (entry : ReadEntry Bool) (err : E) (old : R) (result : Result (Unit {0}) E) (new : R) : Type 0 where
   pub plain : Result Bool Error
-  pub reads : Reads entry old plain new
+  pub reads : Reads K entry old plain new
   pub answer : ConstAnswer gives err plain result
+
+-- what a call answers where all the bits left are known: its front's answer, or the end
+abbrev pub sure_answer : {A : Type 0} → Front A → Result A Error
+sure_answer TooShort = Err EndOfInput
+sure_answer (Takes n answer) = answer

@@ -1,8 +1,7 @@
 //! Calls that read bits.
 ghost use Rattle.std.specs.Prelude.{◌≡◌, ℕ, ◌+◌, ◌%◌, ◌^◌, ◌<◌, ◌≤◌, ◌⊎◌, ◌↔◌, false, Ok, IsTrue};
-ghost use Rattle.bitstream_number.specs.Word.{Order};
 ghost use Rattle.bitstream_order.specs.Draw.{seen};
-ghost use Rattle.bitstream_stream.specs.Reads.{ReaderState, Reads, ReadsConst, Demands, Holds, failing, lent};
+ghost use Rattle.bitstream_stream.specs.Reads.{BitSource, Reads, ReadsConst, failing, lent_source};
 ghost use Rattle.bitstream_stream.specs.ReadTable.{bit_entry, unsigned_entry, signed_entry, const_entry, count_entry, align_entry, is_full};
 
 use crate::width::count_bits;
@@ -15,39 +14,38 @@ use bitstream_number::number::{Numeric, SignedInteger, UnsignedInteger, Width};
 /// After `EndOfInput`, `Stream` and `OutOfMemory` a reader has failed: each later call that reads a
 /// value answers `Failed` before any other check, also at a width of 0 bits.
 pub trait BitRead {
-    // The order of the bits, and what is known of a reader.
-    ghost order: { Order };
-
-    ghost state: { Self → ReaderState };
+    // What the states of the reader mean.
+    ghost source: { BitSource Self };
 
     /// Reads an unsigned number of so many bits.
     ///
     /// `ReadBits` if the type has fewer bits: nothing is taken then.
     fn read_unsigned_counted<C: Count, U: UnsignedInteger>(&mut self, bits: C) -> Result<U, Error>
-        ensures reads { Reads (unsigned_entry order U.BITS_SIZE (C.number bits)) (state self.old) (seen U.value result) (state self.new) };
+        ensures reads { Reads source (unsigned_entry source.order U.BITS_SIZE (C.number bits)) self.old (seen U.value result) self.new };
 
     /// Reads a signed number of so many bits, of which one is the sign.
     ///
     /// `ReadBits` if the type has fewer bits: nothing is taken then.
     fn read_signed_counted<C: SignedCount, S: SignedInteger>(&mut self, bits: C) -> Result<S, Error>
-        ensures reads { Reads (signed_entry order S.BITS_SIZE (C.number bits)) (state self.old) (seen S.integer result) (state self.new) };
+        ensures reads { Reads source (signed_entry source.order S.BITS_SIZE (C.number bits)) self.old (seen S.integer result) self.new };
 
     /// Whether the next bit is the first of a byte. Never so of a reader that has failed.
     fn byte_aligned(&self) -> bool
-        ensures { IsTrue result ↔ (((state self.now).failed ≡ false) × ((state self.now).taken % 8 ≡ 0)) };
+        ensures { IsTrue result ↔ (((source.state self.now).failed ≡ false) × ((source.state self.now).taken % 8 ≡ 0)) };
 
     /// Drops the bits up to the next whole byte, which were all fetched before. A reader that has
     /// failed drops nothing.
     fn byte_align(&mut self)
-        ensures reads { Reads align_entry (state self.old) (Ok tt) (state self.new) };
+        ensures reads { Reads source align_entry self.old (Ok tt) self.new };
 
-    /// Makes the reader fail: from now on each call that reads a value answers `Failed`.
+    /// Makes the reader fail, which drops the bits that it holds back: from now on each call that
+    /// reads a value answers `Failed`.
     fn fail(&mut self)
-        ensures { state self.new ≡ failing (state self.old) };
+        ensures { source.state self.new ≡ failing (source.state self.old) };
 
     /// Reads one bit.
     fn read_bit(&mut self) -> Result<bool, Error>
-        ensures reads { Reads bit_entry (state self.old) result (state self.new) }
+        ensures reads { Reads source bit_entry self.old result self.new }
     {
         let bit: u8 = self.read_unsigned_var(1)?;
         Ok(bit == 1)
@@ -57,7 +55,7 @@ pub trait BitRead {
     ///
     /// `ReadBits` if the type has fewer bits: nothing is taken then.
     fn read_unsigned_var<U: UnsignedInteger>(&mut self, bits: u32) -> Result<U, Error>
-        ensures reads { Reads (unsigned_entry order U.BITS_SIZE bits) (state self.old) (seen U.value result) (state self.new) }
+        ensures reads { Reads source (unsigned_entry source.order U.BITS_SIZE bits) self.old (seen U.value result) self.new }
     {
         self.read_unsigned_counted(BitCount::unknown(bits))
     }
@@ -65,7 +63,7 @@ pub trait BitRead {
     /// As [`BitRead::read_unsigned_var`], with as many bits as B says.
     fn read_unsigned<B: Width, U: UnsignedInteger>(&mut self) -> Result<U, Error>
         requires { B.BITS ≤ U.BITS_SIZE }
-        ensures reads { Reads (unsigned_entry order U.BITS_SIZE B.BITS) (state self.old) (seen U.value result) (state self.new) }
+        ensures reads { Reads source (unsigned_entry source.order U.BITS_SIZE B.BITS) self.old (seen U.value result) self.new }
     {
         self.read_unsigned_var(B::BITS)
     }
@@ -74,7 +72,7 @@ pub trait BitRead {
     ///
     /// `NoSignBit` at 0 bits, `ReadBits` if the type has fewer bits: nothing is taken then.
     fn read_signed_var<S: SignedInteger>(&mut self, bits: u32) -> Result<S, Error>
-        ensures reads { Reads (signed_entry order S.BITS_SIZE bits) (state self.old) (seen S.integer result) (state self.new) }
+        ensures reads { Reads source (signed_entry source.order S.BITS_SIZE bits) self.old (seen S.integer result) self.new }
     {
         match BitCount::unknown(bits).signed_count() {
             Some(count) => self.read_signed_counted(count),
@@ -89,7 +87,7 @@ pub trait BitRead {
     fn read_signed<B: Width, S: SignedInteger>(&mut self) -> Result<S, Error>
         requires some { 1 ≤ B.BITS }
         requires within { B.BITS ≤ S.BITS_SIZE }
-        ensures reads { Reads (signed_entry order S.BITS_SIZE B.BITS) (state self.old) (seen S.integer result) (state self.new) }
+        ensures reads { Reads source (signed_entry source.order S.BITS_SIZE B.BITS) self.old (seen S.integer result) self.new }
     {
         self.read_signed_var(B::BITS)
     }
@@ -99,7 +97,7 @@ pub trait BitRead {
     fn read_const<B: Width, V: Width, E: From<Error> + Drop>(&mut self, err: E) -> Result<(), E>
         requires word { B.BITS ≤ 32 }
         requires value { (V.BITS < 2 ^ B.BITS) ⊎ (B.BITS ≡ 0) }
-        ensures reads { ReadsConst E.from_gives (const_entry order B.BITS V.BITS) err (state self.old) result (state self.new) }
+        ensures reads { ReadsConst source E.from_gives (const_entry source.order B.BITS V.BITS) err self.old result self.new }
     {
         let value: u32 = self.read_unsigned::<B, u32>()?;
         if value == V::BITS { Ok(()) } else { Err(err) }
@@ -110,7 +108,7 @@ pub trait BitRead {
     fn read_count<C: Count>(&mut self) -> Result<C, Error>
         requires some { 0 < C.MAX }
         requires full { IsTrue (is_full 32 C.MAX) }
-        ensures reads { Reads (count_entry order C.MAX) (state self.old) (seen C.number result) (state self.new) }
+        ensures reads { Reads source (count_entry source.order C.MAX) self.old (seen C.number result) self.new }
     {
         let number = self.read_unsigned_var(count_bits(C::MAX))?;
         match C::of(number) {
@@ -126,18 +124,10 @@ pub trait BitRead {
     {
         self
     }
-
-    // A reader asks for a byte only when it needs a bit of it.
-    ghost demands: { (reader : Self) → Demands (state reader) };
-
-    // The bits left to read are those of the bytes left, behind what the reader holds back.
-    ghost holds: { (reader : Self) → Holds order (state reader) };
 }
 
 impl<R: BitRead> BitRead for &mut R {
-    ghost order = { R.order };
-
-    ghost state = { λ reader. lent reader.ghost_name (R.state reader.now) };
+    ghost source = { lent_source R.source };
 
     fn read_unsigned_counted<C: Count, U: UnsignedInteger>(&mut self, bits: C) -> Result<U, Error> {
         (**self).read_unsigned_counted(bits)
@@ -189,8 +179,4 @@ impl<R: BitRead> BitRead for &mut R {
     fn read_count<C: Count>(&mut self) -> Result<C, Error> {
         (**self).read_count()
     }
-
-    ghost demands = { λ reader. R.demands reader.now };
-
-    ghost holds = { λ reader. R.holds reader.now };
 }
