@@ -5,6 +5,10 @@ pub mod ReaderLemmas
 pub mod ReadsLemmas
 pub mod Rows
 pub mod SignedLemmas
+pub mod SinkLemmas
+pub mod SinkParts
 pub mod SliceLemmas
 pub mod TableLemmas
 pub mod WriteLemmas
+pub mod WriteParts
+pub mod WriterLemmas

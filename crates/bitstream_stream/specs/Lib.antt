@@ -1,6 +1,9 @@
 pub mod Alignment
+pub mod Carries
 pub mod ReadTable
 pub mod Reader
 pub mod Reads
 pub mod Run
+pub mod Sink
 pub mod WriteTable
+pub mod Writer

@@ -1,0 +1,117 @@
+-- What a sink of bits is, and what one write call does to it.
+use Rattle.std.specs.Prelude.{◌≡◌, ◌⊎◌, ℕ, ◌+◌, ◌*◌, ◌%◌, ◌<◌, ◌≤◌, Bool, true, false, List, [], ◌∷◌, ◌++◌, length, Option, Some, None, Result, Ok, Err, IsErr, ⊤}
+use Rattle.std.specs.Borrow.{GName, MutBor}
+use Rattle.bitstream_number.specs.Word.{Order}
+use Rattle.bitstream_count.specs.Entry.{WriteEntry}
+use Rattle.bitstream_count.specs.declared.error.Error.{Error}
+use Rattle.bitstream_count.specs.declared.error.Error.TheVariants.{Failed, CounterOverflow}
+use Rattle.bitstream_order.specs.Fault.{refusal_of}
+use Rattle.bitstream_order.specs.Refusal.{Refusal}
+
+-- a length within the limit, if there is one
+abbrev pub IsWithin : Option ℕ → ℕ → Type 0
+IsWithin None n = ⊤
+IsWithin (Some most) n = n ≤ most
+
+-- a length past the limit
+abbrev pub IsBeyond : Option ℕ → ℕ → Type 0
+IsBeyond None n = ⊥
+IsBeyond (Some most) n = most < n
+
+-- a limit, if there is one, is the greatest number of a type of whole bytes
+abbrev pub IsFullLimit : Option ℕ → Type 0
+IsFullLimit None = ⊤
+IsFullLimit (Some most) = (n : ℕ) × (most + 1 ≡ 8 * n)
+
+-- what the states of a sink mean, with the laws
+pub record Sink (S : Type 0) : Type 1 where
+  pub order : Order
+  -- the second state is the first with these bits behind it
+  pub appends : S → List Bool → S → Type 0
+  -- how many bits were written
+  pub len : S → ℕ
+  -- the greatest number of bits, for a counter
+  pub limit : Option ℕ
+  pub failed : S → Bool
+  -- the requests that were refused, the last one first
+  pub refusals : S → List Refusal
+  -- the refusals that its stream may make
+  pub may : Refusal → Type 0
+  -- the names of the references through which the sink and its stream are reached
+  pub places : S → List GName
+  pub appends_nil : (s : S) → appends s [] s
+  pub appends_trans : (s t u : S) (x y : List Bool) → appends s x t → appends t y u → appends s (x ++ y) u
+  pub within : (s : S) → IsWithin limit (len s)
+  pub appends_len : (s t : S) (x : List Bool) → appends s x t → len t ≡ len s + length x
+  pub limit_full : IsFullLimit limit
+
+-- bits were appended, and no request was refused
+pub record Appended {S : Type 0} (K : Sink S) (old : S) (x : List Bool) (new : S) : Type 0 where
+  pub grown : K.appends old x new
+  pub sound : K.failed new ≡ false
+  pub refusals : K.refusals new ≡ K.refusals old
+  pub places : K.places new ≡ K.places old
+
+-- nothing was appended, and no request was refused
+pub record Kept {S : Type 0} (K : Sink S) (old new : S) : Type 0 where
+  pub grown : K.appends old [] new
+  pub failed : K.failed new ≡ K.failed old
+  pub refusals : K.refusals new ≡ K.refusals old
+  pub places : K.places new ≡ K.places old
+
+-- A request was refused, as the stream may refuse, and the sink has failed. The word x would have made a
+-- byte full. Whole bytes were handed on, those before the word and none but of its bits, and no bit waits.
+pub record Faulted {S : Type 0} (K : Sink S) (old : S) (x : List Bool) (error : Error) (new : S) : Type 0 where
+  pub refusal : Refusal
+  pub allowed : K.may refusal
+  pub answer : error ≡ refusal_of refusal.kind
+  pub full : 8 ≤ K.len old % 8 + length x
+  pub whole : K.len new % 8 ≡ 0
+  pub least : K.len old < K.len new + 8
+  pub most : K.len new ≤ K.len old + length x
+  pub refusals : K.refusals new ≡ refusal ∷ K.refusals old
+  pub broken : K.failed new ≡ true
+  pub places : K.places new ≡ K.places old
+
+-- what one write call does, by what it means
+pub data Writes {S T : Type 0} (K : Sink S) (entry : WriteEntry) (old : S) (result : Result T Error) (new : S) : Type 0 where
+  was_failed : K.failed old ≡ true → result ≡ Err Failed → Kept K old new → Writes K entry old result new
+  was_refused : (error : Error) → K.failed old ≡ false → entry (K.len old) ≡ Err error → result ≡ Err error → Kept K old new → Writes K entry old result new
+  passed_limit : (word : List Bool) → K.failed old ≡ false → entry (K.len old) ≡ Ok word → IsBeyond K.limit (K.len old + length word) → result ≡ Err CounterOverflow → Kept K old new
+      → Writes K entry old result new
+  had_fault : (word : List Bool) (error : Error) → K.failed old ≡ false → entry (K.len old) ≡ Ok word → IsWithin K.limit (K.len old + length word) → result ≡ Err error → Faulted K old word error new
+      → Writes K entry old result new
+  did_write : (word : List Bool) (done : T) → K.failed old ≡ false → entry (K.len old) ≡ Ok word → IsWithin K.limit (K.len old + length word) → result ≡ Ok done → Appended K old word new
+      → Writes K entry old result new
+
+-- write calls in order, up to the first that answers an error; of no calls, nothing at all
+unfoldable pub WritesAll : {S : Type 0} → Sink S → List WriteEntry → S → Result (Unit {0}) Error → S → Type 0
+WritesAll K [] old result new = (result ≡ Ok tt) × (new ≡ old)
+WritesAll {S} K (entry ∷ entries) old result new =
+    (IsErr result × Writes K entry old result new) ⊎ ((mid : S) × Writes {S = S} {T = Unit {0}} K entry old (Ok tt) mid × WritesAll K entries mid result new)
+
+-- states that are seen as states of a sink, reached through references of these names
+abbrev pub seen_sink : {R S : Type 0} → (R → S) → (R → List GName) → Sink S → Sink R
+seen_sink f names K = record {
+  order = K.order;
+  appends = λ a x b. K.appends (f a) x (f b);
+  len = λ a. K.len (f a);
+  limit = K.limit;
+  failed = λ a. K.failed (f a);
+  refusals = λ a. K.refusals (f a);
+  may = K.may;
+  places = λ a. names a ++ K.places (f a);
+  appends_nil = λ a. K.appends_nil (f a);
+  appends_trans = λ a b c x y p q. K.appends_trans (f a) (f b) (f c) x y p q;
+  within = λ a. K.within (f a);
+  appends_len = λ a b x p. K.appends_len (f a) (f b) x p;
+  limit_full = K.limit_full;
+}
+
+-- a sink inside a state
+abbrev pub inner_sink : {R S : Type 0} → (R → S) → Sink S → Sink R
+inner_sink f K = seen_sink f (λ _. []) K
+
+-- a sink behind a `&mut`
+abbrev pub lent_sink : {S : Type 0} → Sink S → Sink (MutBor S)
+lent_sink K = seen_sink (λ a. a.now) (λ a. a.ghost_name ∷ []) K

@@ -1,0 +1,75 @@
+-- What the states of a writer mean.
+use Rattle.std.specs.Prelude.{◌≡◌, ℕ, ◌+◌, ◌*◌, ◌≤◌, ◌<◌, Bool, false, List, [], Option, None, Result, Ok, Err}
+use Rattle.std.specs.Borrow.{GName}
+use Rattle.std.specs.declared.io.ErrorKind.{ErrorKind}
+use Rattle.std.specs.Io.KnownBytes.{Appends}
+use Rattle.bitstream_number.specs.Word.{Order, bits}
+use Rattle.bitstream_order.specs.Port.{port_state, requests_count}
+use Rattle.bitstream_order.specs.Refusal.{Refusal, MayReject}
+use Rattle.bitstream_count.specs.declared.error.Error.{Error}
+use Rattle.bitstream_stream.specs.Carries.{WriterState, Carries, Carries-nil, Carries-trans, Carries-len}
+use Rattle.bitstream_stream.specs.Sink.{Sink, Appended, Faulted, inner_sink}
+use Rattle.bitstream_stream.specs.declared.writer.BitWriter.{BitWriter}
+
+-- a writer, by what its stream tells
+abbrev pub writer_state : {W E : Type 0} → (W → Option (List ℕ)) → (W → List GName) → BitWriter W E → WriterState
+writer_state held places w = record {
+  port = port_state held places w.port;
+  queued = w.queued;
+  queue = w.queue;
+  failed = w.failed;
+}
+
+-- how many requests a writer made
+abbrev pub requests_made : {W E : Type 0} → BitWriter W E → ℕ
+requests_made writer = requests_count writer.port
+
+-- how many bits a writer has yet to hand on
+abbrev pub queued_bits : {W E : Type 0} → BitWriter W E → ℕ
+queued_bits writer = writer.queued
+
+-- a call for a word of n bits made two requests at most, one where it filled fewer than two bytes, and none where it filled none
+abbrev pub AsksForWord : {W E : Type 0} → ℕ → BitWriter W E → BitWriter W E → Type 0
+AsksForWord n old new = (requests_made new ≤ requests_made old + 2) × (queued_bits old + n < 16 → requests_made new ≤ requests_made old + 1) × (queued_bits old + n < 8 → requests_made new ≡ requests_made old)
+
+-- a writer to which nothing was written, by what its stream tells
+abbrev pub fresh_writer : Option (List ℕ) → List GName → WriterState
+fresh_writer held places = record {
+  port = record { bytes = held; fetched = 0; sent = 0; requests = 0; refusals = []; places = places };
+  queued = 0;
+  queue = 0;
+  failed = false;
+}
+
+-- the states of a writer as a sink
+abbrev pub queue_sink : (Refusal → Type 0) → Order → Sink WriterState
+queue_sink may o = record {
+  order = o;
+  appends = Carries o;
+  len = λ a. 8 * a.port.sent + a.queued;
+  limit = None;
+  failed = λ a. a.failed;
+  refusals = λ a. a.port.refusals;
+  may = may;
+  places = λ a. a.port.places;
+  appends_nil = Carries-nil o;
+  appends_trans = Carries-trans o;
+  within = λ _. tt;
+  appends_len = Carries-len o;
+  limit_full = tt;
+}
+
+-- bytes were added to those that a stream holds, where it tells, and these are their bits
+pub record Adds (o : Order) (old : Option (List ℕ)) (x : List Bool) (new : Option (List ℕ)) : Type 0 where
+  pub bytes : List ℕ
+  pub grows : Appends old new bytes
+  pub bits : bits o bytes ≡ x
+
+-- the bits x go behind those that a sound writer has, or a request is refused and it has failed
+abbrev pub Pushes : (Refusal → Type 0) → Order → List Bool → WriterState → Result (Unit {0}) Error → WriterState → Type 0
+Pushes may o x old (Ok done) new = Appended (queue_sink may o) old x new
+Pushes may o x old (Err error) new = Faulted (queue_sink may o) old x error new
+
+-- a writer as a sink
+abbrev pub writer_sink : {W E : Type 0} → (W → Option (List ℕ)) → (W → ℕ → ErrorKind → W → Type 0) → (W → List GName) → Order → Sink (BitWriter W E)
+writer_sink held refuses places o = inner_sink (writer_state held places) (queue_sink (MayReject refuses) o)

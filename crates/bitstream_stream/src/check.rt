@@ -1,0 +1,37 @@
+//! Whether a number can be written in so many bits.
+ghost use Rattle.std.specs.Prelude.{◌≡◌, ℕ, ◌≤◌, Ok, Err, OnOk, IfErr};
+ghost use Rattle.bitstream_number.specs.Word.{Order, word, signed_word, FitsSignedBits};
+ghost use Rattle.bitstream_stream.specs.WriteTable.{unsigned, signed};
+
+use bitstream_count::count::{BitCount, CheckedSigned, CheckedUnsigned};
+use bitstream_count::error::Error;
+use bitstream_number::number::{SignedInteger, UnsignedInteger};
+
+/// Whether an unsigned value can be written in so many bits. At no bits each value can.
+pub fn check<U: UnsignedInteger>(bits: u32, value: U) -> Result<(), Error>
+    ensures width { OnOk result (bits ≤ U.BITS_SIZE) }
+    ensures word { OnOk result ((o : Order) (len : ℕ) → unsigned o U.BITS_SIZE bits (U.value value) len ≡ Ok (word o bits (U.value value))) }
+    ensures refusal { IfErr result (λ error. (o : Order) (len : ℕ) → unsigned o U.BITS_SIZE bits (U.value value) len ≡ Err error) }
+{
+    match CheckedUnsigned::new(BitCount::unknown(bits), value) {
+        Ok(_fits) => Ok(()),
+        Err(refused) => Err(Error::Checked(refused)),
+    }
+}
+
+/// Whether a signed value can be written in so many bits, of which one is the sign.
+pub fn check_signed<S: SignedInteger>(bits: u32, value: S) -> Result<(), Error>
+    ensures some { OnOk result (1 ≤ bits) }
+    ensures width { OnOk result (bits ≤ S.BITS_SIZE) }
+    ensures fits { OnOk result (FitsSignedBits bits (S.integer value)) }
+    ensures word { OnOk result ((o : Order) (len : ℕ) → signed o S.BITS_SIZE bits (S.integer value) len ≡ Ok (signed_word o bits (S.integer value))) }
+    ensures refusal { IfErr result (λ error. (o : Order) (len : ℕ) → signed o S.BITS_SIZE bits (S.integer value) len ≡ Err error) }
+{
+    match BitCount::unknown(bits).signed_count() {
+        Some(count) => match CheckedSigned::new(count, value) {
+            Ok(_fits) => Ok(()),
+            Err(refused) => Err(Error::Checked(refused)),
+        },
+        None => Err(Error::NoSignBit),
+    }
+}

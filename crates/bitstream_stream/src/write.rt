@@ -1,0 +1,207 @@
+//! Where bits go.
+use crate::width::count_bits;
+use bitstream_count::count::{BitCount, Count, SignedCount};
+use bitstream_count::error::Error;
+use bitstream_number::number::{SignedInteger, UnsignedInteger, Width};
+
+/// A sink of bits.
+pub trait BitWrite {
+    ghost use Rattle.std.specs.Prelude.{◌≡◌, ℕ, ◌+◌, ◌%◌, ◌^◌, ◌<◌, ◌≤◌, ◌↔◌, ◌⊎◌, Bool, true, false, IsTrue};
+    ghost use Rattle.bitstream_number.specs.Word.{word};
+    ghost use Rattle.bitstream_stream.specs.Sink.{Sink, Writes, IsWithin};
+    ghost use Rattle.bitstream_stream.specs.WriteTable.{unsigned, signed, plain, bit as one_bit, count as count_entry, align};
+
+    // What the states of the sink mean.
+    ghost sink: { Sink Self };
+
+    /// Writes a number in so many bits. At no bits each number is accepted, and nothing is written.
+    ///
+    /// # Errors
+    ///
+    /// `Checked(ExcessiveBits)` for more bits than the type has, `Checked(ExcessiveValue)` for a
+    /// number of more bits than the count: nothing was written.
+    fn write_unsigned_counted<C: Count, U: UnsignedInteger>(
+        &mut self,
+        count: C,
+        value: U,
+    ) -> Result<(), Error>
+        ensures writes { Writes sink (unsigned sink.order U.BITS_SIZE (C.number count) (U.value value))
+            self.old result self.new };
+
+    /// Writes a signed number in so many bits, as a two's complement.
+    ///
+    /// # Errors
+    ///
+    /// `Checked(ExcessiveBits)` for more bits than the type has, `Checked(ExcessiveValue)` for a
+    /// number that the count does not hold: nothing was written.
+    fn write_signed_counted<C: SignedCount, S: SignedInteger>(
+        &mut self,
+        count: C,
+        value: S,
+    ) -> Result<(), Error>
+        ensures writes { Writes sink (signed sink.order S.BITS_SIZE (C.number count) (S.integer value))
+            self.old result self.new };
+
+    /// Whether the sink has not failed, and a multiple of 8 bits was written.
+    fn byte_aligned(&self) -> bool
+        ensures aligned { IsTrue result ↔ ((sink.failed self.now ≡ false) × (sink.len self.now % 8 ≡ 0)) };
+
+    /// Whether so many bits more are within the sink's limit. Always true of a writer.
+    fn has_room(&self, bits: u128) -> bool
+        ensures room { IsTrue result ↔ IsWithin sink.limit (sink.len self.now + bits) };
+
+    /// Writes a number in so many bits, as [`write_unsigned_counted`](BitWrite::write_unsigned_counted).
+    fn write_unsigned_var<U: UnsignedInteger>(&mut self, bits: u32, value: U) -> Result<(), Error>
+        ensures writes { Writes sink (unsigned sink.order U.BITS_SIZE bits (U.value value)) self.old result self.new }
+    {
+        self.write_unsigned_counted(BitCount::unknown(bits), value)
+    }
+
+    /// As [`write_unsigned_var`](BitWrite::write_unsigned_var), with as many bits as B says.
+    fn write_unsigned<B: Width, U: UnsignedInteger>(&mut self, value: U) -> Result<(), Error>
+        requires { B.BITS ≤ U.BITS_SIZE }
+        ensures writes { Writes sink (unsigned sink.order U.BITS_SIZE B.BITS (U.value value)) self.old result self.new }
+    {
+        self.write_unsigned_var(B::BITS, value)
+    }
+
+    /// Writes a signed number in so many bits, as a two's complement.
+    ///
+    /// # Errors
+    ///
+    /// `NoSignBit` at 0 bits, and else as [`write_signed_counted`](BitWrite::write_signed_counted).
+    fn write_signed_var<S: SignedInteger>(&mut self, bits: u32, value: S) -> Result<(), Error>
+        ensures writes { Writes sink (signed sink.order S.BITS_SIZE bits (S.integer value)) self.old result self.new }
+    {
+        match BitCount::unknown(bits).signed_count() {
+            Some(count) => self.write_signed_counted(count, value),
+            None => {
+                self.write_unsigned_var(0, 0u8)?;
+                Err(Error::NoSignBit)
+            }
+        }
+    }
+
+    /// As [`write_signed_var`](BitWrite::write_signed_var), with as many bits as B says.
+    fn write_signed<B: Width, S: SignedInteger>(&mut self, value: S) -> Result<(), Error>
+        requires some { 1 ≤ B.BITS }
+        requires within { B.BITS ≤ S.BITS_SIZE }
+        ensures writes { Writes sink (signed sink.order S.BITS_SIZE B.BITS (S.integer value)) self.old result self.new }
+    {
+        self.write_signed_var(B::BITS, value)
+    }
+
+    /// Writes the number that V says in as many bits as B says.
+    fn write_const<B: Width, V: Width>(&mut self) -> Result<(), Error>
+        requires word { B.BITS ≤ 32 }
+        requires value { (V.BITS < 2 ^ B.BITS) ⊎ (B.BITS ≡ 0) }
+        ensures writes { Writes sink (plain (word sink.order B.BITS V.BITS)) self.old result self.new }
+    {
+        self.write_unsigned::<B, u32>(V::BITS)
+    }
+
+    /// Writes a count in as few bits as its greatest number takes.
+    fn write_count<C: Count>(&mut self, count: C) -> Result<(), Error>
+        requires { 0 < C.MAX }
+        ensures writes { Writes sink (count_entry sink.order C.MAX (C.number count)) self.old result self.new }
+    {
+        self.write_unsigned_var(count_bits(C::MAX), count.bits())
+    }
+
+    /// Writes one bit.
+    fn write_bit(&mut self, bit: bool) -> Result<(), Error>
+        ensures writes { Writes sink (one_bit bit) self.old result self.new }
+    {
+        self.write_unsigned_var(1, u8::from(bit))
+    }
+
+    /// Writes zeros up to a multiple of 8 bits.
+    ///
+    /// # Errors
+    ///
+    /// `CounterOverflow` where they pass the sink's limit: none was written then.
+    fn byte_align(&mut self) -> Result<(), Error>
+        ensures writes { Writes sink align self.old result self.new }
+    {
+        self.write_unsigned_var(0, 0u8)?;
+        if !self.byte_aligned() && !self.has_room(7) {
+            return Err(Error::CounterOverflow);
+        }
+        while !self.byte_aligned() {
+            self.write_bit(false)?;
+        }
+        Ok(())
+    }
+
+    /// The sink by reference, for a function that takes a sink by value.
+    fn by_ref(&mut self) -> &mut Self
+    where
+        Self: Sized,
+        ensures same_reference { result.ghost_name ≡ self.entry.ghost_name }
+        ensures same_value { result.now ≡ self.old }
+    {
+        self
+    }
+}
+
+impl<W: BitWrite> BitWrite for &mut W {
+    ghost use Rattle.bitstream_stream.specs.Sink.{lent_sink};
+
+    ghost sink = { lent_sink W.sink };
+
+    fn write_unsigned_counted<C: Count, U: UnsignedInteger>(
+        &mut self,
+        count: C,
+        value: U,
+    ) -> Result<(), Error> {
+        (**self).write_unsigned_counted(count, value)
+    }
+
+    fn write_signed_counted<C: SignedCount, S: SignedInteger>(
+        &mut self,
+        count: C,
+        value: S,
+    ) -> Result<(), Error> {
+        (**self).write_signed_counted(count, value)
+    }
+
+    fn byte_aligned(&self) -> bool {
+        (**self).byte_aligned()
+    }
+
+    fn has_room(&self, bits: u128) -> bool {
+        (**self).has_room(bits)
+    }
+
+    fn write_unsigned_var<U: UnsignedInteger>(&mut self, bits: u32, value: U) -> Result<(), Error> {
+        (**self).write_unsigned_var(bits, value)
+    }
+
+    fn write_unsigned<B: Width, U: UnsignedInteger>(&mut self, value: U) -> Result<(), Error> {
+        (**self).write_unsigned::<B, U>(value)
+    }
+
+    fn write_signed_var<S: SignedInteger>(&mut self, bits: u32, value: S) -> Result<(), Error> {
+        (**self).write_signed_var(bits, value)
+    }
+
+    fn write_signed<B: Width, S: SignedInteger>(&mut self, value: S) -> Result<(), Error> {
+        (**self).write_signed::<B, S>(value)
+    }
+
+    fn write_const<B: Width, V: Width>(&mut self) -> Result<(), Error> {
+        (**self).write_const::<B, V>()
+    }
+
+    fn write_count<C: Count>(&mut self, count: C) -> Result<(), Error> {
+        (**self).write_count(count)
+    }
+
+    fn write_bit(&mut self, bit: bool) -> Result<(), Error> {
+        (**self).write_bit(bit)
+    }
+
+    fn byte_align(&mut self) -> Result<(), Error> {
+        (**self).byte_align()
+    }
+}

@@ -1,0 +1,192 @@
+//! The writer of bits to a stream of bytes.
+ghost use Rattle.std.specs.Prelude.{◌≡◌, ℕ, ◌<◌, ◌≤◌, ◌^◌, false, true};
+
+use crate::check::{check, check_signed};
+use crate::write::BitWrite;
+use bitstream_count::count::{BitCount, Count, SignedCount};
+use bitstream_count::error::Error;
+use bitstream_number::number::{Numeric, SignedInteger, UnsignedInteger, Width};
+use bitstream_order::order::Endianness;
+use bitstream_order::port::Port;
+use bitstream_order::send::send_front;
+use bitstream_order::sign::complement;
+use bitstream_order::target::Target;
+use std::marker::PhantomData;
+
+/// Writes bits to a stream of bytes.
+///
+/// The bits of the last byte, while they are fewer than 8, wait in the writer. Each byte is handed
+/// on as soon as it is whole; what still waits when the writer is dropped is lost, so a caller
+/// aligns first.
+///
+/// # Examples
+///
+/// ```
+/// let mut bytes = Vec::new(rt.alloc());
+/// let mut writer = BitWriter::<_, BE>::new(&mut bytes);
+/// writer.write_unsigned::<Bits<4>, u8>(0xb)?;
+/// writer.write_signed_var::<i8>(4, -3)?;
+/// writer.write_bit(true)?;
+/// writer.byte_align()?;
+/// let _ = writer;
+/// assert_eq!(rt; bytes.as_slice(), [0xbd, 0x80].as_slice());
+/// ```
+#[derive(Drop)]
+pub struct BitWriter<W, E> {
+    port: Port<W>,
+    queue: u8,
+    queued: u32,
+    failed: bool,
+    order: PhantomData<E>,
+    ghost few: { queued < 8 },
+    ghost small: { queue < 2 ^ queued },
+    ghost empty: { failed ≡ true → queued ≡ 0 },
+}
+
+impl<W: Target, E: Endianness> BitWriter<W, E> {
+    ghost use Rattle.bitstream_number.specs.Word.{word};
+    ghost use Rattle.bitstream_order.specs.Refusal.{MayReject};
+    ghost use Rattle.bitstream_stream.specs.Writer.{writer_state, fresh_writer, AsksForWord, Pushes};
+
+    /// A writer to a stream to which it handed nothing on yet.
+    pub fn new(stream: W) -> BitWriter<W, E>
+        ensures { writer_state W.held W.places result ≡ fresh_writer (W.held stream) (W.places stream) }
+    {
+        BitWriter {
+            port: Port::new(stream),
+            queue: 0,
+            queued: 0,
+            failed: false,
+            order: PhantomData,
+        }
+    }
+
+    /// A writer as [`new`](BitWriter::new) makes it, with its order as an argument.
+    pub fn endian(stream: W, _order: E) -> BitWriter<W, E>
+    where
+        E: Drop,
+        ensures { writer_state W.held W.places result ≡ fresh_writer (W.held stream) (W.places stream) }
+    {
+        BitWriter::new(stream)
+    }
+
+    /// Writes the n lowest bits of a value.
+    fn push<U: UnsignedInteger>(&mut self, value: U, n: u32) -> Result<(), Error>
+        requires sound { self.old.failed ≡ false }
+        requires room { n ≤ U.BITS_SIZE }
+        ensures pushes { Pushes (MayReject W.refuses) E.order (word E.order n (U.value value))
+            (writer_state W.held W.places self.old) result (writer_state W.held W.places self.new) }
+        ensures asks { AsksForWord n self.old self.new }
+    {
+        if self.queued + n < 8 {
+            let part = E::cut(value, n, 0, n);
+            self.queue = E::put::<u8>(self.queue, self.queued, part, n);
+            self.queued += n;
+            return Ok(());
+        }
+        match send_front::<W, E, U>(&mut self.port, self.queue, self.queued, value, n) {
+            Ok(gone) => {
+                self.queue = E::cut(value, n, gone, n - gone);
+                self.queued = n - gone;
+                Ok(())
+            }
+            Err(error) => {
+                self.queue = 0;
+                self.queued = 0;
+                self.failed = true;
+                Err(error)
+            }
+        }
+    }
+}
+
+impl<W: Target, E: Endianness> BitWrite for BitWriter<W, E> {
+    ghost use Rattle.bitstream_stream.specs.Writer.{writer_sink, AsksForWord};
+    ghost use Rattle.bitstream_stream.specs.Sink.{Writes};
+    ghost use Rattle.bitstream_stream.specs.WriteTable.{unsigned, signed, bit as one_bit};
+
+    ghost sink = { writer_sink W.held W.refuses W.places E.order };
+
+    fn write_unsigned_counted<C: Count, U: UnsignedInteger>(
+        &mut self,
+        count: C,
+        value: U,
+    ) -> Result<(), Error>
+        ensures writes { Writes ⟦<BitWriter<W, E> as BitWrite>⟧.sink (unsigned E.order U.BITS_SIZE (C.number count) (U.value value))
+            self.old result self.new }
+        ensures asks { AsksForWord (C.number count) self.old self.new }
+    {
+        if self.failed {
+            return Err(Error::Failed);
+        }
+        let bits = count.bits();
+        check(bits, value)?;
+        self.push(value, bits)
+    }
+
+    fn write_signed_counted<C: SignedCount, S: SignedInteger>(
+        &mut self,
+        count: C,
+        value: S,
+    ) -> Result<(), Error>
+        ensures writes { Writes ⟦<BitWriter<W, E> as BitWrite>⟧.sink (signed E.order S.BITS_SIZE (C.number count) (S.integer value))
+            self.old result self.new }
+        ensures asks { AsksForWord (C.number count) self.old self.new }
+    {
+        self.write_signed_var(count.bits(), value)
+    }
+
+    fn write_unsigned_var<U: UnsignedInteger>(&mut self, bits: u32, value: U) -> Result<(), Error>
+        ensures writes { Writes ⟦<BitWriter<W, E> as BitWrite>⟧.sink (unsigned E.order U.BITS_SIZE bits (U.value value))
+            self.old result self.new }
+        ensures asks { AsksForWord bits self.old self.new }
+    {
+        self.write_unsigned_counted(BitCount::unknown(bits), value)
+    }
+
+    fn write_unsigned<B: Width, U: UnsignedInteger>(&mut self, value: U) -> Result<(), Error>
+        ensures writes { Writes ⟦<BitWriter<W, E> as BitWrite>⟧.sink (unsigned E.order U.BITS_SIZE B.BITS (U.value value))
+            self.old result self.new }
+        ensures asks { AsksForWord B.BITS self.old self.new }
+    {
+        self.write_unsigned_var(B::BITS, value)
+    }
+
+    fn write_signed_var<S: SignedInteger>(&mut self, bits: u32, value: S) -> Result<(), Error>
+        ensures writes { Writes ⟦<BitWriter<W, E> as BitWrite>⟧.sink (signed E.order S.BITS_SIZE bits (S.integer value))
+            self.old result self.new }
+        ensures asks { AsksForWord bits self.old self.new }
+    {
+        if self.failed {
+            return Err(Error::Failed);
+        }
+        check_signed(bits, value)?;
+        self.push(complement(value, bits), bits)
+    }
+
+    fn write_signed<B: Width, S: SignedInteger>(&mut self, value: S) -> Result<(), Error>
+        ensures writes { Writes ⟦<BitWriter<W, E> as BitWrite>⟧.sink (signed E.order S.BITS_SIZE B.BITS (S.integer value))
+            self.old result self.new }
+        ensures asks { AsksForWord B.BITS self.old self.new }
+    {
+        self.write_signed_var(B::BITS, value)
+    }
+
+    fn write_bit(&mut self, bit: bool) -> Result<(), Error>
+        ensures writes { Writes ⟦<BitWriter<W, E> as BitWrite>⟧.sink (one_bit bit) self.old result self.new }
+        ensures asks { AsksForWord 1 self.old self.new }
+    {
+        if self.failed {
+            return Err(Error::Failed);
+        }
+        self.push(u8::from(bit), 1)
+    }
+
+    fn byte_aligned(&self) -> bool {
+        !self.failed && self.queued == 0
+    }
+
+    fn has_room(&self, _bits: u128) -> bool {
+        true
+    }
+}
