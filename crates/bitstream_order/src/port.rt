@@ -95,7 +95,8 @@ impl<S> Port<S> {
 impl<S: Source> Port<S> {
     /// Makes one request, which fills the buffer.
     pub fn fetch(&mut self, buf: &mut [u8]) -> Result<(), Error>
-        ensures fetches { Fetches (MayRefuse S.known S.refuses) (port_state S.known S.places self.old) buf.new result (port_state S.known S.places self.new) }
+        ensures fetches { Fetches (MayRefuse S.known S.refuses)
+            (port_state S.known S.places self.old) buf.new result (port_state S.known S.places self.new) }
     {
         let before = Snapshot::of(&self.stream);
         self.requests.add(1);
@@ -115,7 +116,8 @@ impl<S: Source> Port<S> {
 impl<S: Target> Port<S> {
     /// Makes one request, which hands the bytes on.
     pub fn send(&mut self, bytes: &[u8]) -> Result<(), Error>
-        ensures { Sends (MayReject S.refuses) (port_state S.held S.places self.old) bytes.now result (port_state S.held S.places self.new) }
+        ensures { Sends (MayReject S.refuses)
+            (port_state S.held S.places self.old) bytes.now result (port_state S.held S.places self.new) }
     {
         let before = Snapshot::of(&self.stream);
         self.requests.add(1);

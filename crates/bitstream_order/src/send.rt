@@ -2,7 +2,7 @@
 ghost use Rattle.std.specs.Prelude.{◌≡◌, ℕ, ◌+◌, ◌-◌, ◌*◌, ◌^◌, ◌<◌, ◌≤◌, ◌++◌, ◌⊎◌, length, IfOk};
 ghost use Rattle.bitstream_order.specs.Refusal.{MayReject};
 ghost use Rattle.bitstream_number.specs.Word.{word};
-ghost use Rattle.bitstream_order.specs.Port.{port_state};
+ghost use Rattle.bitstream_order.specs.Port.{port_state, requests_count};
 ghost use Rattle.bitstream_order.specs.Pass.{PassesMore, PassesFront};
 
 use crate::order::Endianness;
@@ -22,9 +22,10 @@ pub fn pour<T: Target, E: Endianness, U: UnsignedInteger>(
     buf: &mut [u8],
 ) -> Result<u32, Error>
     requires { at + 8 * length buf.old ≤ n }
-    ensures passes { PassesMore (MayReject T.refuses) E.order (word E.order n (U.value value)) at (port_state T.held T.places port.old) result (port_state T.held T.places port.new) }
+    ensures passes { PassesMore (MayReject T.refuses) E.order (word E.order n (U.value value)) at
+        (port_state T.held T.places port.old) result (port_state T.held T.places port.new) }
     ensures gone { IfOk result (λ done. done ≡ at + 8 * length buf.old) }
-    ensures requests { (port_state T.held T.places port.new).requests ≡ (port_state T.held T.places port.old).requests + 1 }
+    ensures requests { requests_count port.new ≡ requests_count port.old + 1 }
 {
     scatter::<E, U>(value, n, at, buf);
     match port.send(buf) {
@@ -43,11 +44,12 @@ pub fn send_whole<T: Target, E: Endianness, U: UnsignedInteger>(
 ) -> Result<u32, Error>
     requires within { at ≤ n }
     requires room { n ≤ U.BITS_SIZE }
-    ensures passes { PassesMore (MayReject T.refuses) E.order (word E.order n (U.value value)) at (port_state T.held T.places port.old) result (port_state T.held T.places port.new) }
+    ensures passes { PassesMore (MayReject T.refuses) E.order (word E.order n (U.value value)) at
+        (port_state T.held T.places port.old) result (port_state T.held T.places port.new) }
     ensures within { IfOk result (λ done. done ≤ n) }
     ensures rest { IfOk result (λ done. n < done + 8) }
-    ensures requests { (port_state T.held T.places port.new).requests ≤ (port_state T.held T.places port.old).requests + 1 }
-    ensures none { n < at + 8 → (port_state T.held T.places port.new).requests ≡ (port_state T.held T.places port.old).requests }
+    ensures requests { requests_count port.new ≤ requests_count port.old + 1 }
+    ensures none { n < at + 8 → requests_count port.new ≡ requests_count port.old }
 {
     let count = (n - at) / 8;
     match count {
@@ -76,11 +78,12 @@ pub fn send_first<T: Target, E: Endianness, U: UnsignedInteger>(
     requires few { queued < 8 }
     requires small { queue < 2 ^ queued }
     requires full { 8 ≤ queued + n }
-    ensures passes { PassesFront (MayReject T.refuses) E.order (word E.order queued queue) (word E.order n (U.value value)) (port_state T.held T.places port.old) result (port_state T.held T.places port.new) }
+    ensures passes { PassesFront (MayReject T.refuses) E.order (word E.order queued queue) (word E.order n (U.value value))
+        (port_state T.held T.places port.old) result (port_state T.held T.places port.new) }
     ensures within { IfOk result (λ done. done ≤ n) }
     ensures gone { IfOk result (λ done. (queued ≡ 0) ⊎ (queued + done ≡ 8)) }
-    ensures requests { (port_state T.held T.places port.new).requests ≤ (port_state T.held T.places port.old).requests + 1 }
-    ensures none { queued ≡ 0 → (port_state T.held T.places port.new).requests ≡ (port_state T.held T.places port.old).requests }
+    ensures requests { requests_count port.new ≤ requests_count port.old + 1 }
+    ensures none { queued ≡ 0 → requests_count port.new ≡ requests_count port.old }
 {
     if queued == 0 {
         return Ok(0);
@@ -106,11 +109,12 @@ pub fn send_front<T: Target, E: Endianness, U: UnsignedInteger>(
     requires small { queue < 2 ^ queued }
     requires full { 8 ≤ queued + n }
     requires room { n ≤ U.BITS_SIZE }
-    ensures passes { PassesFront (MayReject T.refuses) E.order (word E.order queued queue) (word E.order n (U.value value)) (port_state T.held T.places port.old) result (port_state T.held T.places port.new) }
+    ensures passes { PassesFront (MayReject T.refuses) E.order (word E.order queued queue) (word E.order n (U.value value))
+        (port_state T.held T.places port.old) result (port_state T.held T.places port.new) }
     ensures within { IfOk result (λ done. done ≤ n) }
     ensures rest { IfOk result (λ done. n < done + 8) }
-    ensures requests { (port_state T.held T.places port.new).requests ≤ (port_state T.held T.places port.old).requests + 2 }
-    ensures one { queued + n < 16 → (port_state T.held T.places port.new).requests ≤ (port_state T.held T.places port.old).requests + 1 }
+    ensures requests { requests_count port.new ≤ requests_count port.old + 2 }
+    ensures one { queued + n < 16 → requests_count port.new ≤ requests_count port.old + 1 }
 {
     match send_first::<T, E, U>(port, queue, queued, value, n) {
         Ok(at) => send_whole::<T, E, U>(port, value, n, at),
