@@ -21,13 +21,15 @@ pub trait BitRead {
     ///
     /// `ReadBits` if the type has fewer bits: nothing is taken then.
     fn read_unsigned_counted<C: Count, U: UnsignedInteger>(&mut self, bits: C) -> Result<U, Error>
-        ensures reads { Reads source (unsigned_entry source.order U.BITS_SIZE (C.number bits)) self.old (seen U.value result) self.new };
+        ensures reads { Reads source (unsigned_entry source.order U.BITS_SIZE (C.number bits))
+            self.old (seen U.value result) self.new };
 
     /// Reads a signed number of so many bits, of which one is the sign.
     ///
     /// `ReadBits` if the type has fewer bits: nothing is taken then.
     fn read_signed_counted<C: SignedCount, S: SignedInteger>(&mut self, bits: C) -> Result<S, Error>
-        ensures reads { Reads source (signed_entry source.order S.BITS_SIZE (C.number bits)) self.old (seen S.integer result) self.new };
+        ensures reads { Reads source (signed_entry source.order S.BITS_SIZE (C.number bits))
+            self.old (seen S.integer result) self.new };
 
     /// Whether the next bit is the first of a byte. Never so of a reader that has failed.
     fn byte_aligned(&self) -> bool
@@ -55,7 +57,8 @@ pub trait BitRead {
     ///
     /// `ReadBits` if the type has fewer bits: nothing is taken then.
     fn read_unsigned_var<U: UnsignedInteger>(&mut self, bits: u32) -> Result<U, Error>
-        ensures reads { Reads source (unsigned_entry source.order U.BITS_SIZE bits) self.old (seen U.value result) self.new }
+        ensures reads { Reads source (unsigned_entry source.order U.BITS_SIZE bits)
+            self.old (seen U.value result) self.new }
     {
         self.read_unsigned_counted(BitCount::unknown(bits))
     }
@@ -63,7 +66,8 @@ pub trait BitRead {
     /// As [`BitRead::read_unsigned_var`], with as many bits as B says.
     fn read_unsigned<B: Width, U: UnsignedInteger>(&mut self) -> Result<U, Error>
         requires { B.BITS ≤ U.BITS_SIZE }
-        ensures reads { Reads source (unsigned_entry source.order U.BITS_SIZE B.BITS) self.old (seen U.value result) self.new }
+        ensures reads { Reads source (unsigned_entry source.order U.BITS_SIZE B.BITS)
+            self.old (seen U.value result) self.new }
     {
         self.read_unsigned_var(B::BITS)
     }
@@ -72,7 +76,8 @@ pub trait BitRead {
     ///
     /// `NoSignBit` at 0 bits, `ReadBits` if the type has fewer bits: nothing is taken then.
     fn read_signed_var<S: SignedInteger>(&mut self, bits: u32) -> Result<S, Error>
-        ensures reads { Reads source (signed_entry source.order S.BITS_SIZE bits) self.old (seen S.integer result) self.new }
+        ensures reads { Reads source (signed_entry source.order S.BITS_SIZE bits)
+            self.old (seen S.integer result) self.new }
     {
         match BitCount::unknown(bits).signed_count() {
             Some(count) => self.read_signed_counted(count),
@@ -87,7 +92,8 @@ pub trait BitRead {
     fn read_signed<B: Width, S: SignedInteger>(&mut self) -> Result<S, Error>
         requires some { 1 ≤ B.BITS }
         requires within { B.BITS ≤ S.BITS_SIZE }
-        ensures reads { Reads source (signed_entry source.order S.BITS_SIZE B.BITS) self.old (seen S.integer result) self.new }
+        ensures reads { Reads source (signed_entry source.order S.BITS_SIZE B.BITS)
+            self.old (seen S.integer result) self.new }
     {
         self.read_signed_var(B::BITS)
     }
@@ -97,7 +103,8 @@ pub trait BitRead {
     fn read_const<B: Width, V: Width, E: From<Error> + Drop>(&mut self, err: E) -> Result<(), E>
         requires word { B.BITS ≤ 32 }
         requires value { (V.BITS < 2 ^ B.BITS) ⊎ (B.BITS ≡ 0) }
-        ensures reads { ReadsConst source E.from_gives (const_entry source.order B.BITS V.BITS) err self.old result self.new }
+        ensures reads { ReadsConst source E.from_gives (const_entry source.order B.BITS V.BITS) err
+            self.old result self.new }
     {
         let value: u32 = self.read_unsigned::<B, u32>()?;
         if value == V::BITS { Ok(()) } else { Err(err) }

@@ -82,7 +82,8 @@ impl<R: Source, E: Endianness> BitReader<R, E> {
         requires fine { self.old.failed ≡ false }
         requires more { self.old.queued < bits }
         requires room { bits ≤ U.BITS_SIZE }
-        ensures reads { Reads ⟦<BitReader<R, E> as BitRead>⟧.source (unsigned_entry E.order U.BITS_SIZE bits) self.old (seen U.value result) self.new }
+        ensures reads { Reads ⟦<BitReader<R, E> as BitRead>⟧.source (unsigned_entry E.order U.BITS_SIZE bits)
+            self.old (seen U.value result) self.new }
         ensures requests { requests_made self.new ≤ requests_made self.old + 2 }
     {
         let queued = self.queued;
@@ -114,7 +115,8 @@ impl<R: Source, E: Endianness> BitRead for BitReader<R, E> {
     ghost source = { reader_source R.known R.refuses R.places E.order };
 
     fn read_unsigned_counted<C: Count, U: UnsignedInteger>(&mut self, bits: C) -> Result<U, Error>
-        ensures reads { Reads ⟦<BitReader<R, E> as BitRead>⟧.source (unsigned_entry E.order U.BITS_SIZE (C.number bits)) self.old (seen U.value result) self.new }
+        ensures reads { Reads ⟦<BitReader<R, E> as BitRead>⟧.source (unsigned_entry E.order U.BITS_SIZE (C.number bits))
+            self.old (seen U.value result) self.new }
         ensures asks { AsksForWord (C.number bits) self.old self.new }
     {
         let bits = bits.bits();
@@ -136,7 +138,8 @@ impl<R: Source, E: Endianness> BitRead for BitReader<R, E> {
     }
 
     fn read_signed_counted<C: SignedCount, S: SignedInteger>(&mut self, bits: C) -> Result<S, Error>
-        ensures reads { Reads ⟦<BitReader<R, E> as BitRead>⟧.source (signed_entry E.order S.BITS_SIZE (C.number bits)) self.old (seen S.integer result) self.new }
+        ensures reads { Reads ⟦<BitReader<R, E> as BitRead>⟧.source (signed_entry E.order S.BITS_SIZE (C.number bits))
+            self.old (seen S.integer result) self.new }
         ensures asks { AsksForWord (C.number bits) self.old self.new }
     {
         let bits = bits.bits();
@@ -145,7 +148,8 @@ impl<R: Source, E: Endianness> BitRead for BitReader<R, E> {
     }
 
     fn read_unsigned_var<U: UnsignedInteger>(&mut self, bits: u32) -> Result<U, Error>
-        ensures reads { Reads ⟦<BitReader<R, E> as BitRead>⟧.source (unsigned_entry E.order U.BITS_SIZE bits) self.old (seen U.value result) self.new }
+        ensures reads { Reads ⟦<BitReader<R, E> as BitRead>⟧.source (unsigned_entry E.order U.BITS_SIZE bits)
+            self.old (seen U.value result) self.new }
         ensures asks { AsksForWord bits self.old self.new }
     {
         self.read_unsigned_counted(BitCount::unknown(bits))

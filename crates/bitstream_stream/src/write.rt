@@ -52,7 +52,8 @@ pub trait BitWrite {
 
     /// Writes a number in so many bits, as [`write_unsigned_counted`](BitWrite::write_unsigned_counted).
     fn write_unsigned_var<U: UnsignedInteger>(&mut self, bits: u32, value: U) -> Result<(), Error>
-        ensures writes { Writes sink (unsigned sink.order U.BITS_SIZE bits (U.value value)) self.old result self.new }
+        ensures writes { Writes sink (unsigned sink.order U.BITS_SIZE bits (U.value value))
+            self.old result self.new }
     {
         self.write_unsigned_counted(BitCount::unknown(bits), value)
     }
@@ -60,7 +61,8 @@ pub trait BitWrite {
     /// As [`write_unsigned_var`](BitWrite::write_unsigned_var), with as many bits as B says.
     fn write_unsigned<B: Width, U: UnsignedInteger>(&mut self, value: U) -> Result<(), Error>
         requires { B.BITS ≤ U.BITS_SIZE }
-        ensures writes { Writes sink (unsigned sink.order U.BITS_SIZE B.BITS (U.value value)) self.old result self.new }
+        ensures writes { Writes sink (unsigned sink.order U.BITS_SIZE B.BITS (U.value value))
+            self.old result self.new }
     {
         self.write_unsigned_var(B::BITS, value)
     }
@@ -71,7 +73,8 @@ pub trait BitWrite {
     ///
     /// `NoSignBit` at 0 bits, and else as [`write_signed_counted`](BitWrite::write_signed_counted).
     fn write_signed_var<S: SignedInteger>(&mut self, bits: u32, value: S) -> Result<(), Error>
-        ensures writes { Writes sink (signed sink.order S.BITS_SIZE bits (S.integer value)) self.old result self.new }
+        ensures writes { Writes sink (signed sink.order S.BITS_SIZE bits (S.integer value))
+            self.old result self.new }
     {
         match BitCount::unknown(bits).signed_count() {
             Some(count) => self.write_signed_counted(count, value),
@@ -86,7 +89,8 @@ pub trait BitWrite {
     fn write_signed<B: Width, S: SignedInteger>(&mut self, value: S) -> Result<(), Error>
         requires some { 1 ≤ B.BITS }
         requires within { B.BITS ≤ S.BITS_SIZE }
-        ensures writes { Writes sink (signed sink.order S.BITS_SIZE B.BITS (S.integer value)) self.old result self.new }
+        ensures writes { Writes sink (signed sink.order S.BITS_SIZE B.BITS (S.integer value))
+            self.old result self.new }
     {
         self.write_signed_var(B::BITS, value)
     }
