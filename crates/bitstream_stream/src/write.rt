@@ -5,6 +5,10 @@ use bitstream_count::error::Error;
 use bitstream_number::number::{SignedInteger, UnsignedInteger, Width};
 
 /// A sink of bits.
+///
+/// After `Stream` and `OutOfMemory` a sink has failed: the bits that waited in it are lost, and each
+/// later call that writes answers `Failed` before any other check, also at a width of 0 bits. After
+/// any other error it is as it was.
 pub trait BitWrite {
     ghost use Rattle.std.specs.Prelude.{◌≡◌, ℕ, ◌+◌, ◌%◌, ◌^◌, ◌<◌, ◌≤◌, ◌↔◌, ◌⊎◌, Bool, true, false, IsTrue};
     ghost use Rattle.bitstream_number.specs.Word.{word};
