@@ -10,30 +10,13 @@ use Rattle.bitstream_count.specs.declared.error.Error.TheVariants.{NonZeroWidth}
 use Rattle.bitstream_count.specs.Entry.{refuses, gives}
 use Rattle.bitstream_number.specs.Word.{Order}
 use Rattle.bitstream_stream.specs.ReadTable.{unsigned_entry}
-use Rattle.bitstream_stream.specs.Reads.{ReaderState, Reads}
+use Rattle.bitstream_stream.specs.Reads.{BitSource, Reads}
 use Rattle.bitstream_stream.specs.Sink.{Sink, WritesAll, Writes}
 use Rattle.bitstream_stream.specs.WriteTable.{unsigned}
 use Rattle.bitstream_stream.proofs.ReadsLemmas.{Reads-chain-ok, Reads-gives, exit}
 use Rattle.bitstream_value.specs.NonZeros.{non_zero_entry, non_zero, if_any, option_entry}
 
 module _ {A : Type 0} (after : ℕ → A) where
-  pub non_zero-stops : (o : Order) (size n : ℕ) {x : Error} {r : Result A Error} {s t : ReaderState} → n < size → IsErrAnd r (λ y. y ≡ x) → Reads (unsigned_entry o size n) s (Err x) t → Reads (non_zero_entry after o size n) s r t
-  unfolding non_zero_entry
-  non_zero-stops o size n {r = r} less h k = rw (lt-ltb n size less) (exit (λ v. gives (after v)) r h k)
-
-  pub non_zero-answers : (o : Order) (size n v : ℕ) (a : A) {s t : ReaderState} → n < size → after v ≡ a → Reads (unsigned_entry o size n) s (Ok v) t → Reads (non_zero_entry after o size n) s (Ok a) t
-  unfolding non_zero_entry
-  non_zero-answers o size n v a {s = s} {t = t} less is h =
-      rw (lt-ltb n size less, ← is) (Reads-chain-ok _ (λ k. gives (after k)) h (Reads-gives (after v) t))
-
-  pub non_zero-refused : (o : Order) (size n : ℕ) {r : Result A Error} {s t : ReaderState} → size ≤ n → Reads (refuses NonZeroWidth) s r t → Reads (non_zero_entry after o size n) s r t
-  unfolding non_zero_entry
-  non_zero-refused o size n wide h = rw (le-ltb n size wide) h
-
-  pub option-stops : (o : Order) (size n : ℕ) {x : Error} {r : Result (Option A) Error} {s t : ReaderState} → IsErrAnd r (λ y. y ≡ x) → Reads (unsigned_entry o size n) s (Err x) t → Reads (option_entry after o size n) s r t
-  unfolding option_entry
-  option-stops o size n {r = r} h k = exit (λ v. gives (if_any after v)) r h k
-
   -- the value of a number, or none of 0
   pub if_any-is : (number : A → ℕ) (v : ℕ) (x : Option A) → ((y : A) → 0 < number y) → ((y : A) (k : ℕ) → number y ≡ k + 1 → after k ≡ y) → MatchOption x (v ≡ 0) (λ y. number y ≡ v) → if_any after v ≡ x
   if_any-is number zero None some law h = refl
@@ -41,7 +24,25 @@ module _ {A : Type 0} (after : ℕ → A) where
   if_any-is number (suc k) None some law h = absurd (omega (arith, h))
   if_any-is number (suc k) (Some y) some law h = ap Some (law y k (h ∙ (let e : suc k ≡ k + 1 = omega arith in e)))
 
-  pub option-answers : (o : Order) (size n v : ℕ) (x : Option A) {s t : ReaderState} → if_any after v ≡ x → Reads (unsigned_entry o size n) s (Ok v) t → Reads (option_entry after o size n) s (Ok x) t
+module _ {A : Type 0} (after : ℕ → A) {R : Type 0} {K : BitSource R} where
+  pub non_zero-stops : (o : Order) (size n : ℕ) {x : Error} {r : Result A Error} {s t : R} → n < size → IsErrAnd r (λ y. y ≡ x) → Reads K (unsigned_entry o size n) s (Err x) t → Reads K (non_zero_entry after o size n) s r t
+  unfolding non_zero_entry
+  non_zero-stops o size n {r = r} less h k = rw (lt-ltb n size less) (exit (λ v. gives (after v)) r h k)
+
+  pub non_zero-answers : (o : Order) (size n v : ℕ) (a : A) {s t : R} → n < size → after v ≡ a → Reads K (unsigned_entry o size n) s (Ok v) t → Reads K (non_zero_entry after o size n) s (Ok a) t
+  unfolding non_zero_entry
+  non_zero-answers o size n v a {s = s} {t = t} less is h =
+      rw (lt-ltb n size less, ← is) (Reads-chain-ok _ (λ k. gives (after k)) h (Reads-gives (after v) t))
+
+  pub non_zero-refused : (o : Order) (size n : ℕ) {r : Result A Error} {s t : R} → size ≤ n → Reads K (refuses NonZeroWidth) s r t → Reads K (non_zero_entry after o size n) s r t
+  unfolding non_zero_entry
+  non_zero-refused o size n wide h = rw (le-ltb n size wide) h
+
+  pub option-stops : (o : Order) (size n : ℕ) {x : Error} {r : Result (Option A) Error} {s t : R} → IsErrAnd r (λ y. y ≡ x) → Reads K (unsigned_entry o size n) s (Err x) t → Reads K (option_entry after o size n) s r t
+  unfolding option_entry
+  option-stops o size n {r = r} h k = exit (λ v. gives (if_any after v)) r h k
+
+  pub option-answers : (o : Order) (size n v : ℕ) (x : Option A) {s t : R} → if_any after v ≡ x → Reads K (unsigned_entry o size n) s (Ok v) t → Reads K (option_entry after o size n) s (Ok x) t
   unfolding option_entry
   option-answers o size n v x {s = s} {t = t} is h = rw (← is) (Reads-chain-ok _ (λ k. gives (if_any after k)) h (Reads-gives (if_any after v) t))
 

@@ -5,18 +5,19 @@ use Rattle.bitstream_count.specs.declared.error.Error.{Error}
 use Rattle.bitstream_count.specs.declared.error.Error.TheVariants.{BoolWidth}
 use Rattle.bitstream_count.specs.Entry.{refuses}
 use Rattle.bitstream_stream.specs.ReadTable.{bit_entry}
-use Rattle.bitstream_stream.specs.Reads.{ReaderState, Reads}
+use Rattle.bitstream_stream.specs.Reads.{BitSource, Reads}
 use Rattle.bitstream_stream.specs.Sink.{Sink, Writes}
 use Rattle.bitstream_stream.specs.WriteTable.{bit}
 use Rattle.bitstream_value.specs.Truths.{truth_entry, truth}
 
-pub truth-bit : (n : ℕ) {r : Result Bool Error} {s t : ReaderState} → n ≡ 1 → Reads bit_entry s r t → Reads (truth_entry n) s r t
-unfolding truth_entry
-truth-bit n one h = rw one h
+module _ {R : Type 0} {K : BitSource R} where
+  pub truth-bit : (n : ℕ) {r : Result Bool Error} {s t : R} → n ≡ 1 → Reads K bit_entry s r t → Reads K (truth_entry n) s r t
+  unfolding truth_entry
+  truth-bit n one h = rw one h
 
-pub truth-refused : (n : ℕ) {r : Result Bool Error} {s t : ReaderState} → n ≢ 1 → Reads (refuses BoolWidth) s r t → Reads (truth_entry n) s r t
-unfolding truth_entry
-truth-refused n other h = rw (ne_eqb n 1 other) h
+  pub truth-refused : (n : ℕ) {r : Result Bool Error} {s t : R} → n ≢ 1 → Reads K (refuses BoolWidth) s r t → Reads K (truth_entry n) s r t
+  unfolding truth_entry
+  truth-refused n other h = rw (ne_eqb n 1 other) h
 
 module _ {S : Type 0} (K : Sink S) where
   pub writes-bit : (n : ℕ) (b : Bool) (r : Result (Unit {0}) Error) (s t : S) → n ≡ 1 → Writes K (bit b) s r t → Writes K (truth n b) s r t

@@ -35,7 +35,7 @@ pub trait Integer: Sized {
     /// Reads a value in as many bits as B says.
     fn read<B: Width, R: BitRead>(reader: &mut R) -> Result<Self, Error>
         requires { IsWidth B.BITS }
-        ensures reads { Reads (reads R.order B.BITS) (R.state reader.old) result (R.state reader.new) }
+        ensures reads { Reads R.source (reads R.source.order B.BITS) reader.old result reader.new }
     {
         Self::read_var(reader, BitCount::unknown(B::BITS))
     }
@@ -48,7 +48,7 @@ pub trait Integer: Sized {
     /// `BoolWidth` for a `bool` in other than 1 bit, `NonZeroWidth` for a `NonZero` in as many bits
     /// as its type has, or more.
     fn read_var<C: Count, R: BitRead>(reader: &mut R, bits: C) -> Result<Self, Error>
-        ensures reads { Reads (reads R.order (C.number bits)) (R.state reader.old) result (R.state reader.new) };
+        ensures reads { Reads R.source (reads R.source.order (C.number bits)) reader.old result reader.new };
 
     /// Writes a value in as many bits as B says.
     fn write<B: Width, W: BitWrite>(self, writer: &mut W) -> Result<(), Error>

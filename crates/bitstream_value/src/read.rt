@@ -23,15 +23,15 @@ pub trait BitReadExt: BitRead {
     /// Reads a value in as many bits as B says.
     fn read<B: Width, I: Integer>(&mut self) -> Result<I, Error>
         requires { I.IsWidth B.BITS }
-        ensures reads { Reads (I.reads Self.order B.BITS) (Self.state self.old) result (Self.state self.new) };
+        ensures reads { Reads Self.source (I.reads Self.source.order B.BITS) self.old result self.new };
 
     /// Reads a value in so many bits. Refused as [`Integer::read_var`] is.
     fn read_var<I: Integer>(&mut self, bits: u32) -> Result<I, Error>
-        ensures reads { Reads (I.reads Self.order bits) (Self.state self.old) result (Self.state self.new) };
+        ensures reads { Reads Self.source (I.reads Self.source.order bits) self.old result self.new };
 
     /// Reads a value in so many bits. Refused as [`Integer::read_var`] is.
     fn read_counted<C: Count, I: Integer>(&mut self, bits: C) -> Result<I, Error>
-        ensures reads { Reads (I.reads Self.order (C.number bits)) (Self.state self.old) result (Self.state self.new) };
+        ensures reads { Reads Self.source (I.reads Self.source.order (C.number bits)) self.old result self.new };
 }
 
 impl<R: BitRead> BitReadExt for R {

@@ -11,7 +11,7 @@ use bitstream_stream::write::BitWrite;
 /// Answers the error, and takes no bits; or `Failed` where the reader has failed.
 pub(crate) fn refuse_read<T, R: BitRead>(reader: &mut R, error: Error) -> Result<T, Error>
     requires { is_run_too_long {A = T} (Err error) ≡ false }
-    ensures reads { Reads (refuses error) (R.state reader.old) result (R.state reader.new) }
+    ensures reads { Reads R.source (refuses error) reader.old result reader.new }
 {
     // A word of no bits is refused where the reader has failed, and only there.
     let _: u8 = reader.read_unsigned_var(0)?;

@@ -51,7 +51,7 @@ fn read_non_zero<N: NonZeroInteger, C: Count, R: BitRead>(
     reader: &mut R,
     bits: C,
 ) -> Result<N, Error>
-    ensures reads { Reads (non_zero_entry N.after R.order N.Base.BITS_SIZE (C.number bits)) (R.state reader.old) result (R.state reader.new) }
+    ensures reads { Reads R.source (non_zero_entry N.after R.source.order N.Base.BITS_SIZE (C.number bits)) reader.old result reader.new }
 {
     if bits.bits() < N::Base::BITS_SIZE {
         let base: N::Base = reader.read_unsigned_counted(bits)?;
