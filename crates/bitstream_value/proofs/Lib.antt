@@ -1,3 +1,4 @@
 pub mod ItemLemmas
 pub mod NonZeroLemmas
+pub mod SureLemmas
 pub mod TruthLemmas

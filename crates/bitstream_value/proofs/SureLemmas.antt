@@ -1,0 +1,96 @@
+-- Values that are a word of so many bits, and what is answered where all bits left are known.
+use Rattle.std.specs.Prelude.{Bool, map}
+use Rattle.std.proofs.Common.{◌≡◌, ℕ, zero, suc, ◌+◌, ◌*◌, ◌<◌, ◌≤◌, List, [], ◌∷◌, ◌++◌, length, take, drop, Some, Result, Ok, Err, refl, sym, ap, ◌∙◌, arith, length-drop}
+use Rattle.std.proofs.Math.Seq.{take-length}
+use Rattle.std.proofs.lemmas.Bool.{le-leb, lt-leb, lt-ltb}
+use Rattle.std.proofs.lemmas.List.{drop-append-le, map-append, nil_from_length, take-append-le}
+use Rattle.std.specs.Borrow.{GName}
+use Rattle.bitstream_count.specs.declared.error.Error.{Error}
+use Rattle.bitstream_count.specs.declared.error.Error.TheVariants.{EndOfInput}
+use Rattle.bitstream_count.specs.Entry.{ReadEntry, Front, TooShort, Takes, word_front, front_then, longer, chain, gives}
+use Rattle.bitstream_number.specs.Word.{Order, number, bits}
+use Rattle.bitstream_number.proofs.WordLemmas.{length-bits}
+use Rattle.bitstream_order.specs.Refusal.{TrueEnds}
+use Rattle.bitstream_stream.specs.ReadTable.{first_bit, unsigned_entry}
+use Rattle.bitstream_stream.specs.Reader.{new_reader_state}
+use Rattle.bitstream_stream.specs.Reads.{BitSource, Reads}
+use Rattle.bitstream_stream.proofs.EntryLemmas.{chain_takes, map_takes}
+use Rattle.bitstream_stream.proofs.SliceLemmas.{new_answer}
+use Rattle.bitstream_stream.proofs.TableLemmas.{unsigned-takes}
+use Rattle.bitstream_value.specs.Items.{items_entry, words}
+use Rattle.bitstream_value.specs.NonZeros.{non_zero_entry, if_any, option_entry}
+use Rattle.bitstream_value.specs.Truths.{truth_entry}
+
+-- a call that takes a word of n bits, and answers g of it
+abbrev pub IsWord : {A : Type 0} → ReadEntry A → ℕ → (List Bool → Result A Error) → Type 0
+IsWord e n g = (p : ℕ) (b : List Bool) → e.reads p b ≡ word_front n g b
+
+-- ---- which calls do
+
+pub unsigned-word : (o : Order) (size n : ℕ) → n ≤ size → IsWord (unsigned_entry o size n) n (λ w. Ok (number o w))
+unsigned-word o size n le p b = rw (unsigned-takes o size n le) refl
+
+pub truth-word : IsWord (truth_entry 1) 1 (λ w. Ok (first_bit w))
+unfolding truth_entry
+truth-word p b = refl
+
+-- a word whose number is then changed
+mapped-word : {A B : Type 0} (e : ReadEntry A) (n : ℕ) (g : List Bool → A) (f : A → B) → IsWord e n (λ w. Ok (g w)) → IsWord (chain e (λ a. gives (f a))) n (λ w. Ok (f (g w)))
+unfolding chain
+mapped-word e n g f h p b = rw (h p b) ((map_takes n g f (λ w. Ok (f (g w))) (λ w _. refl)).reads p b)
+
+pub non_zero-word : {A : Type 0} (after : ℕ → A) (o : Order) (size n : ℕ) → n < size → IsWord (non_zero_entry after o size n) n (λ w. Ok (after (number o w)))
+unfolding non_zero_entry
+non_zero-word after o size n less p b = rw (lt-ltb n size less) (mapped-word (unsigned_entry o size n) n (number o) after (unsigned-word o size n (omega arith)) p b)
+
+pub option-word : {A : Type 0} (after : ℕ → A) (o : Order) (size n : ℕ) → n ≤ size → IsWord (option_entry after o size n) n (λ w. Ok (if_any after (number o w)))
+unfolding option_entry
+option-word after o size n le p b = mapped-word (unsigned_entry o size n) n (number o) (if_any after) (unsigned-word o size n le) p b
+
+-- ---- items
+
+whole : {A : Type 0} (n : ℕ) (l : List A) → length l ≡ n → take n l ≡ l
+whole n l len = ap (λ k. take k l) (sym len) ∙ take-length l
+
+-- one word more
+words-more : (n k : ℕ) (u v : List Bool) → length u ≡ k * n → length v ≡ n → words n (suc k) (u ++ v) ≡ words n k u ++ v ∷ []
+words-more n zero u v lu lv = rw (nil_from_length u (omega arith)) (ap (λ w. w ∷ []) (whole n v lv))
+words-more n (suc k) u v lu lv =
+    let le : n ≤ length u = omega arith in
+    let len : length (drop n u) ≡ k * n = let l = length-drop n u in omega arith in
+    rw (take-append-le n u v le, drop-append-le n u v le) (ap (λ l. take n u ∷ l) (words-more n k (drop n u) v len lv))
+
+front-same : {A B : Type 0} (x : Front A) (f h : ℕ → A → Front B) → ((n : ℕ) (a : A) → f n a ≡ h n a) → front_then x f ≡ front_then x h
+front-same TooShort f h same = refl
+front-same (Takes n (Ok a)) f h same = ap (longer n) (same n a)
+front-same (Takes n (Err d)) f h same = refl
+
+-- so many items, of which each is a word, are one word
+pub items-word : {A : Type 0} (e : ReadEntry A) (n : ℕ) (g : List Bool → A) → IsWord e n (λ w. Ok (g w)) → (k : ℕ) → IsWord (items_entry e k) (k * n) (λ w. Ok (map g (words n k w)))
+unfolding items_entry chain
+items-word e n g h zero p b = let none : zero * n ≡ 0 = omega arith in rw (none, le-leb 0 (length b) (omega arith)) refl
+items-word e n g h (suc k) p b =
+    let item : (m : ℕ) (items : _) → (chain e (λ x. gives (items ++ x ∷ []))).reads (p + m) (drop m b) ≡ word_front n (λ w. Ok (items ++ g w ∷ [])) (drop m b) =
+    λ m items. mapped-word e n g (λ x. items ++ x ∷ []) h (p + m) (drop m b) in
+    let both = chain_takes (k * n) n (λ w. map g (words n k w)) (λ items w. Ok (items ++ g w ∷ [])) (λ w. Ok (map g (words n (suc k) w)))
+    (λ u v lu lv. ap Ok (ap (map g) (words-more n k u v lu lv) ∙ map-append g (words n k u) (v ∷ []))) in
+    let size : suc k * n ≡ k * n + n = omega arith in
+    rw (items-word e n g h k p b, size)
+    (front-same (word_front (k * n) (λ w. Ok (map g (words n k w))) b) _ _ item ∙ both.reads p b)
+
+-- ---- what a new reader answers, over a stream that refuses at true ends alone
+
+module _ {R A : Type 0} {K : BitSource R} {e : ReadEntry A} {r : Result A Error} {s t : R} where
+  -- the bits are there
+  pub word_there : (n : ℕ) (g : List Bool → Result A Error) → IsWord e n g → TrueEnds K.may → (xs : List ℕ) (places : List GName) → K.state s ≡ new_reader_state (Some xs) places → Reads K e s r t → n ≤ 8 * length xs
+      → r ≡ g (take n (bits K.order xs))
+  word_there n g word ends xs places new h enough =
+      let le : n ≤ length (bits K.order xs) = let len = length-bits K.order xs in omega arith in
+      new_answer ends xs places new h ∙ rw (word 0 (bits K.order xs), le-leb n (length (bits K.order xs)) le) refl
+
+  -- they are not
+  pub word_short : (n : ℕ) (g : List Bool → Result A Error) → IsWord e n g → TrueEnds K.may → (xs : List ℕ) (places : List GName) → K.state s ≡ new_reader_state (Some xs) places → Reads K e s r t → 8 * length xs < n
+      → r ≡ Err EndOfInput
+  word_short n g word ends xs places new h few =
+      let less : length (bits K.order xs) < n = let len = length-bits K.order xs in omega arith in
+      new_answer ends xs places new h ∙ rw (word 0 (bits K.order xs), lt-leb n (length (bits K.order xs)) less) refl
