@@ -6,7 +6,7 @@
 //!
 //! ```
 //! let bytes = [0xbe, 0xff, 0xff, 0x80];
-//! let mut reader = BitReader::<_, BE>::new(&bytes[..]);
+//! let mut reader = BitReader::<_, BE>::new(Slice::new(&bytes));
 //! let kind = reader.read::<Bits<3>, u8>()?;
 //! let level = reader.read::<Bits<5>, i8>()?;
 //! let size: u32 = reader.read_var(17)?;
@@ -48,6 +48,8 @@ pub mod order {
 /// Reading bits.
 pub mod read {
     pub use bitstream_order::lent::Lent;
+    pub use bitstream_order::seek::SeekSource;
+    pub use bitstream_order::slice::Slice;
     pub use bitstream_order::source::Source;
     pub use bitstream_stream::read::BitRead;
     pub use bitstream_stream::reader::BitReader;
@@ -72,5 +74,5 @@ pub use error::Error;
 pub use integer::Integer;
 pub use number::{Bits, Buffer, Numeric, Primitive, SignedInteger, UnsignedInteger, Width};
 pub use order::{BE, BigEndian, Endianness, LE, LittleEndian};
-pub use read::{BitRead, BitReadExt, BitReader, Lent, Source};
+pub use read::{BitRead, BitReadExt, BitReader, Lent, SeekSource, Slice, Source};
 pub use write::{BitWrite, BitWriteExt, BitWriter, Target};
