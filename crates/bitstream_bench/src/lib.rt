@@ -1,4 +1,5 @@
-//! Streams for tests: one that drips, one that refuses, one that counts and one that never ends.
+//! Streams for tests: one that drips, one that refuses, one that counts and one that never ends. And
+//! functions over bytes in memory, whose contracts tell all that they answer.
 #![tactic(auto)]
 
 mod count;
@@ -15,6 +16,7 @@ mod numbers;
 #[cfg(test)]
 mod own;
 mod refuse;
+pub mod sure;
 #[cfg(test)]
 mod streams;
 
