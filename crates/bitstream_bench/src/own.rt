@@ -1,5 +1,6 @@
 //! A reader and a writer of a user's own, which give the required calls alone. The other calls mean
 //! what they mean for the library's.
+ghost use Rattle.bitstream_io.specs.Reads.{inner_source};
 ghost use Rattle.bitstream_io.specs.Sink.{inner_sink};
 
 use bitstream_io::{
@@ -15,9 +16,7 @@ struct OwnReader<R> {
 }
 
 impl<R: BitRead> BitRead for OwnReader<R> {
-    ghost order = { R.order };
-
-    ghost state = { λ reader. R.state reader.inner };
+    ghost source = { inner_source (λ reader. reader.inner) R.source };
 
     fn read_unsigned_counted<C: Count, U: UnsignedInteger>(&mut self, bits: C) -> Result<U, Error> {
         self.inner.read_unsigned_counted(bits)
@@ -41,10 +40,6 @@ impl<R: BitRead> BitRead for OwnReader<R> {
     fn fail(&mut self) {
         self.inner.fail()
     }
-
-    ghost demands = { λ reader. R.demands reader.inner };
-
-    ghost holds = { λ reader. R.holds reader.inner };
 }
 
 /// A sink before another, to which it hands each required call.
@@ -74,6 +69,10 @@ impl<W: BitWrite> BitWrite for OwnWriter<W> {
 
     fn byte_aligned(&self) -> bool {
         self.inner.byte_aligned()
+    }
+
+    fn has_room(&self, bits: u128) -> bool {
+        self.inner.has_room(bits)
     }
 }
 

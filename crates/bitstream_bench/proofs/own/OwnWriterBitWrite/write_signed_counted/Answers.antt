@@ -1,6 +1,5 @@
-use Rattle.std.proofs.Common.{false}
 use Rattle.bitstream_io.proofs.SinkLemmas.{inner}
 use Rattle.bitstream_bench.proofs.own.OwnWriterBitWrite.write_signed_counted.Goals as goal
 
 pub returns : goal.returns
-returns g c = record { writes = inner (λ writer. writer.inner) g.W.BitWrite.sink false _ _ _ _ c.write_signed_counted.ensures.writes }
+returns g c = record { writes = inner (λ writer. writer.inner) g.W.BitWrite.sink _ _ _ _ c.write_signed_counted.ensures.writes }
