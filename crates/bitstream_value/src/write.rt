@@ -31,7 +31,8 @@ pub trait BitWriteExt: BitWrite {
 
     /// Writes a value in so many bits. Refused as [`Integer::write_var`] is.
     fn write_counted<C: Count, I: Integer>(&mut self, bits: C, value: I) -> Result<(), Error>
-        ensures writes { WritesAll Self.sink (I.writes Self.sink.order (C.number bits) value) self.old result self.new };
+        ensures writes { WritesAll Self.sink (I.writes Self.sink.order (C.number bits) value)
+            self.old result self.new };
 }
 
 impl<W: BitWrite> BitWriteExt for W {

@@ -1,6 +1,7 @@
 //! Numbers that are not 0, and options of them.
 ghost use Rattle.std.specs.Prelude.{◌≡◌, ℕ, ◌+◌, ◌^◌, ◌<◌, ◌≤◌, [], ◌∷◌, MatchOption};
-ghost use Rattle.std.specs.Int.NonZero.{non_zero_u8_get, non_zero_u16_get, non_zero_u32_get, non_zero_u64_get, non_zero_u128_get};
+ghost use Rattle.std.specs.Int.NonZero.{non_zero_u8_get, non_zero_u16_get, non_zero_u32_get};
+ghost use Rattle.std.specs.Int.NonZero.{non_zero_u64_get, non_zero_u128_get};
 ghost use Rattle.std.proofs.Common.{sym, arith};
 ghost use Rattle.bitstream_stream.specs.Reads.{Reads};
 ghost use Rattle.bitstream_stream.specs.Sink.{WritesAll};
@@ -51,7 +52,8 @@ fn read_non_zero<N: NonZeroInteger, C: Count, R: BitRead>(
     reader: &mut R,
     bits: C,
 ) -> Result<N, Error>
-    ensures reads { Reads R.source (non_zero_entry N.after R.source.order N.Base.BITS_SIZE (C.number bits)) reader.old result reader.new }
+    ensures reads { Reads R.source (non_zero_entry N.after R.source.order N.Base.BITS_SIZE (C.number bits))
+        reader.old result reader.new }
 {
     if bits.bits() < N::Base::BITS_SIZE {
         let base: N::Base = reader.read_unsigned_counted(bits)?;
@@ -67,7 +69,8 @@ fn write_non_zero<N: NonZeroInteger, C: Count, W: BitWrite>(
     writer: &mut W,
     bits: C,
 ) -> Result<(), Error>
-    ensures writes { WritesAll W.sink (non_zero W.sink.order N.Base.BITS_SIZE (C.number bits) (N.number value) ∷ []) writer.old result writer.new }
+    ensures writes { WritesAll W.sink (non_zero W.sink.order N.Base.BITS_SIZE (C.number bits) (N.number value) ∷ [])
+        writer.old result writer.new }
 {
     if bits.bits() < N::Base::BITS_SIZE {
         write_number(value.base() - N::Base::ONE, writer, bits)
