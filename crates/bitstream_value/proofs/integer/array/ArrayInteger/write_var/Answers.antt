@@ -21,8 +21,8 @@ returns-in_err-write_var g c =
     let fits : k < length xs = omega arith in
     record {
       writes = subst (λ (es : List WriteEntry). WritesAll K es c.args.writer.now c.from_residual.result c.write_var.new.writer) (sym (flat_map-split f xs k c.item-item.result fits))
-          (all_append K (flat_map f (take k xs)) (f x ++ flat_map f (drop (k + 1) xs)) _ _ _ _ c.loop-item.invariant
-          (all_stop K (f x) (flat_map f (drop (k + 1) xs)) _ _ _ _ (p.1 ∙ ap Err p.2) c.in_err-write_var.ensures.writes));
+          (all_append K (flat_map f (take k xs)) (f x ++ flat_map f (drop (k + 1) xs)) c.args.writer.now c.loop-item.writer c.from_residual.result c.write_var.new.writer c.loop-item.invariant
+          (all_stop K (f x) (flat_map f (drop (k + 1) xs)) c.loop-item.writer _ c.from_residual.result c.write_var.new.writer (p.1 ∙ ap Err p.2) c.in_err-write_var.ensures.writes));
     }
 
 pub loop-item-preserved : goal.loop-item-preserved
@@ -34,7 +34,7 @@ loop-item-preserved g c =
     let x = get_or xs k c.item-item.result in
     let fits : k < length xs = omega arith in
     subst (λ (es : List WriteEntry). WritesAll K es c.args.writer.now (Ok tt) c.write_var.new.writer) (sym (flat_map-take f xs k c.item-item.result fits))
-    (all_append K (flat_map f (take k xs)) (f x) _ _ _ _ c.loop-item.invariant c.in_ok-write_var.ensures.writes)
+    (all_append K (flat_map f (take k xs)) (f x) c.args.writer.now c.loop-item.writer (Ok tt) c.write_var.new.writer c.loop-item.invariant c.in_ok-write_var.ensures.writes)
 
 pub returns : goal.returns
 returns g c =
