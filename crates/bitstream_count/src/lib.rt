@@ -5,5 +5,3 @@ mod checked_error;
 pub mod count;
 pub mod error;
 pub mod laws;
-#[cfg(test)]
-mod tests;
