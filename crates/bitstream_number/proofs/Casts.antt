@@ -27,8 +27,8 @@ fits_step : (q t v : ℕ) → q ≤ t → 0 < t → q - 1 - v < t
 fits_step q t v h p = omega arith
 
 -- 2 ^ (k - 1) - 1 - v as the code computes it
-pub minus_fits : (w : Width) (v k : ℕ) → 1 ≤ k → k ≤ bit_len w → SFits w (pos (1 * 2 ^ (k - 1) % 2 ^ bit_len w - 1 - v))
-minus_fits w v k some h =
+pub negative_fits : (w : Width) (v k : ℕ) → 1 ≤ k → k ≤ bit_len w → SFits w (pos (1 * 2 ^ (k - 1) % 2 ^ bit_len w - 1 - v))
+negative_fits w v k some h =
     let p = half-le w k some h in
     let top = pow_pos (hbits w) in
     record { sfits = rw p.0 (fits_step (2 ^ (k - 1)) (2 ^ hbits w) v p.1 top) }
@@ -44,15 +44,15 @@ not-is w d h =
     let p = not_step (2 ^ bit_len w) (2 ^ hbits w) d (half-one w) h in
     to_z-high w (2 ^ bit_len w - 1 - d) d p.0 p.1
 
-minus_step : (v q : ℕ) → v < q → negsuc (q - 1 - v) ≡ pos v -ℤ pos q
-minus_step v q h = omega (arith, ints)
+negative_step : (v q : ℕ) → v < q → negsuc (q - 1 - v) ≡ pos v -ℤ pos q
+negative_step v q h = omega (arith, ints)
 
 -- the complement of that
-pub minus-is : (w : Width) (v k : ℕ) → 1 ≤ k → k ≤ bit_len w → v < 2 ^ (k - 1) → to_z w (2 ^ bit_len w - 1 - (1 * 2 ^ (k - 1) % 2 ^ bit_len w - 1 - v)) ≡ pos v -ℤ pos (2 ^ (k - 1))
-minus-is w v k some h below =
+pub negative-is : (w : Width) (v k : ℕ) → 1 ≤ k → k ≤ bit_len w → v < 2 ^ (k - 1) → to_z w (2 ^ bit_len w - 1 - (1 * 2 ^ (k - 1) % 2 ^ bit_len w - 1 - v)) ≡ pos v -ℤ pos (2 ^ (k - 1))
+negative-is w v k some h below =
     let p = half-le w k some h in
     let top = pow_pos (hbits w) in
-    rw p.0 (not-is w (2 ^ (k - 1) - 1 - v) (fits_step (2 ^ (k - 1)) (2 ^ hbits w) v p.1 top) ∙ minus_step v (2 ^ (k - 1)) below)
+    rw p.0 (not-is w (2 ^ (k - 1) - 1 - v) (fits_step (2 ^ (k - 1)) (2 ^ hbits w) v p.1 top) ∙ negative_step v (2 ^ (k - 1)) below)
 
 -- the bits that were read, where r was made of them
 pub cast_back : (w : Width) (n : ℕ) (r : ℤ) → n < 2 ^ bit_len w → r ≡ cast_signed w n → cast_unsigned w (cast_signed w (cast_unsigned w r)) ≡ n

@@ -129,7 +129,7 @@ fn check_unsigned<U: UnsignedInteger>(bits: u32, value: U) -> Result<U, CheckedE
     }
 }
 
-fn minus_one<S: SignedInteger>() -> S
+fn negative_one<S: SignedInteger>() -> S
     ensures { S.integer result ≡ negsuc 0 }
 {
     S::ZERO - S::ONE
@@ -146,7 +146,7 @@ fn check_signed<S: SignedInteger>(bits: u32, value: S) -> Result<S, CheckedError
         return Err(CheckedError::ExcessiveBits);
     }
     let above = value >> (bits - 1);
-    if above == S::ZERO || above == minus_one() {
+    if above == S::ZERO || above == negative_one() {
         Ok(value)
     } else {
         Err(CheckedError::ExcessiveValue)

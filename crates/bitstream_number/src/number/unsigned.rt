@@ -140,9 +140,9 @@ pub trait UnsignedInteger: Numeric {
 
     ghost not_law: { (a r : Self) → Self.not_gives a r → value r ≡ 2 ^ Self.BITS_SIZE - 1 - value a };
 
-    ghost can_minus_law: { (a b : Self) → value b ≤ value a → Self.can_sub a b };
+    ghost can_sub_value_law: { (a b : Self) → value b ≤ value a → Self.can_sub a b };
 
-    ghost minus_law: { (a b r : Self) → Self.sub_gives a b r → value r ≡ value a - value b };
+    ghost sub_value_law: { (a b r : Self) → Self.sub_gives a b r → value r ≡ value a - value b };
 
     ghost can_modulo_law: { (a b : Self) → 0 < value b → Self.can_rem a b };
 

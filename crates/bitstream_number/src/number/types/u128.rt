@@ -204,9 +204,9 @@ impl UnsignedInteger for u128 {
 
     ghost not_law = { λ a r h. h };
 
-    ghost can_minus_law = { λ a b h. h };
+    ghost can_sub_value_law = { λ a b h. h };
 
-    ghost minus_law = { λ a b r h. h };
+    ghost sub_value_law = { λ a b r h. h };
 
     ghost can_modulo_law = { λ a b h. h };
 

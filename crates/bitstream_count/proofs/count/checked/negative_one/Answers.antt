@@ -1,7 +1,7 @@
 use Rattle.std.specs.Prelude.{ℤ, pos, negsuc, ◌-ℤ◌}
 use Rattle.std.proofs.Common.{ap, ap₂, sym, subst, ◌∙◌, ◌≡◌, ◌-◌}
 use Rattle.std.proofs.lemmas.Nat.{pow_pos}
-use Rattle.bitstream_count.proofs.count.checked.minus_one.Goals as goal
+use Rattle.bitstream_count.proofs.count.checked.negative_one.Goals as goal
 
 pub returns : goal.returns
 returns g c =
