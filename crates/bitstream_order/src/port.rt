@@ -2,7 +2,7 @@
 ghost use Rattle.std.specs.Prelude.{◌≡◌, [], ◌∷◌, None};
 ghost use Rattle.std.specs.IoError.{error_kind};
 ghost use Rattle.bitstream_order.specs.Fault.{read_refusal_of, refusal_of};
-ghost use Rattle.bitstream_order.specs.Refusal.{Refusal, MayRefuse, MayReject, bytes_left};
+ghost use Rattle.bitstream_order.specs.Refusal.{Refusal, MayRefuse, MayRefuseSend, bytes_left};
 ghost use Rattle.bitstream_order.specs.Port.{port_state, Fetches, Sends};
 
 use crate::refusals::Refusals;
@@ -14,7 +14,7 @@ use std::io;
 use std::io::ErrorKind;
 use std::snapshot::Snapshot;
 
-/// The one holder of a stream: nothing else asks the stream for bytes or hands bytes on to it.
+/// The one holder of a stream: nothing else asks the stream for bytes or sends bytes to it.
 /// The counts take no bytes when the program runs.
 #[derive(Drop)]
 pub struct Port<S> {
@@ -25,7 +25,7 @@ pub struct Port<S> {
     refusals: Refusals,
 }
 
-/// The error for a write that the stream refused.
+/// Returns the error for a write that the stream refused.
 fn refusal(error: io::Error) -> Error
     ensures { result ≡ refusal_of (error_kind error) }
 {
@@ -35,7 +35,7 @@ fn refusal(error: io::Error) -> Error
     }
 }
 
-/// The error for a read that the stream refused.
+/// Returns the error for a read that the stream refused.
 fn read_refusal(error: io::Error) -> Error
     ensures { result ≡ read_refusal_of (error_kind error) }
 {
@@ -53,13 +53,17 @@ fn note_read<S: Source>(
     _error: &io::Error,
 )
     ghost by: { Refusal }
-    requires { by ≡ record { kind = error_kind _error.now; wanted = _wanted; left = bytes_left (S.known _before.now.value) } }
+    requires { by ≡ record {
+      kind = error_kind _error.now;
+      wanted = _wanted;
+      left = bytes_left (S.remaining _before.now.value);
+    } }
     ensures { refusals.new.list ≡ by ∷ refusals.old.list }
 {
     refusals.push(0);
 }
 
-/// Notes a refused request to hand on bytes.
+/// Notes a refused request to send bytes.
 fn note_write<S: Target>(
     refusals: &mut Refusals,
     _before: &Snapshot<S>,
@@ -74,7 +78,7 @@ fn note_write<S: Target>(
 }
 
 impl<S> Port<S> {
-    /// A port to a stream of which nothing was asked yet.
+    /// Returns a port to a stream of which nothing was asked yet.
     pub fn new(stream: S) -> Port<S>
         ensures stream { result.stream ≡ stream }
         ensures fetched { result.fetched.count ≡ 0 }
@@ -94,13 +98,19 @@ impl<S> Port<S> {
 
 impl<S: Source> Port<S> {
     /// Makes one request, which fills the buffer.
+    ///
+    /// # Errors
+    ///
+    /// `EndOfInput` where the stream refuses with `UnexpectedEof`, `OutOfMemory` where it refuses with
+    /// that kind, and else `Stream` with its kind. No byte is counted as fetched then.
     pub fn fetch(&mut self, buf: &mut [u8]) -> Result<(), Error>
-        ensures fetches { Fetches (MayRefuse S.known S.refuses)
-            (port_state S.known S.places self.old) buf.new result (port_state S.known S.places self.new) }
+        ensures fetches { Fetches (MayRefuse S.remaining S.refuses)
+            (port_state S.remaining S.reference_names self.old) buf.new result
+            (port_state S.remaining S.reference_names self.new) }
     {
         let before = Snapshot::of(&self.stream);
         self.requests.add(1);
-        match self.stream.fill(buf) {
+        match self.stream.read_exact(buf) {
             Ok(()) => {
                 self.fetched.add(buf.len() as u64);
                 Ok(())
@@ -114,14 +124,20 @@ impl<S: Source> Port<S> {
 }
 
 impl<S: Target> Port<S> {
-    /// Makes one request, which hands the bytes on.
+    /// Makes one request, which sends the bytes.
+    ///
+    /// # Errors
+    ///
+    /// `OutOfMemory` where the stream refuses with that kind, and else `Stream` with its kind. No byte
+    /// is counted as sent then.
     pub fn send(&mut self, bytes: &[u8]) -> Result<(), Error>
-        ensures { Sends (MayReject S.refuses)
-            (port_state S.held S.places self.old) bytes.now result (port_state S.held S.places self.new) }
+        ensures { Sends (MayRefuseSend S.refuses)
+            (port_state S.contents S.reference_names self.old) bytes.now result
+            (port_state S.contents S.reference_names self.new) }
     {
         let before = Snapshot::of(&self.stream);
         self.requests.add(1);
-        match self.stream.hand(bytes) {
+        match self.stream.write_all(bytes) {
             Ok(()) => {
                 self.sent.add(bytes.len() as u64);
                 Ok(())

@@ -18,12 +18,15 @@ pub trait SeekSource: Source {
     // All bytes from position 0 on, where the source tells.
     ghost bytes: { Self → Option (List ℕ) };
 
-    /// Makes one request: goes to a place and answers how many bytes lie before it, or refuses and
-    /// stays.
+    /// Makes one request: goes to a place, and returns how many bytes lie before it.
+    ///
+    /// # Errors
+    ///
+    /// The source's own, as [`Seek::seek`] has them. It stays where it was then.
     fn seek(&mut self, to: SeekFrom) -> io::Result<u64>
         ensures moves { SeekMoves (position self.old) (position self.new) (bytes self.old) to result }
         ensures bytes { Keeps (bytes self.old) (bytes self.new) }
-        ensures places { Self.places self.new ≡ Self.places self.old }
+        ensures reference_names { Self.reference_names self.new ≡ Self.reference_names self.old }
         ensures refused { IfErr result (λ e. Self.refuses self.old 0 (error_kind e) self.new) };
 }
 

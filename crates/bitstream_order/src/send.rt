@@ -1,9 +1,9 @@
 //! Words to the bytes of a stream.
 ghost use Rattle.std.specs.Prelude.{◌≡◌, ℕ, ◌+◌, ◌-◌, ◌*◌, ◌^◌, ◌<◌, ◌≤◌, ◌++◌, ◌⊎◌, length, IfOk};
-ghost use Rattle.bitstream_order.specs.Refusal.{MayReject};
+ghost use Rattle.bitstream_order.specs.Refusal.{MayRefuseSend};
 ghost use Rattle.bitstream_number.specs.Word.{word};
 ghost use Rattle.bitstream_order.specs.Port.{port_state, requests_count};
-ghost use Rattle.bitstream_order.specs.Pass.{PassesMore, PassesFront};
+ghost use Rattle.bitstream_order.specs.SendBits.{SendsMore, SendsFront};
 
 use crate::order::Endianness;
 use crate::port::Port;
@@ -12,9 +12,13 @@ use crate::target::Target;
 use bitstream_count::error::Error;
 use bitstream_number::number::{Numeric, UnsignedInteger};
 
-/// Hands on the bits behind the first `at` of the n bits of a value, as many as fill a buffer, and
-/// answers how many of the n have gone then.
-pub fn pour<T: Target, E: Endianness, U: UnsignedInteger>(
+/// Sends the bits behind the first `at` of the n bits of a value, as many as fill a buffer, and
+/// returns how many of the n have gone then.
+///
+/// # Errors
+///
+/// As [`Port::send`]: none of these bits are counted as sent then.
+pub fn send_piece<T: Target, E: Endianness, U: UnsignedInteger>(
     port: &mut Port<T>,
     value: U,
     n: u32,
@@ -22,8 +26,9 @@ pub fn pour<T: Target, E: Endianness, U: UnsignedInteger>(
     buf: &mut [u8],
 ) -> Result<u32, Error>
     requires { at + 8 * length buf.old ≤ n }
-    ensures passes { PassesMore (MayReject T.refuses) E.order (word E.order n (U.value value)) at
-        (port_state T.held T.places port.old) result (port_state T.held T.places port.new) }
+    ensures sends { SendsMore (MayRefuseSend T.refuses) E.order (word E.order n (U.value value)) at
+        (port_state T.contents T.reference_names port.old) result
+        (port_state T.contents T.reference_names port.new) }
     ensures gone { IfOk result (λ done. done ≡ at + 8 * length buf.old) }
     ensures requests { requests_count port.new ≡ requests_count port.old + 1 }
 {
@@ -34,8 +39,12 @@ pub fn pour<T: Target, E: Endianness, U: UnsignedInteger>(
     }
 }
 
-/// Hands on the whole bytes behind the first `at` of the n bits of a value, and answers how many of
-/// the n have gone then: all but fewer than 8.
+/// Sends the whole bytes behind the first `at` of the n bits of a value, and returns how many of the
+/// n have gone then: all but fewer than 8.
+///
+/// # Errors
+///
+/// As [`Port::send`]: none of these bits are counted as sent then.
 pub fn send_whole<T: Target, E: Endianness, U: UnsignedInteger>(
     port: &mut Port<T>,
     value: U,
@@ -44,8 +53,9 @@ pub fn send_whole<T: Target, E: Endianness, U: UnsignedInteger>(
 ) -> Result<u32, Error>
     requires within { at ≤ n }
     requires room { n ≤ U.BITS_SIZE }
-    ensures passes { PassesMore (MayReject T.refuses) E.order (word E.order n (U.value value)) at
-        (port_state T.held T.places port.old) result (port_state T.held T.places port.new) }
+    ensures sends { SendsMore (MayRefuseSend T.refuses) E.order (word E.order n (U.value value)) at
+        (port_state T.contents T.reference_names port.old) result
+        (port_state T.contents T.reference_names port.new) }
     ensures within { IfOk result (λ done. done ≤ n) }
     ensures rest { IfOk result (λ done. n < done + 8) }
     ensures requests { requests_count port.new ≤ requests_count port.old + 1 }
@@ -54,20 +64,24 @@ pub fn send_whole<T: Target, E: Endianness, U: UnsignedInteger>(
     let count = (n - at) / 8;
     match count {
         0 => Ok(at),
-        1 => pour::<T, E, U>(port, value, n, at, &mut [0u8; 1]),
-        2 => pour::<T, E, U>(port, value, n, at, &mut [0u8; 2]),
-        3 => pour::<T, E, U>(port, value, n, at, &mut [0u8; 3]),
-        4 => pour::<T, E, U>(port, value, n, at, &mut [0u8; 4]),
-        8 => pour::<T, E, U>(port, value, n, at, &mut [0u8; 8]),
+        1 => send_piece::<T, E, U>(port, value, n, at, &mut [0u8; 1]),
+        2 => send_piece::<T, E, U>(port, value, n, at, &mut [0u8; 2]),
+        3 => send_piece::<T, E, U>(port, value, n, at, &mut [0u8; 3]),
+        4 => send_piece::<T, E, U>(port, value, n, at, &mut [0u8; 4]),
+        8 => send_piece::<T, E, U>(port, value, n, at, &mut [0u8; 8]),
         _ => {
             let mut buf = [0u8; 16];
-            pour::<T, E, U>(port, value, n, at, &mut buf[..count as usize])
+            send_piece::<T, E, U>(port, value, n, at, &mut buf[..count as usize])
         }
     }
 }
 
-/// Hands on the byte that begins with a queue of bits and goes on with the first of the n bits of a
-/// value, and answers how many of the n have gone then. From an empty queue nothing goes.
+/// Sends the byte that begins with a queue of bits and goes on with the first of the n bits of a
+/// value, and returns how many of the n have gone then. From an empty queue nothing goes.
+///
+/// # Errors
+///
+/// As [`Port::send`]: the byte is not counted as sent then.
 pub fn send_first<T: Target, E: Endianness, U: UnsignedInteger>(
     port: &mut Port<T>,
     queue: u8,
@@ -78,8 +92,10 @@ pub fn send_first<T: Target, E: Endianness, U: UnsignedInteger>(
     requires few { queued < 8 }
     requires small { queue < 2 ^ queued }
     requires full { 8 ≤ queued + n }
-    ensures passes { PassesFront (MayReject T.refuses) E.order (word E.order queued queue) (word E.order n (U.value value))
-        (port_state T.held T.places port.old) result (port_state T.held T.places port.new) }
+    ensures sends { SendsFront (MayRefuseSend T.refuses) E.order
+        (word E.order queued queue) (word E.order n (U.value value))
+        (port_state T.contents T.reference_names port.old) result
+        (port_state T.contents T.reference_names port.new) }
     ensures within { IfOk result (λ done. done ≤ n) }
     ensures gone { IfOk result (λ done. (queued ≡ 0) ⊎ (queued + done ≡ 8)) }
     ensures requests { requests_count port.new ≤ requests_count port.old + 1 }
@@ -96,8 +112,12 @@ pub fn send_first<T: Target, E: Endianness, U: UnsignedInteger>(
     }
 }
 
-/// Hands on as many bytes as a queue of bits makes with the n bits of a value behind it, and answers
-/// how many of the n have gone then: all but fewer than 8. It makes two requests at most.
+/// Sends as many bytes as a queue of bits makes with the n bits of a value behind it, and returns how
+/// many of the n have gone then: all but fewer than 8. It makes two requests at most.
+///
+/// # Errors
+///
+/// As [`Port::send`]: where the second request is refused, the first byte has gone.
 pub fn send_front<T: Target, E: Endianness, U: UnsignedInteger>(
     port: &mut Port<T>,
     queue: u8,
@@ -109,8 +129,10 @@ pub fn send_front<T: Target, E: Endianness, U: UnsignedInteger>(
     requires small { queue < 2 ^ queued }
     requires full { 8 ≤ queued + n }
     requires room { n ≤ U.BITS_SIZE }
-    ensures passes { PassesFront (MayReject T.refuses) E.order (word E.order queued queue) (word E.order n (U.value value))
-        (port_state T.held T.places port.old) result (port_state T.held T.places port.new) }
+    ensures sends { SendsFront (MayRefuseSend T.refuses) E.order
+        (word E.order queued queue) (word E.order n (U.value value))
+        (port_state T.contents T.reference_names port.old) result
+        (port_state T.contents T.reference_names port.new) }
     ensures within { IfOk result (λ done. done ≤ n) }
     ensures rest { IfOk result (λ done. n < done + 8) }
     ensures requests { requests_count port.new ≤ requests_count port.old + 2 }

@@ -12,6 +12,8 @@ use std::io::ErrorKind;
 /// # Examples
 ///
 /// ```
+/// use bitstream_io::{BE, BitRead, BitReader, Error, Slice};
+///
 /// let mut reader = BitReader::<_, BE>::new(Slice::new(&[0xb1, 0xed]));
 /// assert_eq!(rt; reader.read_unsigned_var::<u16>(12)?, 0xb1e);
 /// assert!(rt; matches!(reader.read_unsigned_var::<u8>(8), Err(Error::EndOfInput)));
@@ -22,7 +24,7 @@ pub struct Slice<'a> {
 }
 
 impl<'a> Slice<'a> {
-    /// The bytes of a slice.
+    /// Returns a source of these bytes.
     pub fn new(bytes: &'a [u8]) -> Slice<'a>
         ensures { result.bytes.now ≡ bytes.now }
     {
@@ -31,15 +33,15 @@ impl<'a> Slice<'a> {
 }
 
 impl<'a> Source for Slice<'a> {
-    ghost use Rattle.bitstream_order.specs.Slice.{slice_known, slice_refuses};
+    ghost use Rattle.bitstream_order.specs.Slice.{slice_remaining, slice_refuses};
 
-    ghost known = { slice_known };
+    ghost remaining = { slice_remaining };
 
-    ghost places = { λ _. [] };
+    ghost reference_names = { λ _. [] };
 
     ghost refuses = { slice_refuses };
 
-    fn fill(&mut self, buf: &mut [u8]) -> io::Result<()> {
+    fn read_exact(&mut self, buf: &mut [u8]) -> io::Result<()> {
         let bytes = self.bytes;
         if bytes.len() < buf.len() {
             return Err(io::Error::from(ErrorKind::UnexpectedEof));
