@@ -11,11 +11,11 @@ use Rattle.bitstream_count.specs.declared.error.Error.TheVariants.{EndOfInput, O
 use Rattle.bitstream_count.specs.Entry.{ReadEntry, TooShort, Takes, longer, chain, gives}
 use Rattle.bitstream_number.specs.Word.{Order, bits}
 use Rattle.bitstream_number.proofs.WordLemmas.{bits-append}
-use Rattle.bitstream_order.specs.Draw.{seen}
+use Rattle.bitstream_order.specs.TakeBits.{seen}
 use Rattle.bitstream_order.specs.Fault.{read_refusal_of}
 use Rattle.bitstream_order.specs.Refusal.{Refusal, IsTrueEnd}
 use Rattle.bitstream_stream.proofs.EntryLemmas.{Same, chain-ok, chain-err, chain-none, chain-failed}
-use Rattle.bitstream_stream.specs.Reads.{ReaderState, BitSource, Demands, Holds, Answers, Faults, Starves, ReadOutcome, stays, answers, faults, starves, Reads, ReadsGrowing, TakesBytes, bits_left, is_run_too_long, failing, lent, lent_source}
+use Rattle.bitstream_stream.specs.Reads.{ReaderState, BitSource, Demands, HoldsRest, TakesFront, ReadFault, MemoryFault, ReadOutcome, stays_failed, takes_front, meets_fault, lacks_memory, Reads, ReadsGrowing, TakesBytes, bits_left, is_run_too_long, failing, lent, lent_source}
 
 -- ---- lists
 
@@ -51,7 +51,7 @@ pub record Took (o : Order) (old : ReaderState) (word : List Bool) (new : Reader
   pub fetched : new.fetched ≡ old.fetched + length gone
   pub taken : new.taken ≡ old.taken + length word
   pub refusals : new.refusals ≡ old.refusals
-  pub places : new.places ≡ old.places
+  pub reference_names : new.reference_names ≡ old.reference_names
   pub failed : new.failed ≡ false
 
 pub Took-nil : (o : Order) (s : ReaderState) → s.failed ≡ false → Took o s [] s
@@ -63,7 +63,7 @@ Took-nil o s fine = record {
   fetched = omega arith;
   taken = omega arith;
   refusals = refl;
-  places = refl;
+  reference_names = refl;
   failed = fine;
 }
 
@@ -81,12 +81,12 @@ Took-trans o u v s t z h k = record {
   fetched = let a = h.fetched in let b = k.fetched in let l = length-append h.gone k.gone in omega arith;
   taken = let a = h.taken in let b = k.taken in let l = length-append u v in omega arith;
   refusals = k.refusals ∙ h.refusals;
-  places = k.places ∙ h.places;
+  reference_names = k.reference_names ∙ h.reference_names;
   failed = k.failed;
 }
 
 -- a call that answered with a value took its word
-pub took : {A : Type 0} (o : Order) (e : ReadEntry A) (a : A) (s t : ReaderState) (h : Answers o e s (Ok a) t) → Took o s h.word t
+pub took : {A : Type 0} (o : Order) (e : ReadEntry A) (a : A) (s t : ReaderState) (h : TakesFront o e s (Ok a) t) → Took o s h.word t
 took o e a s t h = record {
   fine = h.fine;
   gone = h.gone;
@@ -95,16 +95,16 @@ took o e a s t h = record {
   fetched = h.fetched;
   taken = h.taken;
   refusals = h.refusals;
-  places = h.places;
+  reference_names = h.reference_names;
   failed = h.failed;
 }
 
 -- a call's word that was taken so is answered
-pub Took-answers : {A : Type 0} (o : Order) (e : ReadEntry A) (a : A) (w : List Bool) (s t : ReaderState) → Took o s w t
+pub Took-takes_front : {A : Type 0} (o : Order) (e : ReadEntry A) (a : A) (w : List Bool) (s t : ReaderState) → Took o s w t
     → ((more : List Bool) → e.reads s.taken (w ++ more) ≡ Takes (length w) (Ok a))
     → ((front : List Bool) (b : Bool) (back : List Bool) → w ≡ front ++ b ∷ back → e.reads s.taken front ≡ TooShort)
-    → Answers o e s (Ok a) t
-Took-answers o e a w s t h decides needs = record {
+    → TakesFront o e s (Ok a) t
+Took-takes_front o e a w s t h decides needs = record {
   fine = h.fine;
   word = w;
   decides = decides;
@@ -117,7 +117,7 @@ Took-answers o e a w s t h decides needs = record {
   fetched = h.fetched;
   taken = h.taken;
   refusals = h.refusals;
-  places = h.places;
+  reference_names = h.reference_names;
   failed = h.failed;
 }
 
@@ -127,7 +127,7 @@ nothing_gone a b p q f g m holds whole le taken demand more = omega arith
 
 -- What the bits held before were, where the rest of them was too few for what came behind a word: they were
 -- too few for the word itself, or they are the word and the bits held now.
-pub Took-held : (o : Order) (w : List Bool) (s t : ReaderState) → Demands s → Holds s → Demands t → Took o s w t
+pub Took-held : (o : Order) (w : List Bool) (s t : ReaderState) → Demands s → HoldsRest s → Demands t → Took o s w t
     → ((b : Bool) × (r : List Bool) × (w ≡ s.held ++ b ∷ r)) ⊎ (s.held ≡ w ++ t.held)
 Took-held o w s t demands holds later h = elim (cut s.held (bits o h.gone) w t.held h.parts) [
   | inl short ↦ inl short
@@ -160,11 +160,11 @@ Behind-needs {e = e} {p = p} {w = w} v h needs front b back parts = elim (cut fr
   | inr behind ↦ ap (λ l. e.reads p l) behind.1 ∙ h.short behind.0 (needs behind.0 b back (sym behind.2))
 ]
 
-pub Answers-behind : {A B : Type 0} (o : Order) (e : ReadEntry A) (d : ReadEntry B) (w : List Bool) (r : Result A Error) (x : Result B Error) (s t z : ReaderState)
-    → Took o s w t → Behind e s.taken w d t.taken → is_run_too_long r ≡ is_run_too_long x → (k : Answers o d t x z)
+pub TakesFront-behind : {A B : Type 0} (o : Order) (e : ReadEntry A) (d : ReadEntry B) (w : List Bool) (r : Result A Error) (x : Result B Error) (s t z : ReaderState)
+    → Took o s w t → Behind e s.taken w d t.taken → is_run_too_long r ≡ is_run_too_long x → (k : TakesFront o d t x z)
     → ((more : List Bool) → e.reads s.taken ((w ++ k.word) ++ more) ≡ Takes (length (w ++ k.word)) r)
-    → Answers o e s r z
-Answers-behind o e d w r x s t z h behind same k decides = record {
+    → TakesFront o e s r z
+TakesFront-behind o e d w r x s t z h behind same k decides = record {
   fine = h.fine;
   word = w ++ k.word;
   decides = decides;
@@ -177,14 +177,14 @@ Answers-behind o e d w r x s t z h behind same k decides = record {
   fetched = let a = h.fetched in let b = k.fetched in let l = length-append h.gone k.gone in omega arith;
   taken = let a = h.taken in let b = k.taken in let l = length-append w k.word in omega arith;
   refusals = k.refusals ∙ h.refusals;
-  places = k.places ∙ h.places;
+  reference_names = k.reference_names ∙ h.reference_names;
   failed = k.failed ∙ sym same;
 }
 
-pub Faults-behind : {A B : Type 0} (o : Order) (may : Refusal → Type 0) (e : ReadEntry A) (d : ReadEntry B) (w : List Bool) (r : Result A Error) (x : Result B Error) (s t z : ReaderState)
-    → Demands s → Holds s → Demands t → Took o s w t → Behind e s.taken w d t.taken → (k : Faults o may d t x z) → r ≡ Err (read_refusal_of k.refusal.kind)
-    → Faults o may e s r z
-Faults-behind o may e d w r x s t z demands holds later h behind k answer = record {
+pub ReadFault-behind : {A B : Type 0} (o : Order) (may : Refusal → Type 0) (e : ReadEntry A) (d : ReadEntry B) (w : List Bool) (r : Result A Error) (x : Result B Error) (s t z : ReaderState)
+    → Demands s → HoldsRest s → Demands t → Took o s w t → Behind e s.taken w d t.taken → (k : ReadFault o may d t x z) → r ≡ Err (read_refusal_of k.refusal.kind)
+    → ReadFault o may e s r z
+ReadFault-behind o may e d w r x s t z demands holds later h behind k answer = record {
   fine = h.fine;
   refusal = k.refusal;
   allowed = k.allowed;
@@ -201,13 +201,13 @@ Faults-behind o may e d w r x s t z demands holds later h behind k answer = reco
       let left = Took-left o w s t h xs known in
       ap (λ l. e.reads s.taken l) left.2 ∙ behind.short (t.held ++ bits o left.0) (k.ended end left.0 left.1);
   refusals = k.refusals ∙ ap (λ l. k.refusal ∷ l) h.refusals;
-  places = k.places ∙ h.places;
+  reference_names = k.reference_names ∙ h.reference_names;
   failed = k.failed;
 }
 
-pub Starves-behind : {A B : Type 0} (o : Order) (e : ReadEntry A) (d : ReadEntry B) (w : List Bool) (r : Result A Error) (x : Result B Error) (s t z : ReaderState)
-    → Took o s w t → Behind e s.taken w d t.taken → r ≡ Err OutOfMemory → Starves o d t x z → Starves o e s r z
-Starves-behind o e d w r x s t z h behind answer k = record {
+pub MemoryFault-behind : {A B : Type 0} (o : Order) (e : ReadEntry A) (d : ReadEntry B) (w : List Bool) (r : Result A Error) (x : Result B Error) (s t z : ReaderState)
+    → Took o s w t → Behind e s.taken w d t.taken → r ≡ Err OutOfMemory → MemoryFault o d t x z → MemoryFault o e s r z
+MemoryFault-behind o e d w r x s t z h behind answer k = record {
   fine = h.fine;
   answer = answer;
   word = w ++ k.word;
@@ -219,15 +219,15 @@ Starves-behind o e d w r x s t z h behind answer k = record {
   fetched = let a = h.fetched in let b = k.fetched in let l = length-append h.gone k.gone in omega arith;
   taken = let a = h.taken in let b = k.taken in let l = length-append w k.word in omega arith;
   refusals = k.refusals ∙ h.refusals;
-  places = k.places ∙ h.places;
+  reference_names = k.reference_names ∙ h.reference_names;
   failed = k.failed;
 }
 
 -- the reader was made to fail behind a word, since memory was refused
-pub Took-starves : {A : Type 0} (o : Order) (e : ReadEntry A) (w : List Bool) (s t z : ReaderState) → Took o s w t → z ≡ failing t
+pub Took-lacks_memory : {A : Type 0} (o : Order) (e : ReadEntry A) (w : List Bool) (s t z : ReaderState) → Took o s w t → z ≡ failing t
     → ((front : List Bool) (b : Bool) (back : List Bool) → w ≡ front ++ b ∷ back → e.reads s.taken front ≡ TooShort)
-    → Starves o e s (Err OutOfMemory) z
-Took-starves o e w s t z h broken needs = rw broken (record {
+    → MemoryFault o e s (Err OutOfMemory) z
+Took-lacks_memory o e w s t z h broken needs = rw broken (record {
   fine = h.fine;
   answer = refl;
   word = w;
@@ -239,7 +239,7 @@ Took-starves o e w s t z h broken needs = rw broken (record {
   fetched = h.fetched;
   taken = h.taken;
   refusals = h.refusals;
-  places = h.places;
+  reference_names = h.reference_names;
   failed = refl;
 })
 
@@ -258,7 +258,7 @@ chain_decides e f p q u v a r first place second more =
     rw (drop_front u (v ++ more), ← place) (second more) in
     rw (append_assoc u v more, here, there, length-append u v) refl
 
-chain-behind : {A B : Type 0} (o : Order) (e : ReadEntry A) (f : A → ReadEntry B) (a : A) (s t : ReaderState) (h : Answers o e s (Ok a) t) → Behind (chain e f) s.taken h.word (f a) t.taken
+chain-behind : {A B : Type 0} (o : Order) (e : ReadEntry A) (f : A → ReadEntry B) (a : A) (s t : ReaderState) (h : TakesFront o e s (Ok a) t) → Behind (chain e f) s.taken h.word (f a) t.taken
 chain-behind o e f a s t h = record {
   needs = λ front b back is. chain-none e f s.taken front (h.needs front b back is);
   short = λ more short.
@@ -271,30 +271,30 @@ chain-behind o e f a s t h = record {
 
 pub Reads-chain-ok : {R A B : Type 0} {K : BitSource R} {grows : Bool} (e : ReadEntry A) (f : A → ReadEntry B) {a : A} {r : Result B Error} {s t z : R}
     → ReadOutcome K grows e s (Ok a) t → ReadOutcome K grows (f a) t r z → ReadOutcome K grows (chain e f) s r z
-Reads-chain-ok e f (stays h) (stays k) = stays (record {
+Reads-chain-ok e f (stays_failed h) (stays_failed k) = stays_failed (record {
   failed = h.failed;
   answer = rw (chain-failed e f, ← h.answer) k.answer;
   same = k.same ∙ h.same;
 })
-Reads-chain-ok e f (stays h) (answers k) = let same = ap (λ (x : ReaderState). x.failed) h.same in let p = h.failed in let q = k.fine in cc
-Reads-chain-ok e f (stays h) (faults k) = let same = ap (λ (x : ReaderState). x.failed) h.same in let p = h.failed in let q = k.fine in cc
-Reads-chain-ok e f (stays h) (starves g k) = let same = ap (λ (x : ReaderState). x.failed) h.same in let p = h.failed in let q = k.fine in cc
-Reads-chain-ok e f (answers h) (stays k) = let p = h.failed in let q = k.failed in cc
-Reads-chain-ok {K = K} e f {a = a} {r = r} {s = s} {t = t} {z = z} (answers h) (answers k) =
-    answers (Answers-behind K.order (chain e f) (f a) h.word r r (K.state s) (K.state t) (K.state z) (took K.order e a (K.state s) (K.state t) h) (chain-behind K.order e f a (K.state s) (K.state t) h) refl k
+Reads-chain-ok e f (stays_failed h) (takes_front k) = let same = ap (λ (x : ReaderState). x.failed) h.same in let p = h.failed in let q = k.fine in cc
+Reads-chain-ok e f (stays_failed h) (meets_fault k) = let same = ap (λ (x : ReaderState). x.failed) h.same in let p = h.failed in let q = k.fine in cc
+Reads-chain-ok e f (stays_failed h) (lacks_memory g k) = let same = ap (λ (x : ReaderState). x.failed) h.same in let p = h.failed in let q = k.fine in cc
+Reads-chain-ok e f (takes_front h) (stays_failed k) = let p = h.failed in let q = k.failed in cc
+Reads-chain-ok {K = K} e f {a = a} {r = r} {s = s} {t = t} {z = z} (takes_front h) (takes_front k) =
+    takes_front (TakesFront-behind K.order (chain e f) (f a) h.word r r (K.state s) (K.state t) (K.state z) (took K.order e a (K.state s) (K.state t) h) (chain-behind K.order e f a (K.state s) (K.state t) h) refl k
     (chain_decides e f (K.state s).taken (K.state t).taken h.word k.word a r h.decides h.taken k.decides))
-Reads-chain-ok {K = K} e f {a = a} {r = r} {s = s} {t = t} {z = z} (answers h) (faults k) =
-    faults (Faults-behind K.order K.may (chain e f) (f a) h.word r r (K.state s) (K.state t) (K.state z) (K.demands s) (K.holds s) (K.demands t)
+Reads-chain-ok {K = K} e f {a = a} {r = r} {s = s} {t = t} {z = z} (takes_front h) (meets_fault k) =
+    meets_fault (ReadFault-behind K.order K.may (chain e f) (f a) h.word r r (K.state s) (K.state t) (K.state z) (K.demands s) (K.holds s) (K.demands t)
     (took K.order e a (K.state s) (K.state t) h) (chain-behind K.order e f a (K.state s) (K.state t) h) k k.answer)
-Reads-chain-ok {K = K} e f {a = a} {r = r} {s = s} {t = t} {z = z} (answers h) (starves g k) =
-    starves g (Starves-behind K.order (chain e f) (f a) h.word r r (K.state s) (K.state t) (K.state z) (took K.order e a (K.state s) (K.state t) h) (chain-behind K.order e f a (K.state s) (K.state t) h) k.answer k)
-Reads-chain-ok e f (faults h) k = let p = h.answer in cc
-Reads-chain-ok e f (starves g h) k = let p = h.answer in cc
+Reads-chain-ok {K = K} e f {a = a} {r = r} {s = s} {t = t} {z = z} (takes_front h) (lacks_memory g k) =
+    lacks_memory g (MemoryFault-behind K.order (chain e f) (f a) h.word r r (K.state s) (K.state t) (K.state z) (took K.order e a (K.state s) (K.state t) h) (chain-behind K.order e f a (K.state s) (K.state t) h) k.answer k)
+Reads-chain-ok e f (meets_fault h) k = let p = h.answer in cc
+Reads-chain-ok e f (lacks_memory g h) k = let p = h.answer in cc
 
 pub Reads-chain-err : {R A B : Type 0} {K : BitSource R} {grows : Bool} (e : ReadEntry A) (f : A → ReadEntry B) {x : Error} {s t : R}
     → ReadOutcome K grows e s (Err x) t → ReadOutcome K grows (chain e f) s (Err x) t
-Reads-chain-err e f (stays h) = stays (record { failed = h.failed; answer = rw (chain-failed e f, ← h.answer) refl; same = h.same })
-Reads-chain-err {K = K} e f {x = x} {s = s} {t = t} (answers h) = answers (record {
+Reads-chain-err e f (stays_failed h) = stays_failed (record { failed = h.failed; answer = rw (chain-failed e f, ← h.answer) refl; same = h.same })
+Reads-chain-err {K = K} e f {x = x} {s = s} {t = t} (takes_front h) = takes_front (record {
   fine = h.fine;
   word = h.word;
   decides = λ more. chain-err e f (K.state s).taken (h.word ++ more) (length h.word) x (h.decides more);
@@ -307,10 +307,10 @@ Reads-chain-err {K = K} e f {x = x} {s = s} {t = t} (answers h) = answers (recor
   fetched = h.fetched;
   taken = h.taken;
   refusals = h.refusals;
-  places = h.places;
+  reference_names = h.reference_names;
   failed = h.failed;
 })
-Reads-chain-err {K = K} e f {s = s} (faults h) = faults (record {
+Reads-chain-err {K = K} e f {s = s} (meets_fault h) = meets_fault (record {
   fine = h.fine;
   refusal = h.refusal;
   allowed = h.allowed;
@@ -321,10 +321,10 @@ Reads-chain-err {K = K} e f {s = s} (faults h) = faults (record {
   few = chain-none e f (K.state s).taken ((K.state s).held ++ bits K.order h.gone) h.few;
   ended = λ end xs known. chain-none e f (K.state s).taken ((K.state s).held ++ bits K.order xs) (h.ended end xs known);
   refusals = h.refusals;
-  places = h.places;
+  reference_names = h.reference_names;
   failed = h.failed;
 })
-Reads-chain-err {K = K} e f {s = s} (starves g h) = starves g (record {
+Reads-chain-err {K = K} e f {s = s} (lacks_memory g h) = lacks_memory g (record {
   fine = h.fine;
   answer = let p = h.answer in cc;
   word = h.word;
@@ -336,13 +336,13 @@ Reads-chain-err {K = K} e f {s = s} (starves g h) = starves g (record {
   fetched = h.fetched;
   taken = h.taken;
   refusals = h.refusals;
-  places = h.places;
+  reference_names = h.reference_names;
   failed = h.failed;
 })
 
 pub Reads-same : {R A : Type 0} {K : BitSource R} {grows : Bool} {d e : ReadEntry A} {r : Result A Error} {s t : R} → Same d e → ReadOutcome K grows d s r t → ReadOutcome K grows e s r t
-Reads-same same (stays h) = stays (record { failed = h.failed; answer = h.answer ∙ same.on_failed; same = h.same })
-Reads-same {K = K} {s = s} same (answers h) = answers (record {
+Reads-same same (stays_failed h) = stays_failed (record { failed = h.failed; answer = h.answer ∙ same.on_failed; same = h.same })
+Reads-same {K = K} {s = s} same (takes_front h) = takes_front (record {
   fine = h.fine;
   word = h.word;
   decides = λ more. sym (same.reads (K.state s).taken (h.word ++ more)) ∙ h.decides more;
@@ -355,10 +355,10 @@ Reads-same {K = K} {s = s} same (answers h) = answers (record {
   fetched = h.fetched;
   taken = h.taken;
   refusals = h.refusals;
-  places = h.places;
+  reference_names = h.reference_names;
   failed = h.failed;
 })
-Reads-same {K = K} {s = s} same (faults h) = faults (record {
+Reads-same {K = K} {s = s} same (meets_fault h) = meets_fault (record {
   fine = h.fine;
   refusal = h.refusal;
   allowed = h.allowed;
@@ -369,10 +369,10 @@ Reads-same {K = K} {s = s} same (faults h) = faults (record {
   few = sym (same.reads (K.state s).taken ((K.state s).held ++ bits K.order h.gone)) ∙ h.few;
   ended = λ end xs known. sym (same.reads (K.state s).taken ((K.state s).held ++ bits K.order xs)) ∙ h.ended end xs known;
   refusals = h.refusals;
-  places = h.places;
+  reference_names = h.reference_names;
   failed = h.failed;
 })
-Reads-same {K = K} {s = s} same (starves g h) = starves g (record {
+Reads-same {K = K} {s = s} same (lacks_memory g h) = lacks_memory g (record {
   fine = h.fine;
   answer = h.answer;
   word = h.word;
@@ -384,7 +384,7 @@ Reads-same {K = K} {s = s} same (starves g h) = starves g (record {
   fetched = h.fetched;
   taken = h.taken;
   refusals = h.refusals;
-  places = h.places;
+  reference_names = h.reference_names;
   failed = h.failed;
 })
 
@@ -396,7 +396,7 @@ none_needed (c ∷ front) b back e = cc
 
 pub Reads-nothing : {R A : Type 0} {K : BitSource R} {grows : Bool} (e : ReadEntry A) (r : Result A Error) (s : R) → (K.state s).failed ≡ false → is_run_too_long r ≡ false
     → ((more : List Bool) → e.reads (K.state s).taken more ≡ Takes 0 r) → ReadOutcome K grows e s r s
-Reads-nothing {K = K} e r s fine short decides = answers (record {
+Reads-nothing {K = K} e r s fine short decides = takes_front (record {
   fine = fine;
   word = [];
   decides = decides;
@@ -409,12 +409,12 @@ Reads-nothing {K = K} e r s fine short decides = answers (record {
   fetched = omega arith;
   taken = omega arith;
   refusals = refl;
-  places = refl;
+  reference_names = refl;
   failed = fine ∙ sym short;
 })
 
 gives-by : {R A : Type 0} {K : BitSource R} {grows : Bool} (a : A) (s : R) (v : Bool) → (K.state s).failed ≡ v → ReadOutcome K grows (gives a) s (Ok a) s
-gives-by a s true h = stays (record { failed = h; answer = refl; same = refl })
+gives-by a s true h = stays_failed (record { failed = h; answer = refl; same = refl })
 gives-by a s false h = Reads-nothing (gives a) (Ok a) s h refl (λ more. refl)
 
 pub Reads-gives : {R A : Type 0} {K : BitSource R} {grows : Bool} (a : A) (s : R) → ReadOutcome K grows (gives a) s (Ok a) s
@@ -435,10 +435,10 @@ pub ruleset reading = (Reads-chain-ok, Reads-chain-err, Reads-gives, exit)
 
 -- a read that asks for no memory is one that may
 pub Reads-growing : {R A : Type 0} {K : BitSource R} {e : ReadEntry A} {r : Result A Error} {s t : R} → Reads K e s r t → ReadsGrowing K e s r t
-Reads-growing (stays h) = stays h
-Reads-growing (answers h) = answers h
-Reads-growing (faults h) = faults h
-Reads-growing (starves g h) = starves refl h
+Reads-growing (stays_failed h) = stays_failed h
+Reads-growing (takes_front h) = takes_front h
+Reads-growing (meets_fault h) = meets_fault h
+Reads-growing (lacks_memory g h) = lacks_memory refl h
 
 -- ---- a stream that refuses at true ends alone
 
@@ -455,17 +455,17 @@ pub record Ended {R A : Type 0} (K : BitSource R) (entry : ReadEntry A) (old : R
   pub answer : result ≡ Err EndOfInput
   pub failed : (K.state new).failed ≡ true
 
-answers_left : {A : Type 0} (o : Order) (e : ReadEntry A) (r : Result A Error) (s t : ReaderState) (h : Answers o e s r t) (xs : List ℕ) → s.bytes ≡ Some xs
+takes_front_left : {A : Type 0} (o : Order) (e : ReadEntry A) (r : Result A Error) (s t : ReaderState) (h : TakesFront o e s r t) (xs : List ℕ) → s.bytes ≡ Some xs
     → (ys : List ℕ) × (t.bytes ≡ Some ys) × (s.held ++ bits o xs ≡ h.word ++ (h.rest ++ bits o ys))
-answers_left o e r s t h xs known =
+takes_front_left o e r s t h xs known =
     let lost = Consumes-known s.bytes t.bytes h.gone xs h.loses known in
     (lost.0, lost.1, ap (λ l. s.held ++ bits o l) lost.2 ∙ ap (λ l. s.held ++ l) (bits-append o h.gone lost.0) ∙ sym (append_assoc s.held (bits o h.gone) (bits o lost.0)) ∙ ap (λ l. l ++ bits o lost.0) h.parts ∙ append_assoc h.word h.rest (bits o lost.0))
 
 pub Reads-sure : {R A : Type 0} {K : BitSource R} {e : ReadEntry A} {r : Result A Error} {s t : R} → ((x : Refusal) → K.may x → IsTrueEnd x) → (xs : List ℕ) → (K.state s).failed ≡ false → (K.state s).bytes ≡ Some xs → Reads K e s r t
     → Told K e s ((K.state s).held ++ bits K.order xs) r t ⊎ Ended K e s ((K.state s).held ++ bits K.order xs) r t
-Reads-sure ends xs fine known (stays h) = let p = h.failed in cc
-Reads-sure {K = K} {e = e} {r = r} {s = s} {t = t} ends xs fine known (answers h) =
-    let left = answers_left K.order e r (K.state s) (K.state t) h xs known in
+Reads-sure ends xs fine known (stays_failed h) = let p = h.failed in cc
+Reads-sure {K = K} {e = e} {r = r} {s = s} {t = t} ends xs fine known (takes_front h) =
+    let left = takes_front_left K.order e r (K.state s) (K.state t) h xs known in
     let behind : drop (length h.word) ((K.state s).held ++ bits K.order xs) ≡ h.rest ++ bits K.order left.0 =
     ap (λ l. drop (length h.word) l) left.2 ∙ drop_front h.word (h.rest ++ bits K.order left.0) in
     inl (record {
@@ -475,10 +475,10 @@ Reads-sure {K = K} {e = e} {r = r} {s = s} {t = t} ends xs fine known (answers h
       taken = h.taken;
       failed = h.failed;
     })
-Reads-sure ends xs fine known (faults h) =
+Reads-sure ends xs fine known (meets_fault h) =
     let end = ends h.refusal h.allowed in
     inr (record { front = h.ended end xs known; answer = h.answer ∙ ap (λ k. Err (read_refusal_of k)) end.kind; failed = h.failed })
-Reads-sure ends xs fine known (starves g h) = cc
+Reads-sure ends xs fine known (lacks_memory g h) = cc
 
 -- a call with a front is answered by it
 pub front_sure : {R A : Type 0} {K : BitSource R} {e : ReadEntry A} {r x : Result A Error} {s t : R} → ((x : Refusal) → K.may x → IsTrueEnd x) → (xs : List ℕ) (n : ℕ) → (K.state s).failed ≡ false → (K.state s).bytes ≡ Some xs
@@ -498,8 +498,8 @@ none_sure {r = r} ends xs fine known none h = elim (Reads-sure ends xs fine know
 
 -- ---- a reader that is seen through a reference
 
-Answers-lent : {A : Type 0} {o : Order} {e : ReadEntry A} {r : Result A Error} {s t : ReaderState} (n : GName) → Answers o e s r t → Answers o e (lent n s) r (lent n t)
-Answers-lent n h = record {
+TakesFront-lent : {A : Type 0} {o : Order} {e : ReadEntry A} {r : Result A Error} {s t : ReaderState} (n : GName) → TakesFront o e s r t → TakesFront o e (lent n s) r (lent n t)
+TakesFront-lent n h = record {
   fine = h.fine;
   word = h.word;
   decides = h.decides;
@@ -512,12 +512,12 @@ Answers-lent n h = record {
   fetched = h.fetched;
   taken = h.taken;
   refusals = h.refusals;
-  places = ap (λ l. n ∷ l) h.places;
+  reference_names = ap (λ l. n ∷ l) h.reference_names;
   failed = h.failed;
 }
 
-Faults-lent : {A : Type 0} {o : Order} {may : Refusal → Type 0} {e : ReadEntry A} {r : Result A Error} {s t : ReaderState} (n : GName) → Faults o may e s r t → Faults o may e (lent n s) r (lent n t)
-Faults-lent n h = record {
+ReadFault-lent : {A : Type 0} {o : Order} {may : Refusal → Type 0} {e : ReadEntry A} {r : Result A Error} {s t : ReaderState} (n : GName) → ReadFault o may e s r t → ReadFault o may e (lent n s) r (lent n t)
+ReadFault-lent n h = record {
   fine = h.fine;
   refusal = h.refusal;
   allowed = h.allowed;
@@ -528,15 +528,15 @@ Faults-lent n h = record {
   few = h.few;
   ended = h.ended;
   refusals = h.refusals;
-  places = ap (λ l. n ∷ l) h.places;
+  reference_names = ap (λ l. n ∷ l) h.reference_names;
   failed = h.failed;
 }
 
 pub Reads-lent : {R A : Type 0} {K : BitSource R} {grows : Bool} {e : ReadEntry A} {r : Result A Error} (s t : MutBor R) → t.ghost_name ≡ s.ghost_name → ReadOutcome K grows e s.now r t.now → ReadOutcome (lent_source K) grows e s r t
-Reads-lent {K = K} s t same (stays h) = stays (record { failed = h.failed; answer = h.answer; same = ap (λ n. lent n (K.state t.now)) same ∙ ap (λ x. lent s.ghost_name x) h.same })
-Reads-lent {K = K} {e = e} {r = r} s t same (answers h) = answers (subst (λ n. Answers K.order e (lent s.ghost_name (K.state s.now)) r (lent n (K.state t.now))) (sym same) (Answers-lent s.ghost_name h))
-Reads-lent {K = K} {e = e} {r = r} s t same (faults h) = faults (subst (λ n. Faults K.order K.may e (lent s.ghost_name (K.state s.now)) r (lent n (K.state t.now))) (sym same) (Faults-lent s.ghost_name h))
-Reads-lent {K = K} s t same (starves g h) = starves g (record {
+Reads-lent {K = K} s t same (stays_failed h) = stays_failed (record { failed = h.failed; answer = h.answer; same = ap (λ n. lent n (K.state t.now)) same ∙ ap (λ x. lent s.ghost_name x) h.same })
+Reads-lent {K = K} {e = e} {r = r} s t same (takes_front h) = takes_front (subst (λ n. TakesFront K.order e (lent s.ghost_name (K.state s.now)) r (lent n (K.state t.now))) (sym same) (TakesFront-lent s.ghost_name h))
+Reads-lent {K = K} {e = e} {r = r} s t same (meets_fault h) = meets_fault (subst (λ n. ReadFault K.order K.may e (lent s.ghost_name (K.state s.now)) r (lent n (K.state t.now))) (sym same) (ReadFault-lent s.ghost_name h))
+Reads-lent {K = K} s t same (lacks_memory g h) = lacks_memory g (record {
   fine = h.fine;
   answer = h.answer;
   word = h.word;
@@ -548,15 +548,15 @@ Reads-lent {K = K} s t same (starves g h) = starves g (record {
   fetched = h.fetched;
   taken = h.taken;
   refusals = h.refusals;
-  places = ap (λ n. n ∷ (K.state t.now).places) same ∙ ap (λ l. s.ghost_name ∷ l) h.places;
+  reference_names = ap (λ n. n ∷ (K.state t.now).reference_names) same ∙ ap (λ l. s.ghost_name ∷ l) h.reference_names;
   failed = h.failed;
 })
 
-pub Reads-places : {R A : Type 0} {K : BitSource R} {grows : Bool} {e : ReadEntry A} {r : Result A Error} {s t : R} → ReadOutcome K grows e s r t → (K.state t).places ≡ (K.state s).places
-Reads-places (stays h) = ap (λ (x : ReaderState). x.places) h.same
-Reads-places (answers h) = h.places
-Reads-places (faults h) = h.places
-Reads-places (starves g h) = h.places
+pub Reads-reference_names : {R A : Type 0} {K : BitSource R} {grows : Bool} {e : ReadEntry A} {r : Result A Error} {s t : R} → ReadOutcome K grows e s r t → (K.state t).reference_names ≡ (K.state s).reference_names
+Reads-reference_names (stays_failed h) = ap (λ (x : ReaderState). x.reference_names) h.same
+Reads-reference_names (takes_front h) = h.reference_names
+Reads-reference_names (meets_fault h) = h.reference_names
+Reads-reference_names (lacks_memory g h) = h.reference_names
 
 -- ---- loops
 
@@ -578,11 +578,11 @@ Begun-took K s w t (inr h) fine = h
 pub Begun-more : {R A : Type 0} {K : BitSource R} {grows : Bool} (d : ReadEntry A) (a : A) (s : R) (w : List Bool) (t z : R) → Begun K s w t → d.on_failed ≡ Err Failed → ReadOutcome K grows d t (Ok a) z
     → (v : List Bool) × ((more : List Bool) → d.reads (K.state t).taken (v ++ more) ≡ Takes (length v) (Ok a)) × Begun K s (w ++ v) z
 unfolding Begun
-Begun-more d a s w t z b failed (stays h) = let p = h.answer in cc
-Begun-more {K = K} d a s w t z b failed (answers h) =
+Begun-more d a s w t z b failed (stays_failed h) = let p = h.answer in cc
+Begun-more {K = K} d a s w t z b failed (takes_front h) =
     (h.word, h.decides, inr (Took-trans K.order w h.word (K.state s) (K.state t) (K.state z) (Begun-took K s w t b h.fine) (took K.order d a (K.state t) (K.state z) h)))
-Begun-more d a s w t z b failed (faults h) = let p = h.answer in cc
-Begun-more d a s w t z b failed (starves g h) = let p = h.answer in cc
+Begun-more d a s w t z b failed (meets_fault h) = let p = h.answer in cc
+Begun-more d a s w t z b failed (lacks_memory g h) = let p = h.answer in cc
 
 begun_failed : {R : Type 0} (K : BitSource R) (s : R) (w : List Bool) (t : R) → Begun K s w t → (K.state t).failed ≡ true → t ≡ s
 unfolding Begun
@@ -595,25 +595,25 @@ pub Reads-behind : {R A B : Type 0} {K : BitSource R} {grows : Bool} (e : ReadEn
     → ((y : Error) → x ≡ Err y → r ≡ Err y) → is_run_too_long r ≡ is_run_too_long x
     → ((v : List Bool) → ((more : List Bool) → d.reads (K.state t).taken (v ++ more) ≡ Takes (length v) x) → (more : List Bool) → e.reads (K.state s).taken ((w ++ v) ++ more) ≡ Takes (length (w ++ v)) r)
     → ReadOutcome K grows d t x z → ReadOutcome K grows e s r z
-Reads-behind {K = K} e d w r x s t z b behind e_failed d_failed passes same decides (stays h) =
+Reads-behind {K = K} e d w r x s t z b behind e_failed d_failed passes same decides (stays_failed h) =
     let here = begun_failed K s w t b h.failed in
-    stays (record {
+    stays_failed (record {
       failed = ap (λ y. (K.state y).failed) (sym here) ∙ h.failed;
       answer = passes Failed (h.answer ∙ d_failed) ∙ sym e_failed;
       same = h.same ∙ ap K.state here;
     })
-Reads-behind {K = K} e d w r x s t z b behind e_failed d_failed passes same decides (answers h) =
-    answers (Answers-behind K.order e d w r x (K.state s) (K.state t) (K.state z) (Begun-took K s w t b h.fine) behind same h (decides h.word h.decides))
-Reads-behind {K = K} e d w r x s t z b behind e_failed d_failed passes same decides (faults h) =
-    faults (Faults-behind K.order K.may e d w r x (K.state s) (K.state t) (K.state z) (K.demands s) (K.holds s) (K.demands t) (Begun-took K s w t b h.fine) behind h (passes (read_refusal_of h.refusal.kind) h.answer))
-Reads-behind {K = K} e d w r x s t z b behind e_failed d_failed passes same decides (starves g h) =
-    starves g (Starves-behind K.order e d w r x (K.state s) (K.state t) (K.state z) (Begun-took K s w t b h.fine) behind (passes OutOfMemory h.answer) h)
+Reads-behind {K = K} e d w r x s t z b behind e_failed d_failed passes same decides (takes_front h) =
+    takes_front (TakesFront-behind K.order e d w r x (K.state s) (K.state t) (K.state z) (Begun-took K s w t b h.fine) behind same h (decides h.word h.decides))
+Reads-behind {K = K} e d w r x s t z b behind e_failed d_failed passes same decides (meets_fault h) =
+    meets_fault (ReadFault-behind K.order K.may e d w r x (K.state s) (K.state t) (K.state z) (K.demands s) (K.holds s) (K.demands t) (Begun-took K s w t b h.fine) behind h (passes (read_refusal_of h.refusal.kind) h.answer))
+Reads-behind {K = K} e d w r x s t z b behind e_failed d_failed passes same decides (lacks_memory g h) =
+    lacks_memory g (MemoryFault-behind K.order e d w r x (K.state s) (K.state t) (K.state z) (Begun-took K s w t b h.fine) behind (passes OutOfMemory h.answer) h)
 
 -- a run that was too long: the reader was then made to fail
 pub Took-too_long : {A : Type 0} (o : Order) (e : ReadEntry A) (w : List Bool) (s t z : ReaderState) → Took o s w t → z ≡ failing t
     → ((more : List Bool) → e.reads s.taken (w ++ more) ≡ Takes (length w) (Err RunTooLong))
     → ((front : List Bool) (b : Bool) (back : List Bool) → w ≡ front ++ b ∷ back → e.reads s.taken front ≡ TooShort)
-    → Answers o e s (Err RunTooLong) z
+    → TakesFront o e s (Err RunTooLong) z
 Took-too_long o e w s t z h broken decides needs = rw broken (record {
   fine = h.fine;
   word = w;
@@ -627,7 +627,7 @@ Took-too_long o e w s t z h broken decides needs = rw broken (record {
   fetched = h.fetched;
   taken = h.taken;
   refusals = h.refusals;
-  places = h.places;
+  reference_names = h.reference_names;
   failed = refl;
 })
 
@@ -640,18 +640,18 @@ Begun-word K s w t (inr h) some = h
 -- ---- what no reader of bits may do
 
 -- a call that finds its front in the bits held back does not fault, in any reader
-pub held_serves : {R A : Type 0} {K : BitSource R} {e : ReadEntry A} {r : Result A Error} (n : ℕ) (x : Result A Error) {s t : R} → (K.state s).failed ≡ false → e.reads (K.state s).taken (K.state s).held ≡ Takes n x → Reads K e s r t
-    → Answers K.order e (K.state s) r (K.state t)
-held_serves n x fine has (stays h) = let p = h.failed in cc
-held_serves n x fine has (answers h) = h
-held_serves n x fine has (faults h) = let none = h.short in cc
-held_serves n x fine has (starves g h) = cc
+pub held_suffice : {R A : Type 0} {K : BitSource R} {e : ReadEntry A} {r : Result A Error} (n : ℕ) (x : Result A Error) {s t : R} → (K.state s).failed ≡ false → e.reads (K.state s).taken (K.state s).held ≡ Takes n x → Reads K e s r t
+    → TakesFront K.order e (K.state s) r (K.state t)
+held_suffice n x fine has (stays_failed h) = let p = h.failed in cc
+held_suffice n x fine has (takes_front h) = h
+held_suffice n x fine has (meets_fault h) = let none = h.short in cc
+held_suffice n x fine has (lacks_memory g h) = cc
 
 -- a call that takes nothing, as one that is refused for its width, answers just that
 pub none_asked : {R A : Type 0} {K : BitSource R} {e : ReadEntry A} {r : Result A Error} (x : Result A Error) {s t : R} → (K.state s).failed ≡ false → ((b : List Bool) → e.reads (K.state s).taken b ≡ Takes 0 x) → Reads K e s r t
     → (r ≡ x) × ((K.state t).taken ≡ (K.state s).taken) × ((K.state t).fetched ≡ (K.state s).fetched) × ((K.state t).refusals ≡ (K.state s).refusals)
 none_asked {K = K} {r = r} x {s = s} {t = t} fine has h =
-    let k = held_serves 0 x fine (has (K.state s).held) h in
+    let k = held_suffice 0 x fine (has (K.state s).held) h in
     let same : Takes 0 x ≡ Takes (length k.word) r = sym (has (k.word ++ [])) ∙ k.decides [] in
     let none : 0 ≡ length k.word = cc in
     let taken : (K.state t).taken ≡ (K.state s).taken = let a = k.taken in omega arith in
@@ -662,8 +662,8 @@ none_asked {K = K} {r = r} x {s = s} {t = t} fine has h =
 least_bytes : (f p g w : ℕ) → f ≡ (p + 7) / 8 → f ≡ 0 + g → p ≡ 0 + w → (8 * g < w + 8) × (w ≤ 8 * g)
 least_bytes f p g w demand fetched taken = (omega arith, omega arith)
 
-Answers-taken : {A : Type 0} (o : Order) (e : ReadEntry A) (r : Result A Error) (s t : ReaderState) → s.held ≡ [] → s.taken ≡ 0 → s.fetched ≡ 0 → Demands t → Answers o e s r t → TakesBytes o e s.bytes r t.bytes
-Answers-taken o e r s t held taken fetched demands h = record {
+TakesFront-taken : {A : Type 0} (o : Order) (e : ReadEntry A) (r : Result A Error) (s t : ReaderState) → s.held ≡ [] → s.taken ≡ 0 → s.fetched ≡ 0 → Demands t → TakesFront o e s r t → TakesBytes o e s.bytes r t.bytes
+TakesFront-taken o e r s t held taken fetched demands h = record {
   gone = h.gone;
   loses = h.loses;
   len = length h.word;
@@ -674,21 +674,21 @@ Answers-taken o e r s t held taken fetched demands h = record {
 -- a new reader's stream lost the bytes of the front, where a call answered with a value
 pub Reads-taken_ok : {R A : Type 0} {K : BitSource R} {grows : Bool} {e : ReadEntry A} {a : A} {s t : R} → (K.state s).failed ≡ false → (K.state s).held ≡ [] → (K.state s).taken ≡ 0 → (K.state s).fetched ≡ 0 → ReadOutcome K grows e s (Ok a) t
     → TakesBytes K.order e (K.state s).bytes (Ok a) (K.state t).bytes
-Reads-taken_ok fine held taken fetched (stays h) = let p = h.failed in cc
-Reads-taken_ok {K = K} {e = e} {a = a} {s = s} {t = t} fine held taken fetched (answers h) = Answers-taken K.order e (Ok a) (K.state s) (K.state t) held taken fetched (K.demands t) h
-Reads-taken_ok fine held taken fetched (faults h) = let p = h.answer in cc
-Reads-taken_ok fine held taken fetched (starves g h) = let p = h.answer in cc
+Reads-taken_ok fine held taken fetched (stays_failed h) = let p = h.failed in cc
+Reads-taken_ok {K = K} {e = e} {a = a} {s = s} {t = t} fine held taken fetched (takes_front h) = TakesFront-taken K.order e (Ok a) (K.state s) (K.state t) held taken fetched (K.demands t) h
+Reads-taken_ok fine held taken fetched (meets_fault h) = let p = h.answer in cc
+Reads-taken_ok fine held taken fetched (lacks_memory g h) = let p = h.answer in cc
 
 -- ---- memory of the call's own
 
 -- memory was refused behind a call that answered with a value, and the reader was made to fail
-pub Reads-starve : {R A B : Type 0} {K : BitSource R} (e : ReadEntry A) (f : A → ReadEntry B) (a : A) (s t z : R) → e.on_failed ≡ Err Failed → ReadOutcome K true e s (Ok a) t → K.state z ≡ failing (K.state t) → ReadsGrowing K (chain e f) s (Err OutOfMemory) z
-Reads-starve e f a s t z failed (stays h) broken = let p = h.answer in cc
-Reads-starve {K = K} e f a s t z failed (answers h) broken =
-    starves refl (Took-starves K.order (chain e f) h.word (K.state s) (K.state t) (K.state z) (took K.order e a (K.state s) (K.state t) h) broken
+pub Reads-lacks_memory : {R A B : Type 0} {K : BitSource R} (e : ReadEntry A) (f : A → ReadEntry B) (a : A) (s t z : R) → e.on_failed ≡ Err Failed → ReadOutcome K true e s (Ok a) t → K.state z ≡ failing (K.state t) → ReadsGrowing K (chain e f) s (Err OutOfMemory) z
+Reads-lacks_memory e f a s t z failed (stays_failed h) broken = let p = h.answer in cc
+Reads-lacks_memory {K = K} e f a s t z failed (takes_front h) broken =
+    lacks_memory refl (Took-lacks_memory K.order (chain e f) h.word (K.state s) (K.state t) (K.state z) (took K.order e a (K.state s) (K.state t) h) broken
     (λ front b back is. chain-none e f (K.state s).taken front (h.needs front b back is)))
-Reads-starve e f a s t z failed (faults h) broken = let p = h.answer in cc
-Reads-starve e f a s t z failed (starves g h) broken = let p = h.answer in cc
+Reads-lacks_memory e f a s t z failed (meets_fault h) broken = let p = h.answer in cc
+Reads-lacks_memory e f a s t z failed (lacks_memory g h) broken = let p = h.answer in cc
 
 -- ---- what came back through a reference
 
@@ -701,7 +701,7 @@ head_of d [] = d
 head_of d (n ∷ l) = n
 
 behind_one : ReaderState → ReaderState
-behind_one s = record s { places = tail_of s.places }
+behind_one s = record s { reference_names = tail_of s.reference_names }
 
 same_behind : (n m : GName) (s t : ReaderState) → lent m t ≡ lent n s → t ≡ s
 unfolding behind_one tail_of
@@ -716,13 +716,13 @@ unfolding head_of
 heads n m k l e = ap (head_of n) e
 
 pub Reads-back : {R A : Type 0} {K : BitSource R} {grows : Bool} {e : ReadEntry A} {r : Result A Error} {s t : MutBor R} → ReadOutcome (lent_source K) grows e s r t → (t.ghost_name ≡ s.ghost_name) × ReadOutcome K grows e s.now r t.now
-Reads-back {K = K} {s = s} {t = t} (stays h) = (
-  heads s.ghost_name t.ghost_name (K.state s.now).places (K.state t.now).places (ap (λ (x : ReaderState). x.places) h.same),
-  stays (record { failed = h.failed; answer = h.answer; same = same_behind s.ghost_name t.ghost_name (K.state s.now) (K.state t.now) h.same }),
+Reads-back {K = K} {s = s} {t = t} (stays_failed h) = (
+  heads s.ghost_name t.ghost_name (K.state s.now).reference_names (K.state t.now).reference_names (ap (λ (x : ReaderState). x.reference_names) h.same),
+  stays_failed (record { failed = h.failed; answer = h.answer; same = same_behind s.ghost_name t.ghost_name (K.state s.now) (K.state t.now) h.same }),
 )
-Reads-back {K = K} {s = s} {t = t} (answers h) = (
-  heads s.ghost_name t.ghost_name (K.state s.now).places (K.state t.now).places h.places,
-  answers (record {
+Reads-back {K = K} {s = s} {t = t} (takes_front h) = (
+  heads s.ghost_name t.ghost_name (K.state s.now).reference_names (K.state t.now).reference_names h.reference_names,
+  takes_front (record {
     fine = h.fine;
     word = h.word;
     decides = h.decides;
@@ -735,13 +735,13 @@ Reads-back {K = K} {s = s} {t = t} (answers h) = (
     fetched = h.fetched;
     taken = h.taken;
     refusals = h.refusals;
-    places = tails s.ghost_name t.ghost_name (K.state s.now).places (K.state t.now).places h.places;
+    reference_names = tails s.ghost_name t.ghost_name (K.state s.now).reference_names (K.state t.now).reference_names h.reference_names;
     failed = h.failed;
   }),
 )
-Reads-back {K = K} {s = s} {t = t} (faults h) = (
-  heads s.ghost_name t.ghost_name (K.state s.now).places (K.state t.now).places h.places,
-  faults (record {
+Reads-back {K = K} {s = s} {t = t} (meets_fault h) = (
+  heads s.ghost_name t.ghost_name (K.state s.now).reference_names (K.state t.now).reference_names h.reference_names,
+  meets_fault (record {
     fine = h.fine;
     refusal = h.refusal;
     allowed = h.allowed;
@@ -752,13 +752,13 @@ Reads-back {K = K} {s = s} {t = t} (faults h) = (
     few = h.few;
     ended = h.ended;
     refusals = h.refusals;
-    places = tails s.ghost_name t.ghost_name (K.state s.now).places (K.state t.now).places h.places;
+    reference_names = tails s.ghost_name t.ghost_name (K.state s.now).reference_names (K.state t.now).reference_names h.reference_names;
     failed = h.failed;
   }),
 )
-Reads-back {K = K} {s = s} {t = t} (starves g h) = (
-  heads s.ghost_name t.ghost_name (K.state s.now).places (K.state t.now).places h.places,
-  starves g (record {
+Reads-back {K = K} {s = s} {t = t} (lacks_memory g h) = (
+  heads s.ghost_name t.ghost_name (K.state s.now).reference_names (K.state t.now).reference_names h.reference_names,
+  lacks_memory g (record {
     fine = h.fine;
     answer = h.answer;
     word = h.word;
@@ -770,7 +770,7 @@ Reads-back {K = K} {s = s} {t = t} (starves g h) = (
     fetched = h.fetched;
     taken = h.taken;
     refusals = h.refusals;
-    places = tails s.ghost_name t.ghost_name (K.state s.now).places (K.state t.now).places h.places;
+    reference_names = tails s.ghost_name t.ghost_name (K.state s.now).reference_names (K.state t.now).reference_names h.reference_names;
     failed = h.failed;
   }),
 )

@@ -35,7 +35,7 @@ no_zeros (Some most) full len within past off = last_byte most full.0 len full.1
 
 module _ {R S : Type 0} (f : R → S) (names : R → List GName) (K : Sink S) where
   kept_seen : (a b : R) → names b ≡ names a → Kept K (f a) (f b) → Kept (seen_sink f names K) a b
-  kept_seen a b same k = record { grown = k.grown; failed = k.failed; refusals = k.refusals; places = ap₂ (λ (x y : List GName). x ++ y) same k.places }
+  kept_seen a b same k = record { grown = k.grown; failed = k.failed; refusals = k.refusals; reference_names = ap₂ (λ (x y : List GName). x ++ y) same k.reference_names }
 
   -- a call on a state that is seen as a state of the sink
   pub seen : {T : Type 0} (e : WriteEntry) (a : R) (r : Result T Error) (b : R) → names b ≡ names a → Writes K e (f a) r (f b) → Writes (seen_sink f names K) e a r b
@@ -52,10 +52,10 @@ module _ {R S : Type 0} (f : R → S) (names : R → List GName) (K : Sink S) wh
     most = k.most;
     refusals = k.refusals;
     broken = k.broken;
-    places = ap₂ (λ (x y : List GName). x ++ y) same k.places;
+    reference_names = ap₂ (λ (x y : List GName). x ++ y) same k.reference_names;
   })
   seen e a r b same (did_write x t p en wi re k) =
-      did_write x t p en wi re (record { grown = k.grown; sound = k.sound; refusals = k.refusals; places = ap₂ (λ (x y : List GName). x ++ y) same k.places })
+      did_write x t p en wi re (record { grown = k.grown; sound = k.sound; refusals = k.refusals; reference_names = ap₂ (λ (x y : List GName). x ++ y) same k.reference_names })
 
 -- a call on a sink inside a state
 pub inner : {R S T : Type 0} (f : R → S) (K : Sink S) (e : WriteEntry) (a : R) (r : Result T Error) (b : R) → Writes K e (f a) r (f b) → Writes (inner_sink f K) e a r b
@@ -84,7 +84,7 @@ module _ {S : Type 0} (K : Sink S) where
 
   -- a state as it was
   pub kept : (s : S) → Kept K s s
-  kept s = record { grown = K.appends_nil s; failed = refl; refusals = refl; places = refl }
+  kept s = record { grown = K.appends_nil s; failed = refl; refusals = refl; reference_names = refl }
 
   -- a call on a sink that has failed, and one that is refused at once
   pub fails : {T : Type 0} (e : WriteEntry) (s : S) (r : Result T Error) → K.failed s ≡ true → r ≡ Err Failed → Writes K e s r s

@@ -5,7 +5,7 @@ use Rattle.bitstream_number.specs.Word.{Order, word}
 use Rattle.bitstream_count.specs.Entry.{WriteEntry}
 use Rattle.bitstream_count.specs.declared.error.Error.{Error}
 use Rattle.bitstream_count.specs.declared.error.Error.TheVariants.{Failed, CounterOverflow}
-use Rattle.bitstream_stream.specs.Sink.{Sink, Writes, Appended, Kept, Faulted, IsWithin, IsBeyond, was_failed, was_refused, passed_limit, had_fault, did_write}
+use Rattle.bitstream_stream.specs.Sink.{Sink, Writes, Appended, Kept, WriteFault, IsWithin, IsBeyond, was_failed, was_refused, passed_limit, had_fault, did_write}
 use Rattle.bitstream_stream.specs.Alignment.{to_boundary}
 use Rattle.bitstream_stream.specs.WriteTable.{unsigned, align}
 use Rattle.bitstream_stream.proofs.WriteLemmas.{unsigned-accepted, padded}
@@ -28,8 +28,8 @@ fault_full a b x y n at full le = omega arith
 
 module _ {S : Type 0} (K : Sink S) where
   -- a fault of a part of a word, behind some of it, is a fault of the word
-  pub Faulted-behind : (old mid new : S) (d : Error) (x y w : List Bool) → Appended K old x mid → Faulted K mid y d new → length x + length y ≤ length w → Faulted K old w d new
-  Faulted-behind old mid new d x y w h k le =
+  pub WriteFault-behind : (old mid new : S) (d : Error) (x y w : List Bool) → Appended K old x mid → WriteFault K mid y d new → length x + length y ≤ length w → WriteFault K old w d new
+  WriteFault-behind old mid new d x y w h k le =
       let at = K.appends_len old mid x h.grown in
       let least = k.least in
       let most = k.most in
@@ -43,12 +43,12 @@ module _ {S : Type 0} (K : Sink S) where
         most = omega arith;
         refusals = k.refusals ∙ ap (λ l. k.refusal ∷ l) h.refusals;
         broken = k.broken;
-        places = k.places ∙ h.places;
+        reference_names = k.reference_names ∙ h.reference_names;
       }
 
   -- a fault of a word's front is a fault of the word
-  pub Faulted-longer : (old new : S) (d : Error) (y w : List Bool) → Faulted K old y d new → length y ≤ length w → Faulted K old w d new
-  Faulted-longer old new d y w k le =
+  pub WriteFault-longer : (old new : S) (d : Error) (y w : List Bool) → WriteFault K old y d new → length y ≤ length w → WriteFault K old w d new
+  WriteFault-longer old new d y w k le =
       let full = k.full in
       let most = k.most in
       record {
@@ -61,7 +61,7 @@ module _ {S : Type 0} (K : Sink S) where
         most = omega arith;
         refusals = k.refusals;
         broken = k.broken;
-        places = k.places;
+        reference_names = k.reference_names;
       }
 
   -- a call that answers `Ok` appended its word
@@ -102,7 +102,7 @@ module _ {S : Type 0} (K : Sink S) where
           grown = K.appends_trans old mid new x y b.done.grown c.done.grown;
           sound = c.done.sound;
           refusals = c.done.refusals ∙ b.done.refusals;
-          places = c.done.places ∙ b.done.places;
+          reference_names = c.done.reference_names ∙ b.done.reference_names;
         };
       }
 
@@ -124,7 +124,7 @@ module _ {S : Type 0} (K : Sink S) where
       absurd (not_beyond K.limit _ _ room (omega (arith, ap length same, length-append y z)) b)
   stop_first e f old r r' new d y z (had_fault y' d' p en wi re k) q q' h h' room =
       let same : y' ≡ y = cc in
-      had_fault (y ++ z) d' p h' room (cc) (Faulted-longer old new d' y' (y ++ z) k (omega (arith, ap length same, length-append y z)))
+      had_fault (y ++ z) d' p h' room (cc) (WriteFault-longer old new d' y' (y ++ z) k (omega (arith, ap length same, length-append y z)))
   stop_first e f old r r' new d y z (did_write y' w p en wi re a) q q' h h' room = cc
 
   -- a later one does
@@ -138,7 +138,7 @@ module _ {S : Type 0} (K : Sink S) where
   stop_later e f old mid r r' new d x y z b (had_fault y' d' p en wi re k) q q' h h' room =
       let same : y' ≡ y = cc in
       had_fault (x ++ (y ++ z)) d' b.was_sound h' room (cc)
-      (Faulted-behind old mid new d' x y' (x ++ (y ++ z)) b.done k (omega (arith, ap length same, length-append y z, length-append x (y ++ z))))
+      (WriteFault-behind old mid new d' x y' (x ++ (y ++ z)) b.done k (omega (arith, ap length same, length-append y z, length-append x (y ++ z))))
   stop_later e f old mid r r' new d x y z b (did_write y' w p en wi re a) q q' h h' room = cc
 
   pub stop : {T V : Type 0} (e f : WriteEntry) (old mid : S) (r : Result T Error) (r' : Result V Error) (new : S) (d : Error) (x y z : List Bool)
@@ -163,7 +163,7 @@ module _ {S : Type 0} (K : Sink S) where
 
   -- nothing was appended to a sink that had not failed
   pub Begun-kept : (old new : S) → Begun K old [] new → Kept K old new
-  Begun-kept old new b = record { grown = b.done.grown; failed = b.done.sound ∙ sym b.was_sound; refusals = b.done.refusals; places = b.done.places }
+  Begun-kept old new b = record { grown = b.done.grown; failed = b.done.sound ∙ sym b.was_sound; refusals = b.done.refusals; reference_names = b.done.reference_names }
 
   -- a call of no bits that found it sound, before a refusal
   pub probe_refused : {V : Type 0} (f : WriteEntry) (old : S) (r' : Result V Error) (new : S) (d : Error) → Begun K old [] new → f (K.len old) ≡ Err d → r' ≡ Err d → Writes K f old r' new

@@ -5,7 +5,7 @@ use Rattle.std.proofs.lemmas.Bool.Decides.{nat_tests}
 use Rattle.std.proofs.lemmas.List.{replicate-append-replicate}
 use Rattle.bitstream_number.specs.Word.{Order, High, Low, digits, word, signed_word, count_width}
 use Rattle.bitstream_number.proofs.WordLemmas.{count_fits}
-use Rattle.bitstream_order.proofs.DrawLemmas.{word-none}
+use Rattle.bitstream_order.proofs.TakeLemmas.{word-none}
 use Rattle.bitstream_count.specs.declared.error.Error.TheVariants.{Checked, NoSignBit}
 use Rattle.bitstream_count.specs.Checks.{AcceptsUnsigned, RefusesUnsigned, HoldsSigned, RefusesSigned}
 use Rattle.bitstream_count.specs.declared.checked_error.CheckedError.{CheckedError}

@@ -6,18 +6,18 @@ use Rattle.bitstream_number.proofs.WordLemmas.{length-word}
 use Rattle.bitstream_count.specs.Entry.{WriteEntry}
 use Rattle.bitstream_count.specs.declared.error.Error.{Error}
 use Rattle.bitstream_order.specs.Parts.{piece, put_number}
-use Rattle.bitstream_order.specs.Pass.{Passes, Breaks}
+use Rattle.bitstream_order.specs.SendBits.{SendsBits, SendsRefused}
 use Rattle.bitstream_order.specs.Port.{PortState}
 use Rattle.bitstream_order.specs.Refusal.{Refusal}
-use Rattle.bitstream_order.proofs.DrawLemmas.{word-none}
+use Rattle.bitstream_order.proofs.TakeLemmas.{word-none}
 use Rattle.bitstream_order.proofs.PartLemmas.{put_word, put_below}
-use Rattle.bitstream_order.proofs.PassLemmas.{piece_below, piece_last}
-use Rattle.bitstream_stream.specs.Sink.{Writes, Appended, Faulted, had_fault, did_write}
+use Rattle.bitstream_order.proofs.SendLemmas.{piece_below, piece_last}
+use Rattle.bitstream_stream.specs.Sink.{Writes, Appended, WriteFault, had_fault, did_write}
 use Rattle.bitstream_stream.specs.WriteTable.{bit}
 use Rattle.bitstream_stream.proofs.WriteLemmas.{word-bit}
 use mir.Val.{bool_byte}
 use Rattle.bitstream_stream.specs.Carries.{WriterState, Carries}
-use Rattle.bitstream_stream.specs.Writer.{writer_state, Adds, queue_sink, Pushes}
+use Rattle.bitstream_stream.specs.Writer.{writer_state, AddsBits, queue_sink, Pushes}
 use Rattle.bitstream_stream.specs.declared.writer.BitWriter.{BitWriter}
 use Rattle.std.specs.Borrow.{GName}
 
@@ -46,11 +46,11 @@ pushed_queue may o queued queue n v part q p old new below cut put sound = recor
   grown = record { bytes = []; grows = Appends-nil p.bytes; sent = omega arith; word = queue_word o queued queue n v part q below cut put };
   sound = sound;
   refusals = refl;
-  places = refl;
+  reference_names = refl;
 }
 
 -- bytes that went, and the bits behind them
-pub pushed_bytes : (may : Refusal → Type 0) (o : Order) (queued queue n v gone q : ℕ) (p r : PortState) (old new : Bool) → Passes o [] p (word o queued queue ++ take gone (word o n v)) r → gone ≤ n → q ≡ piece o n v gone (n - gone) → new ≡ false
+pub pushed_bytes : (may : Refusal → Type 0) (o : Order) (queued queue n v gone q : ℕ) (p r : PortState) (old new : Bool) → SendsBits o [] p (word o queued queue ++ take gone (word o n v)) r → gone ≤ n → q ≡ piece o n v gone (n - gone) → new ≡ false
     → Appended (queue_sink may o) (record { port = p; queued = queued; queue = queue; failed = old }) (word o n v) (record { port = r; queued = n - gone; queue = q; failed = new })
 pushed_bytes may o queued queue n v gone q p r old new h le cut sound = record {
   grown = record {
@@ -63,7 +63,7 @@ pushed_bytes may o queued queue n v gone q p r old new h le cut sound = record {
   };
   sound = sound;
   refusals = h.refusals;
-  places = h.places;
+  reference_names = h.reference_names;
 }
 
 -- a request was refused, and the queue was emptied
@@ -71,8 +71,8 @@ fault_lengths : (a b gone queued n : ℕ) → b ≡ a + gone → 8 * gone ≤ qu
     → (8 ≤ (8 * a + queued) % 8 + n) × ((8 * b + 0) % 8 ≡ 0) × (8 * a + queued < 8 * b + 0 + 8) × (8 * b + 0 ≤ 8 * a + queued + n)
 fault_lengths a b gone queued n sent within few full = (omega arith, omega arith, omega arith, omega arith)
 
-pub pushed_fault : (may : Refusal → Type 0) (o : Order) (queued queue n v : ℕ) (error : Error) (p r : PortState) (old new : Bool) (q : ℕ) → Breaks may (length (word o queued queue) + length (word o n v)) error p r → queued < 8 → 8 ≤ queued + n → new ≡ true
-    → Faulted (queue_sink may o) (record { port = p; queued = queued; queue = queue; failed = old }) (word o n v) error (record { port = r; queued = 0; queue = q; failed = new })
+pub pushed_fault : (may : Refusal → Type 0) (o : Order) (queued queue n v : ℕ) (error : Error) (p r : PortState) (old new : Bool) (q : ℕ) → SendsRefused may (length (word o queued queue) + length (word o n v)) error p r → queued < 8 → 8 ≤ queued + n → new ≡ true
+    → WriteFault (queue_sink may o) (record { port = p; queued = queued; queue = queue; failed = old }) (word o n v) error (record { port = r; queued = 0; queue = q; failed = new })
 pushed_fault may o queued queue n v error p r old new q h few full broken =
     let is = length-word o n v in
     let within : 8 * h.gone ≤ queued + n = let le = h.within in let first = length-word o queued queue in omega arith in
@@ -87,7 +87,7 @@ pushed_fault may o queued queue n v error p r old new q h few full broken =
       most = rw is lengths.3;
       refusals = h.refusals;
       broken = broken;
-      places = h.places;
+      reference_names = h.reference_names;
     }
 
 -- what a push does is what the call does
@@ -97,9 +97,9 @@ pushes_writes may o x e old (Ok done) new sound is h = did_write x done sound is
 pushes_writes may o x e old (Err error) new sound is h = had_fault x error sound is tt refl h
 
 -- what an aligned writer added to its stream, from the first bit on
-pub adds : {W E : Type 0} (held : W → Option (List ℕ)) (places : W → List GName) (o : Order) (a b : BitWriter W E) (x : List Bool) → Carries o (writer_state held places a) x (writer_state held places b) → a.queued ≡ 0
-    → (8 * (writer_state held places b).port.sent + b.queued) % 8 ≡ 0 → Adds o (held a.port.stream) x (held b.port.stream)
-adds held places o a b x h none aligned =
+pub adds_bits : {W E : Type 0} (contents : W → Option (List ℕ)) (reference_names : W → List GName) (o : Order) (a b : BitWriter W E) (x : List Bool) → Carries o (writer_state contents reference_names a) x (writer_state contents reference_names b) → a.queued ≡ 0
+    → (8 * (writer_state contents reference_names b).port.sent + b.queued) % 8 ≡ 0 → AddsBits o (contents a.port.stream) x (contents b.port.stream)
+adds_bits contents reference_names o a b x h none aligned =
     let few : b.queued < 8 = b.few in
     let all : b.queued ≡ 0 = omega arith in
     record {

@@ -6,7 +6,7 @@ use Rattle.std.proofs.KnownBytes.{Appends-nil, Appends-trans}
 use Rattle.bitstream_number.specs.Word.{Order, word, bits}
 use Rattle.bitstream_number.proofs.WordLemmas.{bits-append}
 use Rattle.bitstream_order.specs.Port.{PortState}
-use Rattle.bitstream_order.proofs.PassLemmas.{sent_bits}
+use Rattle.bitstream_order.proofs.SendLemmas.{sent_bits}
 
 -- a port, and the bits that are still to go to it: the word of `queue`, `queued` bits long
 pub record WriterState : Type 0 where

@@ -21,15 +21,15 @@ pub record ReaderState : Type 0 where
   -- the requests of the stream that were refused, the last one first
   pub refusals : List Refusal
   -- the names of the references through which the stream is reached
-  pub places : List GName
+  pub reference_names : List GName
 
 -- a reader has fetched the bytes of the bits taken, and no more
 abbrev pub Demands : ReaderState → Type 0
 Demands s = s.fetched ≡ (s.taken + 7) / 8
 
 -- what was fetched and not taken is held back
-abbrev pub Holds : ReaderState → Type 0
-Holds s = s.failed ≡ false → s.taken + length s.held ≡ 8 * s.fetched
+abbrev pub HoldsRest : ReaderState → Type 0
+HoldsRest s = s.failed ≡ false → s.taken + length s.held ≡ 8 * s.fetched
 
 -- a reader that has failed holds nothing back
 abbrev pub Empties : ReaderState → Type 0
@@ -42,7 +42,7 @@ pub record BitSource (R : Type 0) : Type 1 where
   -- the refusals that its stream may make
   pub may : Refusal → Type 0
   pub demands : (r : R) → Demands (state r)
-  pub holds : (r : R) → Holds (state r)
+  pub holds : (r : R) → HoldsRest (state r)
   pub empties : (r : R) → Empties (state r)
 
 -- the bits left to read, where the stream tells its bytes
@@ -55,7 +55,7 @@ is_run_too_long (Err RunTooLong) = true
 is_run_too_long answer = false
 
 -- the reader had failed: it answers that, and nothing changes
-pub record Stays {A : Type 0} (entry : ReadEntry A) (old : ReaderState) (result : Result A Error) (new : ReaderState) : Type 0 where
+pub record StaysFailed {A : Type 0} (entry : ReadEntry A) (old : ReaderState) (result : Result A Error) (new : ReaderState) : Type 0 where
   pub failed : old.failed ≡ true
   pub answer : result ≡ entry.on_failed
   pub same : new ≡ old
@@ -63,7 +63,7 @@ pub record Stays {A : Type 0} (entry : ReadEntry A) (old : ReaderState) (result 
 -- The call takes its front, a word, and gives the front's answer: whatever bits follow the word, it is
 -- this one, and no shorter beginning of the word has a front. The bits held before and those of the
 -- bytes fetched are the word and then the bits held now.
-pub record Answers {A : Type 0} (o : Order) (entry : ReadEntry A) (old : ReaderState) (result : Result A Error) (new : ReaderState) : Type 0 where
+pub record TakesFront {A : Type 0} (o : Order) (entry : ReadEntry A) (old : ReaderState) (result : Result A Error) (new : ReaderState) : Type 0 where
   pub fine : old.failed ≡ false
   pub word : List Bool
   pub decides : (more : List Bool) → entry.reads old.taken (word ++ more) ≡ Takes (length word) result
@@ -76,12 +76,12 @@ pub record Answers {A : Type 0} (o : Order) (entry : ReadEntry A) (old : ReaderS
   pub fetched : new.fetched ≡ old.fetched + length gone
   pub taken : new.taken ≡ old.taken + length word
   pub refusals : new.refusals ≡ old.refusals
-  pub places : new.places ≡ old.places
+  pub reference_names : new.reference_names ≡ old.reference_names
   pub failed : new.failed ≡ is_run_too_long result
 
 -- A request was refused, as the stream may refuse, and the reader has failed. The bits held were too few
 -- for the call, and so were those with the bytes fetched for it; at a true end so were all bits left.
-pub record Faults {A : Type 0} (o : Order) (may : Refusal → Type 0) (entry : ReadEntry A) (old : ReaderState) (result : Result A Error) (new : ReaderState) : Type 0 where
+pub record ReadFault {A : Type 0} (o : Order) (may : Refusal → Type 0) (entry : ReadEntry A) (old : ReaderState) (result : Result A Error) (new : ReaderState) : Type 0 where
   pub fine : old.failed ≡ false
   pub refusal : Refusal
   pub allowed : may refusal
@@ -92,12 +92,12 @@ pub record Faults {A : Type 0} (o : Order) (may : Refusal → Type 0) (entry : R
   pub few : entry.reads old.taken (old.held ++ bits o gone) ≡ TooShort
   pub ended : IsTrueEnd refusal → (xs : List ℕ) → old.bytes ≡ Some xs → entry.reads old.taken (old.held ++ bits o xs) ≡ TooShort
   pub refusals : new.refusals ≡ refusal ∷ old.refusals
-  pub places : new.places ≡ old.places
+  pub reference_names : new.reference_names ≡ old.reference_names
   pub failed : new.failed ≡ true
 
 -- Memory that the call asked for itself was refused, and the reader has failed. The bits that were taken
 -- until then are no more than the call's front: no beginning of them has one.
-pub record Starves {A : Type 0} (o : Order) (entry : ReadEntry A) (old : ReaderState) (result : Result A Error) (new : ReaderState) : Type 0 where
+pub record MemoryFault {A : Type 0} (o : Order) (entry : ReadEntry A) (old : ReaderState) (result : Result A Error) (new : ReaderState) : Type 0 where
   pub fine : old.failed ≡ false
   pub answer : result ≡ Err OutOfMemory
   pub word : List Bool
@@ -109,15 +109,15 @@ pub record Starves {A : Type 0} (o : Order) (entry : ReadEntry A) (old : ReaderS
   pub fetched : new.fetched ≡ old.fetched + length gone
   pub taken : new.taken ≡ old.taken + length word
   pub refusals : new.refusals ≡ old.refusals
-  pub places : new.places ≡ old.places
+  pub reference_names : new.reference_names ≡ old.reference_names
   pub failed : new.failed ≡ true
 
 -- one read, by what the call means; `grows` where the call asks for memory of its own
 pub data ReadOutcome {R A : Type 0} (K : BitSource R) (grows : Bool) (entry : ReadEntry A) (old : R) (result : Result A Error) (new : R) : Type 0 where
-  stays : Stays entry (K.state old) result (K.state new) → ReadOutcome K grows entry old result new
-  answers : Answers K.order entry (K.state old) result (K.state new) → ReadOutcome K grows entry old result new
-  faults : Faults K.order K.may entry (K.state old) result (K.state new) → ReadOutcome K grows entry old result new
-  starves : grows ≡ true → Starves K.order entry (K.state old) result (K.state new) → ReadOutcome K grows entry old result new
+  stays_failed : StaysFailed entry (K.state old) result (K.state new) → ReadOutcome K grows entry old result new
+  takes_front : TakesFront K.order entry (K.state old) result (K.state new) → ReadOutcome K grows entry old result new
+  meets_fault : ReadFault K.order K.may entry (K.state old) result (K.state new) → ReadOutcome K grows entry old result new
+  lacks_memory : grows ≡ true → MemoryFault K.order entry (K.state old) result (K.state new) → ReadOutcome K grows entry old result new
 
 -- one read
 abbrev pub Reads : {R A : Type 0} → BitSource R → ReadEntry A → R → Result A Error → R → Type 0
@@ -133,7 +133,7 @@ failing s = record s { failed = true; held = [] }
 
 -- the same reader, seen through a reference of this name
 abbrev pub lent : GName → ReaderState → ReaderState
-lent name s = record s { places = name ∷ s.places }
+lent name s = record s { reference_names = name ∷ s.reference_names }
 
 -- a reader behind a `&mut`
 abbrev pub lent_source : {R : Type 0} → BitSource R → BitSource (MutBor R)

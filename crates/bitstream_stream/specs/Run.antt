@@ -10,9 +10,9 @@ accepted (Ok w) = w
 accepted (Err e) = []
 
 -- why a call was refused, if it was
-abbrev pub refusal : Result (List Bool) Error → Option Error
-refusal (Ok w) = None
-refusal (Err e) = Some e
+abbrev pub refusal_if_any : Result (List Bool) Error → Option Error
+refusal_if_any (Ok w) = None
+refusal_if_any (Err e) = Some e
 
 -- the words of the accepted calls in their order, each at the length that is reached before it
 abbrev pub write_run : List WriteEntry → ℕ → List Bool
@@ -26,7 +26,7 @@ abbrev pub write_refusals : List WriteEntry → ℕ → List (Option Error)
 write_refusals [] len = []
 write_refusals (entry ∷ entries) len =
     let w = entry len in
-    refusal w ∷ write_refusals entries (len + length (accepted w))
+    refusal_if_any w ∷ write_refusals entries (len + length (accepted w))
 
 -- a call's answer and the place behind it, and then those of the calls that follow; none where the bits are too few, and none behind a run that was too long
 abbrev pub answer_and : {A : Type 0} → Front A → ℕ → (ℕ → List (Result A Error × ℕ)) → List (Result A Error × ℕ)

@@ -38,7 +38,7 @@ pub record Sink (S : Type 0) : Type 1 where
   -- the refusals that its stream may make
   pub may : Refusal → Type 0
   -- the names of the references through which the sink and its stream are reached
-  pub places : S → List GName
+  pub reference_names : S → List GName
   pub appends_nil : (s : S) → appends s [] s
   pub appends_trans : (s t u : S) (x y : List Bool) → appends s x t → appends t y u → appends s (x ++ y) u
   pub within : (s : S) → IsWithin limit (len s)
@@ -50,18 +50,18 @@ pub record Appended {S : Type 0} (K : Sink S) (old : S) (x : List Bool) (new : S
   pub grown : K.appends old x new
   pub sound : K.failed new ≡ false
   pub refusals : K.refusals new ≡ K.refusals old
-  pub places : K.places new ≡ K.places old
+  pub reference_names : K.reference_names new ≡ K.reference_names old
 
 -- nothing was appended, and no request was refused
 pub record Kept {S : Type 0} (K : Sink S) (old new : S) : Type 0 where
   pub grown : K.appends old [] new
   pub failed : K.failed new ≡ K.failed old
   pub refusals : K.refusals new ≡ K.refusals old
-  pub places : K.places new ≡ K.places old
+  pub reference_names : K.reference_names new ≡ K.reference_names old
 
 -- A request was refused, as the stream may refuse, and the sink has failed. The word x would have made a
 -- byte full. Whole bytes were handed on, those before the word and none but of its bits, and no bit waits.
-pub record Faulted {S : Type 0} (K : Sink S) (old : S) (x : List Bool) (error : Error) (new : S) : Type 0 where
+pub record WriteFault {S : Type 0} (K : Sink S) (old : S) (x : List Bool) (error : Error) (new : S) : Type 0 where
   pub refusal : Refusal
   pub allowed : K.may refusal
   pub answer : error ≡ refusal_of refusal.kind
@@ -71,7 +71,7 @@ pub record Faulted {S : Type 0} (K : Sink S) (old : S) (x : List Bool) (error : 
   pub most : K.len new ≤ K.len old + length x
   pub refusals : K.refusals new ≡ refusal ∷ K.refusals old
   pub broken : K.failed new ≡ true
-  pub places : K.places new ≡ K.places old
+  pub reference_names : K.reference_names new ≡ K.reference_names old
 
 -- what one write call does, by what it means
 pub data Writes {S T : Type 0} (K : Sink S) (entry : WriteEntry) (old : S) (result : Result T Error) (new : S) : Type 0 where
@@ -79,7 +79,7 @@ pub data Writes {S T : Type 0} (K : Sink S) (entry : WriteEntry) (old : S) (resu
   was_refused : (error : Error) → K.failed old ≡ false → entry (K.len old) ≡ Err error → result ≡ Err error → Kept K old new → Writes K entry old result new
   passed_limit : (word : List Bool) → K.failed old ≡ false → entry (K.len old) ≡ Ok word → IsBeyond K.limit (K.len old + length word) → result ≡ Err CounterOverflow → Kept K old new
       → Writes K entry old result new
-  had_fault : (word : List Bool) (error : Error) → K.failed old ≡ false → entry (K.len old) ≡ Ok word → IsWithin K.limit (K.len old + length word) → result ≡ Err error → Faulted K old word error new
+  had_fault : (word : List Bool) (error : Error) → K.failed old ≡ false → entry (K.len old) ≡ Ok word → IsWithin K.limit (K.len old + length word) → result ≡ Err error → WriteFault K old word error new
       → Writes K entry old result new
   did_write : (word : List Bool) (done : T) → K.failed old ≡ false → entry (K.len old) ≡ Ok word → IsWithin K.limit (K.len old + length word) → result ≡ Ok done → Appended K old word new
       → Writes K entry old result new
@@ -100,7 +100,7 @@ seen_sink f names K = record {
   failed = λ a. K.failed (f a);
   refusals = λ a. K.refusals (f a);
   may = K.may;
-  places = λ a. names a ++ K.places (f a);
+  reference_names = λ a. names a ++ K.reference_names (f a);
   appends_nil = λ a. K.appends_nil (f a);
   appends_trans = λ a b c x y p q. K.appends_trans (f a) (f b) (f c) x y p q;
   within = λ a. K.within (f a);

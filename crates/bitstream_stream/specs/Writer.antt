@@ -5,16 +5,16 @@ use Rattle.std.specs.declared.io.ErrorKind.{ErrorKind}
 use Rattle.std.specs.Io.KnownBytes.{Appends}
 use Rattle.bitstream_number.specs.Word.{Order, bits}
 use Rattle.bitstream_order.specs.Port.{port_state, requests_count}
-use Rattle.bitstream_order.specs.Refusal.{Refusal, MayReject}
+use Rattle.bitstream_order.specs.Refusal.{Refusal, MayRefuseSend}
 use Rattle.bitstream_count.specs.declared.error.Error.{Error}
 use Rattle.bitstream_stream.specs.Carries.{WriterState, Carries, Carries-nil, Carries-trans, Carries-len}
-use Rattle.bitstream_stream.specs.Sink.{Sink, Appended, Faulted, inner_sink}
+use Rattle.bitstream_stream.specs.Sink.{Sink, Appended, WriteFault, inner_sink}
 use Rattle.bitstream_stream.specs.declared.writer.BitWriter.{BitWriter}
 
 -- a writer, by what its stream tells
 abbrev pub writer_state : {W E : Type 0} → (W → Option (List ℕ)) → (W → List GName) → BitWriter W E → WriterState
-writer_state held places w = record {
-  port = port_state held places w.port;
+writer_state contents reference_names w = record {
+  port = port_state contents reference_names w.port;
   queued = w.queued;
   queue = w.queue;
   failed = w.failed;
@@ -34,8 +34,8 @@ AsksForWord n old new = (requests_made new ≤ requests_made old + 2) × (queued
 
 -- a writer to which nothing was written, by what its stream tells
 abbrev pub fresh_writer : Option (List ℕ) → List GName → WriterState
-fresh_writer held places = record {
-  port = record { bytes = held; fetched = 0; sent = 0; requests = 0; refusals = []; places = places };
+fresh_writer contents reference_names = record {
+  port = record { bytes = contents; fetched = 0; sent = 0; requests = 0; refusals = []; reference_names = reference_names };
   queued = 0;
   queue = 0;
   failed = false;
@@ -51,7 +51,7 @@ queue_sink may o = record {
   failed = λ a. a.failed;
   refusals = λ a. a.port.refusals;
   may = may;
-  places = λ a. a.port.places;
+  reference_names = λ a. a.port.reference_names;
   appends_nil = Carries-nil o;
   appends_trans = Carries-trans o;
   within = λ _. tt;
@@ -60,7 +60,7 @@ queue_sink may o = record {
 }
 
 -- bytes were added to those that a stream holds, where it tells, and these are their bits
-pub record Adds (o : Order) (old : Option (List ℕ)) (x : List Bool) (new : Option (List ℕ)) : Type 0 where
+pub record AddsBits (o : Order) (old : Option (List ℕ)) (x : List Bool) (new : Option (List ℕ)) : Type 0 where
   pub bytes : List ℕ
   pub grows : Appends old new bytes
   pub bits : bits o bytes ≡ x
@@ -68,8 +68,8 @@ pub record Adds (o : Order) (old : Option (List ℕ)) (x : List Bool) (new : Opt
 -- the bits x go behind those that a sound writer has, or a request is refused and it has failed
 abbrev pub Pushes : (Refusal → Type 0) → Order → List Bool → WriterState → Result (Unit {0}) Error → WriterState → Type 0
 Pushes may o x old (Ok done) new = Appended (queue_sink may o) old x new
-Pushes may o x old (Err error) new = Faulted (queue_sink may o) old x error new
+Pushes may o x old (Err error) new = WriteFault (queue_sink may o) old x error new
 
 -- a writer as a sink
 abbrev pub writer_sink : {W E : Type 0} → (W → Option (List ℕ)) → (W → ℕ → ErrorKind → W → Type 0) → (W → List GName) → Order → Sink (BitWriter W E)
-writer_sink held refuses places o = inner_sink (writer_state held places) (queue_sink (MayReject refuses) o)
+writer_sink contents refuses reference_names o = inner_sink (writer_state contents reference_names) (queue_sink (MayRefuseSend refuses) o)

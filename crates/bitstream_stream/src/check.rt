@@ -7,11 +7,18 @@ use bitstream_count::count::{BitCount, CheckedSigned, CheckedUnsigned};
 use bitstream_count::error::Error;
 use bitstream_number::number::{SignedInteger, UnsignedInteger};
 
-/// Whether an unsigned value can be written in so many bits. At no bits each value can.
+/// Checks that an unsigned value can be written in so many bits. In 0 bits any value can.
+///
+/// # Errors
+///
+/// `Checked(ExcessiveBits)` where the type has fewer bits, `Checked(ExcessiveValue)` where the value
+/// takes more.
 pub fn check<U: UnsignedInteger>(bits: u32, value: U) -> Result<(), Error>
     ensures width { OnOk result (bits ≤ U.BITS_SIZE) }
-    ensures word { OnOk result ((o : Order) (len : ℕ) → unsigned o U.BITS_SIZE bits (U.value value) len ≡ Ok (word o bits (U.value value))) }
-    ensures refusal { IfErr result (λ error. (o : Order) (len : ℕ) → unsigned o U.BITS_SIZE bits (U.value value) len ≡ Err error) }
+    ensures word { OnOk result ((o : Order) (len : ℕ) →
+        unsigned o U.BITS_SIZE bits (U.value value) len ≡ Ok (word o bits (U.value value))) }
+    ensures refusal { IfErr result (λ error. (o : Order) (len : ℕ) →
+        unsigned o U.BITS_SIZE bits (U.value value) len ≡ Err error) }
 {
     match CheckedUnsigned::new(BitCount::unknown(bits), value) {
         Ok(_fits) => Ok(()),
@@ -19,13 +26,20 @@ pub fn check<U: UnsignedInteger>(bits: u32, value: U) -> Result<(), Error>
     }
 }
 
-/// Whether a signed value can be written in so many bits, of which one is the sign.
+/// Checks that a signed value can be written in so many bits, as a two's complement.
+///
+/// # Errors
+///
+/// `NoSignBit` at 0 bits, `Checked(ExcessiveBits)` where the type has fewer, and
+/// `Checked(ExcessiveValue)` where the value takes more.
 pub fn check_signed<S: SignedInteger>(bits: u32, value: S) -> Result<(), Error>
     ensures some { OnOk result (1 ≤ bits) }
     ensures width { OnOk result (bits ≤ S.BITS_SIZE) }
     ensures fits { OnOk result (FitsSignedBits bits (S.integer value)) }
-    ensures word { OnOk result ((o : Order) (len : ℕ) → signed o S.BITS_SIZE bits (S.integer value) len ≡ Ok (signed_word o bits (S.integer value))) }
-    ensures refusal { IfErr result (λ error. (o : Order) (len : ℕ) → signed o S.BITS_SIZE bits (S.integer value) len ≡ Err error) }
+    ensures word { OnOk result ((o : Order) (len : ℕ) →
+        signed o S.BITS_SIZE bits (S.integer value) len ≡ Ok (signed_word o bits (S.integer value))) }
+    ensures refusal { IfErr result (λ error. (o : Order) (len : ℕ) →
+        signed o S.BITS_SIZE bits (S.integer value) len ≡ Err error) }
 {
     match BitCount::unknown(bits).signed_count() {
         Some(count) => match CheckedSigned::new(count, value) {

@@ -19,9 +19,13 @@ use bitstream_order::slice::Slice;
 /// the first is the high part in the one order and the low part in the other.
 pub fn words_join()
     ensures high { (size a b p : ℕ) (bits : List Bool) → a + b ≤ size →
-        (chain (unsigned_entry High size a) (λ first. chain (unsigned_entry High size b) (λ second. gives (first * 2 ^ b + second)))).reads p bits ≡ (unsigned_entry High size (a + b)).reads p bits }
+        (chain (unsigned_entry High size a) (λ first.
+        chain (unsigned_entry High size b) (λ second. gives (first * 2 ^ b + second)))).reads p bits
+        ≡ (unsigned_entry High size (a + b)).reads p bits }
     ensures low { (size a b p : ℕ) (bits : List Bool) → a + b ≤ size →
-        (chain (unsigned_entry Low size a) (λ first. chain (unsigned_entry Low size b) (λ second. gives (first + second * 2 ^ a)))).reads p bits ≡ (unsigned_entry Low size (a + b)).reads p bits }
+        (chain (unsigned_entry Low size a) (λ first.
+        chain (unsigned_entry Low size b) (λ second. gives (first + second * 2 ^ a)))).reads p bits
+        ≡ (unsigned_entry Low size (a + b)).reads p bits }
 {}
 
 /// Over a stream that refuses only where its bytes end, a call of any reader answers as its front of

@@ -1,6 +1,6 @@
 //! Calls that read bits.
 ghost use Rattle.std.specs.Prelude.{◌≡◌, ℕ, ◌+◌, ◌%◌, ◌^◌, ◌<◌, ◌≤◌, ◌⊎◌, ◌↔◌, false, Ok, IsTrue};
-ghost use Rattle.bitstream_order.specs.Draw.{seen};
+ghost use Rattle.bitstream_order.specs.TakeBits.{seen};
 ghost use Rattle.bitstream_stream.specs.Reads.{BitSource, Reads, ReadsConst, failing, lent_source};
 ghost use Rattle.bitstream_stream.specs.ReadTable.{bit_entry, unsigned_entry, signed_entry, const_entry, count_entry, align_entry, is_full};
 
@@ -9,43 +9,73 @@ use bitstream_count::count::{BitCount, Count, SignedCount};
 use bitstream_count::error::Error;
 use bitstream_number::number::{Numeric, SignedInteger, UnsignedInteger, Width};
 
-/// A reader of bits.
+/// Reads bits.
 ///
-/// After `EndOfInput`, `Stream` and `OutOfMemory` a reader has failed: each later call that reads a
-/// value answers `Failed` before any other check, also at a width of 0 bits.
+/// # Errors
+///
+/// Where the stream beneath refuses a request, a call answers `EndOfInput`, `OutOfMemory` or `Stream`
+/// with the kind of the refusal, and the reader has failed. Each later call that reads a value answers
+/// `Failed`, before any other check and also at a width of 0 bits. After any other error the reader
+/// goes on where it was, unless the call says otherwise.
+///
+/// # Examples
+///
+/// ```
+/// use bitstream_io::{BE, BitCount, BitRead, BitReader, Bits, Error};
+///
+/// let mut reader = BitReader::<_, BE>::new([0x7e, 0x58].as_slice());
+/// reader.read_const::<Bits<4>, Bits<7>, Error>(Error::NoSignBit)?;
+/// assert_eq!(rt; reader.read_signed::<Bits<4>, i32>()?, -2);
+/// let last = reader.read_count::<BitCount<7>>()?;
+/// assert_eq!(rt; reader.read_unsigned_counted::<_, u8>(last)?, 3);
+/// reader.byte_align();
+/// assert!(rt; matches!(reader.read_bit(), Err(Error::EndOfInput)));
+/// assert!(rt; matches!(reader.read_bit(), Err(Error::Failed)));
+/// ```
 pub trait BitRead {
     // What the states of the reader mean.
     ghost source: { BitSource Self };
 
-    /// Reads an unsigned number of so many bits.
+    /// Reads an unsigned number of so many bits, and returns it.
     ///
-    /// `ReadBits` if the type has fewer bits: nothing is taken then.
+    /// # Errors
+    ///
+    /// `ReadBits` where the type has fewer bits: nothing is taken then. Those of the stream, and
+    /// `Failed` after one of these.
     fn read_unsigned_counted<C: Count, U: UnsignedInteger>(&mut self, bits: C) -> Result<U, Error>
         ensures reads { Reads source (unsigned_entry source.order U.BITS_SIZE (C.number bits))
             self.old (seen U.value result) self.new };
 
-    /// Reads a signed number of so many bits, of which one is the sign.
+    /// Reads a signed number of so many bits, a two's complement, and returns it.
     ///
-    /// `ReadBits` if the type has fewer bits: nothing is taken then.
+    /// # Errors
+    ///
+    /// `ReadBits` where the type has fewer bits: nothing is taken then. Those of the stream, and
+    /// `Failed` after one of these.
     fn read_signed_counted<C: SignedCount, S: SignedInteger>(&mut self, bits: C) -> Result<S, Error>
         ensures reads { Reads source (signed_entry source.order S.BITS_SIZE (C.number bits))
             self.old (seen S.integer result) self.new };
 
-    /// Whether the next bit is the first of a byte. Never so of a reader that has failed.
+    /// Returns whether the next bit is the first of a byte. A reader that has failed is not aligned.
     fn byte_aligned(&self) -> bool
-        ensures { IsTrue result ↔ (((source.state self.now).failed ≡ false) × ((source.state self.now).taken % 8 ≡ 0)) };
+        ensures { IsTrue result ↔ (((source.state self.now).failed ≡ false)
+            × ((source.state self.now).taken % 8 ≡ 0)) };
 
-    /// Drops the bits up to the next whole byte, which were all fetched before. A reader that has
-    /// failed drops nothing.
+    /// Drops the bits up to the next whole byte. They were fetched before, so nothing is asked of the
+    /// stream. A reader that has failed stays as it is.
     fn byte_align(&mut self)
         ensures reads { Reads source align_entry self.old (Ok tt) self.new };
 
-    /// Makes the reader fail, which drops the bits that it holds back: from now on each call that
-    /// reads a value answers `Failed`.
+    /// Makes the reader fail, and drops the bits that it holds back. From then on each call that reads
+    /// a value answers `Failed`.
     fn fail(&mut self)
         ensures { source.state self.new ≡ failing (source.state self.old) };
 
-    /// Reads one bit.
+    /// Reads one bit, and returns whether it is 1.
+    ///
+    /// # Errors
+    ///
+    /// Those of the stream, and `Failed` after one of these.
     fn read_bit(&mut self) -> Result<bool, Error>
         ensures reads { Reads source bit_entry self.old result self.new }
     {
@@ -53,9 +83,11 @@ pub trait BitRead {
         Ok(bit == 1)
     }
 
-    /// Reads an unsigned number of so many bits.
+    /// Reads an unsigned number of so many bits, and returns it.
     ///
-    /// `ReadBits` if the type has fewer bits: nothing is taken then.
+    /// # Errors
+    ///
+    /// As [`read_unsigned_counted`](BitRead::read_unsigned_counted).
     fn read_unsigned_var<U: UnsignedInteger>(&mut self, bits: u32) -> Result<U, Error>
         ensures reads { Reads source (unsigned_entry source.order U.BITS_SIZE bits)
             self.old (seen U.value result) self.new }
@@ -63,7 +95,11 @@ pub trait BitRead {
         self.read_unsigned_counted(BitCount::unknown(bits))
     }
 
-    /// As [`BitRead::read_unsigned_var`], with as many bits as B says.
+    /// Reads an unsigned number of as many bits as B says, which U has, and returns it.
+    ///
+    /// # Errors
+    ///
+    /// Those of the stream, and `Failed` after one of these.
     fn read_unsigned<B: Width, U: UnsignedInteger>(&mut self) -> Result<U, Error>
         requires { B.BITS ≤ U.BITS_SIZE }
         ensures reads { Reads source (unsigned_entry source.order U.BITS_SIZE B.BITS)
@@ -72,9 +108,12 @@ pub trait BitRead {
         self.read_unsigned_var(B::BITS)
     }
 
-    /// Reads a signed number of so many bits, of which one is the sign.
+    /// Reads a signed number of so many bits, a two's complement, and returns it.
     ///
-    /// `NoSignBit` at 0 bits, `ReadBits` if the type has fewer bits: nothing is taken then.
+    /// # Errors
+    ///
+    /// `NoSignBit` at 0 bits: nothing is taken then. Else as
+    /// [`read_signed_counted`](BitRead::read_signed_counted).
     fn read_signed_var<S: SignedInteger>(&mut self, bits: u32) -> Result<S, Error>
         ensures reads { Reads source (signed_entry source.order S.BITS_SIZE bits)
             self.old (seen S.integer result) self.new }
@@ -88,7 +127,11 @@ pub trait BitRead {
         }
     }
 
-    /// As [`BitRead::read_signed_var`], with as many bits as B says.
+    /// Reads a signed number of as many bits as B says, which S has, and returns it.
+    ///
+    /// # Errors
+    ///
+    /// Those of the stream, and `Failed` after one of these.
     fn read_signed<B: Width, S: SignedInteger>(&mut self) -> Result<S, Error>
         requires some { 1 ≤ B.BITS }
         requires within { B.BITS ≤ S.BITS_SIZE }
@@ -98,8 +141,12 @@ pub trait BitRead {
         self.read_signed_var(B::BITS)
     }
 
-    /// Reads a number of as many bits as B says, and answers `err` where it is not the one that V
-    /// says. The bits are taken then too.
+    /// Reads a number of as many bits as B says, which is to be the one that V says.
+    ///
+    /// # Errors
+    ///
+    /// `err` where it is another: its bits are taken then. Those of the stream, and `Failed` after one
+    /// of these, each turned into an E.
     fn read_const<B: Width, V: Width, E: From<Error> + Drop>(&mut self, err: E) -> Result<(), E>
         requires word { B.BITS ≤ 32 }
         requires value { (V.BITS < 2 ^ B.BITS) ⊎ (B.BITS ≡ 0) }
@@ -110,12 +157,17 @@ pub trait BitRead {
         if value == V::BITS { Ok(()) } else { Err(err) }
     }
 
-    /// Reads a count with as few bits as its greatest number takes, which is 1 less than a power of
-    /// two: any number of so many bits is a count.
+    /// Reads a count in as few bits as its greatest number takes, and returns it. That number is 1 less
+    /// than a power of two, so any number of so many bits is a count.
+    ///
+    /// # Errors
+    ///
+    /// Those of the stream, and `Failed` after one of these.
     fn read_count<C: Count>(&mut self) -> Result<C, Error>
         requires some { 0 < C.MAX }
         requires full { IsTrue (is_full 32 C.MAX) }
-        ensures reads { Reads source (count_entry source.order C.MAX) self.old (seen C.number result) self.new }
+        ensures reads { Reads source (count_entry source.order C.MAX)
+            self.old (seen C.number result) self.new }
     {
         let number = self.read_unsigned_var(count_bits(C::MAX))?;
         match C::of(number) {
@@ -124,7 +176,7 @@ pub trait BitRead {
         }
     }
 
-    /// The reader itself, lent.
+    /// Returns the reader by reference, for a function that takes a reader by value.
     fn by_ref(&mut self) -> &mut Self
         ensures value { result.now ≡ self.old }
         ensures same_reference { result.ghost_name ≡ self.entry.ghost_name }

@@ -1,6 +1,6 @@
 //! A reader of bits over a stream of bytes.
 ghost use Rattle.std.specs.Prelude.{◌≡◌, ℕ, ◌+◌, ◌*◌, ◌/◌, ◌^◌, ◌<◌, ◌≤◌, false, true, Ok};
-ghost use Rattle.bitstream_order.specs.Draw.{seen};
+ghost use Rattle.bitstream_order.specs.TakeBits.{seen};
 ghost use Rattle.bitstream_order.specs.Port.{fetched_count};
 ghost use Rattle.bitstream_stream.specs.Reads.{Reads};
 ghost use Rattle.bitstream_stream.specs.ReadTable.{unsigned_entry, signed_entry, align_entry};
@@ -17,16 +17,18 @@ use bitstream_order::source::Source;
 use bitstream_order::tally::Tally;
 use std::marker::PhantomData;
 
-/// A reader of bits over a stream of bytes. It holds back fewer than eight bits, and fetches a byte
-/// only when a call needs a bit of it.
+/// Reads bits from a stream of bytes. A byte is fetched only when a call needs a bit of it, so fewer
+/// than 8 bits are ever held back.
 ///
-/// Over a [`Slice`](bitstream_order::slice::Slice) each call answers by the bytes alone: a call whose
-/// bits are there never faults, and one whose bits are not answers `EndOfInput`. Of a `Read` std does
-/// not tell how it refuses.
+/// Over a [`Slice`](bitstream_order::slice::Slice) each call answers by the bytes alone: where its
+/// bits are all there it never answers `EndOfInput`, `Stream` or `OutOfMemory`, and where they are
+/// not, it answers `EndOfInput`. Of a `Read` std does not tell how it refuses.
 ///
 /// # Examples
 ///
 /// ```
+/// use bitstream_io::{BE, BitRead, BitReader, Bits, Error, Slice};
+///
 /// let mut reader = BitReader::<_, BE>::new(Slice::new(&[0xb1, 0xed]));
 /// let kind: u8 = reader.read_unsigned::<Bits<2>, _>()?;
 /// let level: i8 = reader.read_signed_var(3)?;
@@ -54,9 +56,10 @@ pub struct BitReader<R, E> {
 impl<R: Source, E: Endianness> BitReader<R, E> {
     ghost use Rattle.bitstream_stream.specs.Reader.{new_reader_state, requests_made};
 
-    /// A reader of a stream's bytes.
+    /// Returns a reader of a stream's bytes. Nothing is asked of the stream yet.
     pub fn new(reader: R) -> BitReader<R, E>
-        ensures { ⟦<BitReader<R, E> as BitRead>⟧.source.state result ≡ new_reader_state (R.known reader) (R.places reader) }
+        ensures { ⟦<BitReader<R, E> as BitRead>⟧.source.state result
+            ≡ new_reader_state (R.remaining reader) (R.reference_names reader) }
     {
         BitReader {
             port: Port::new(reader),
@@ -68,22 +71,23 @@ impl<R: Source, E: Endianness> BitReader<R, E> {
         }
     }
 
-    /// As [`BitReader::new`], in the order that is given.
+    /// Returns a reader as [`new`](BitReader::new) does, with its order as an argument.
     pub fn endian(reader: R, _endian: E) -> BitReader<R, E>
     where
         E: Drop,
-        ensures { ⟦<BitReader<R, E> as BitRead>⟧.source.state result ≡ new_reader_state (R.known reader) (R.places reader) }
+        ensures { ⟦<BitReader<R, E> as BitRead>⟧.source.state result
+            ≡ new_reader_state (R.remaining reader) (R.reference_names reader) }
     {
         BitReader::new(reader)
     }
 
-    /// A word with more bits than the queue.
+    /// Reads a word of more bits than the queue has.
     fn fetch_word<U: UnsignedInteger>(&mut self, bits: u32) -> Result<U, Error>
         requires fine { self.old.failed ≡ false }
         requires more { self.old.queued < bits }
         requires room { bits ≤ U.BITS_SIZE }
-        ensures reads { Reads ⟦<BitReader<R, E> as BitRead>⟧.source (unsigned_entry E.order U.BITS_SIZE bits)
-            self.old (seen U.value result) self.new }
+        ensures reads { Reads ⟦<BitReader<R, E> as BitRead>⟧.source
+            (unsigned_entry E.order U.BITS_SIZE bits) self.old (seen U.value result) self.new }
         ensures requests { requests_made self.new ≤ requests_made self.old + 2 }
     {
         let queued = self.queued;
@@ -112,11 +116,11 @@ impl<R: Source, E: Endianness> BitReader<R, E> {
 impl<R: Source, E: Endianness> BitRead for BitReader<R, E> {
     ghost use Rattle.bitstream_stream.specs.Reader.{reader_source, requests_made, AsksForWord};
 
-    ghost source = { reader_source R.known R.refuses R.places E.order };
+    ghost source = { reader_source R.remaining R.refuses R.reference_names E.order };
 
     fn read_unsigned_counted<C: Count, U: UnsignedInteger>(&mut self, bits: C) -> Result<U, Error>
-        ensures reads { Reads ⟦<BitReader<R, E> as BitRead>⟧.source (unsigned_entry E.order U.BITS_SIZE (C.number bits))
-            self.old (seen U.value result) self.new }
+        ensures reads { Reads ⟦<BitReader<R, E> as BitRead>⟧.source
+            (unsigned_entry E.order U.BITS_SIZE (C.number bits)) self.old (seen U.value result) self.new }
         ensures asks { AsksForWord (C.number bits) self.old self.new }
     {
         let bits = bits.bits();
@@ -138,8 +142,8 @@ impl<R: Source, E: Endianness> BitRead for BitReader<R, E> {
     }
 
     fn read_signed_counted<C: SignedCount, S: SignedInteger>(&mut self, bits: C) -> Result<S, Error>
-        ensures reads { Reads ⟦<BitReader<R, E> as BitRead>⟧.source (signed_entry E.order S.BITS_SIZE (C.number bits))
-            self.old (seen S.integer result) self.new }
+        ensures reads { Reads ⟦<BitReader<R, E> as BitRead>⟧.source
+            (signed_entry E.order S.BITS_SIZE (C.number bits)) self.old (seen S.integer result) self.new }
         ensures asks { AsksForWord (C.number bits) self.old self.new }
     {
         let bits = bits.bits();
@@ -148,8 +152,8 @@ impl<R: Source, E: Endianness> BitRead for BitReader<R, E> {
     }
 
     fn read_unsigned_var<U: UnsignedInteger>(&mut self, bits: u32) -> Result<U, Error>
-        ensures reads { Reads ⟦<BitReader<R, E> as BitRead>⟧.source (unsigned_entry E.order U.BITS_SIZE bits)
-            self.old (seen U.value result) self.new }
+        ensures reads { Reads ⟦<BitReader<R, E> as BitRead>⟧.source
+            (unsigned_entry E.order U.BITS_SIZE bits) self.old (seen U.value result) self.new }
         ensures asks { AsksForWord bits self.old self.new }
     {
         self.read_unsigned_counted(BitCount::unknown(bits))
@@ -160,7 +164,8 @@ impl<R: Source, E: Endianness> BitRead for BitReader<R, E> {
     }
 
     fn byte_align(&mut self)
-        ensures reads { Reads ⟦<BitReader<R, E> as BitRead>⟧.source align_entry self.old (Ok tt) self.new }
+        ensures reads { Reads ⟦<BitReader<R, E> as BitRead>⟧.source align_entry
+            self.old (Ok tt) self.new }
         ensures requests { requests_made self.new ≡ requests_made self.old }
     {
         if !self.failed {

@@ -4,11 +4,31 @@ use bitstream_count::count::{BitCount, Count, SignedCount};
 use bitstream_count::error::Error;
 use bitstream_number::number::{SignedInteger, UnsignedInteger, Width};
 
-/// A sink of bits.
+/// Writes bits.
 ///
-/// After `Stream` and `OutOfMemory` a sink has failed: the bits that waited in it are lost, and each
-/// later call that writes answers `Failed` before any other check, also at a width of 0 bits. After
-/// any other error it is as it was.
+/// # Errors
+///
+/// Where the stream beneath refuses a request, a call answers `OutOfMemory` or `Stream` with the kind
+/// of the refusal, and the sink has failed: the bits that waited in it are lost. Each later call that
+/// writes answers `Failed`, before any other check and also at a width of 0 bits. A sink with a limit
+/// answers `CounterOverflow` where the bits would pass it. After this and any other error the sink is
+/// as it was.
+///
+/// # Examples
+///
+/// ```
+/// use bitstream_io::{BE, BitCount, BitWrite, BitWriter, Bits};
+///
+/// let mut bytes = Vec::new(rt.alloc());
+/// let mut writer = BitWriter::<_, BE>::new(&mut bytes);
+/// let count = BitCount::<7>::new::<2>();
+/// writer.write_const::<Bits<4>, Bits<7>>()?;
+/// writer.write_signed::<Bits<4>, i32>(-2)?;
+/// writer.write_count(count)?;
+/// writer.write_unsigned_counted(count, 3u8)?;
+/// writer.byte_align()?;
+/// assert_eq!(rt; bytes.as_slice(), [0x7e, 0x58].as_slice());
+/// ```
 pub trait BitWrite {
     ghost use Rattle.std.specs.Prelude.{◌≡◌, ℕ, ◌+◌, ◌%◌, ◌^◌, ◌<◌, ◌≤◌, ◌↔◌, ◌⊎◌, Bool, true, false, IsTrue};
     ghost use Rattle.bitstream_number.specs.Word.{word};
@@ -18,43 +38,52 @@ pub trait BitWrite {
     // What the states of the sink mean.
     ghost sink: { Sink Self };
 
-    /// Writes a number in so many bits. At no bits each number is accepted, and nothing is written.
+    /// Writes an unsigned number in so many bits. In 0 bits any number is accepted, and nothing is
+    /// written.
     ///
     /// # Errors
     ///
-    /// `Checked(ExcessiveBits)` for more bits than the type has, `Checked(ExcessiveValue)` for a
-    /// number of more bits than the count: nothing was written.
+    /// `Checked(ExcessiveBits)` where the type has fewer bits, `Checked(ExcessiveValue)` where the
+    /// number takes more: nothing is written then. Those of the stream or the limit, and `Failed`
+    /// after one of the stream's.
     fn write_unsigned_counted<C: Count, U: UnsignedInteger>(
         &mut self,
         count: C,
         value: U,
     ) -> Result<(), Error>
-        ensures writes { Writes sink (unsigned sink.order U.BITS_SIZE (C.number count) (U.value value))
-            self.old result self.new };
+        ensures writes { Writes sink
+            (unsigned sink.order U.BITS_SIZE (C.number count) (U.value value)) self.old result self.new };
 
     /// Writes a signed number in so many bits, as a two's complement.
     ///
     /// # Errors
     ///
-    /// `Checked(ExcessiveBits)` for more bits than the type has, `Checked(ExcessiveValue)` for a
-    /// number that the count does not hold: nothing was written.
+    /// `Checked(ExcessiveBits)` where the type has fewer bits, `Checked(ExcessiveValue)` where the
+    /// number takes more: nothing is written then. Those of the stream or the limit, and `Failed`
+    /// after one of the stream's.
     fn write_signed_counted<C: SignedCount, S: SignedInteger>(
         &mut self,
         count: C,
         value: S,
     ) -> Result<(), Error>
-        ensures writes { Writes sink (signed sink.order S.BITS_SIZE (C.number count) (S.integer value))
-            self.old result self.new };
+        ensures writes { Writes sink
+            (signed sink.order S.BITS_SIZE (C.number count) (S.integer value)) self.old result self.new };
 
-    /// Whether the sink has not failed, and a multiple of 8 bits was written.
+    /// Returns whether a multiple of 8 bits was written. A sink that has failed is not aligned.
     fn byte_aligned(&self) -> bool
-        ensures aligned { IsTrue result ↔ ((sink.failed self.now ≡ false) × (sink.len self.now % 8 ≡ 0)) };
+        ensures aligned { IsTrue result ↔ ((sink.failed self.now ≡ false)
+            × (sink.len self.now % 8 ≡ 0)) };
 
-    /// Whether so many bits more are within the sink's limit. Always true of a writer.
+    /// Returns whether so many bits more are within the sink's limit. A writer has none.
     fn has_room(&self, bits: u128) -> bool
         ensures room { IsTrue result ↔ IsWithin sink.limit (sink.len self.now + bits) };
 
-    /// Writes a number in so many bits, as [`write_unsigned_counted`](BitWrite::write_unsigned_counted).
+    /// Writes an unsigned number in so many bits. In 0 bits any number is accepted, and nothing is
+    /// written.
+    ///
+    /// # Errors
+    ///
+    /// As [`write_unsigned_counted`](BitWrite::write_unsigned_counted).
     fn write_unsigned_var<U: UnsignedInteger>(&mut self, bits: u32, value: U) -> Result<(), Error>
         ensures writes { Writes sink (unsigned sink.order U.BITS_SIZE bits (U.value value))
             self.old result self.new }
@@ -62,7 +91,12 @@ pub trait BitWrite {
         self.write_unsigned_counted(BitCount::unknown(bits), value)
     }
 
-    /// As [`write_unsigned_var`](BitWrite::write_unsigned_var), with as many bits as B says.
+    /// Writes an unsigned number in as many bits as B says, which U has.
+    ///
+    /// # Errors
+    ///
+    /// `Checked(ExcessiveValue)` where the number takes more bits: nothing is written then. Those of
+    /// the stream or the limit, and `Failed` after one of the stream's.
     fn write_unsigned<B: Width, U: UnsignedInteger>(&mut self, value: U) -> Result<(), Error>
         requires { B.BITS ≤ U.BITS_SIZE }
         ensures writes { Writes sink (unsigned sink.order U.BITS_SIZE B.BITS (U.value value))
@@ -75,7 +109,8 @@ pub trait BitWrite {
     ///
     /// # Errors
     ///
-    /// `NoSignBit` at 0 bits, and else as [`write_signed_counted`](BitWrite::write_signed_counted).
+    /// `NoSignBit` at 0 bits: nothing is written then. Else as
+    /// [`write_signed_counted`](BitWrite::write_signed_counted).
     fn write_signed_var<S: SignedInteger>(&mut self, bits: u32, value: S) -> Result<(), Error>
         ensures writes { Writes sink (signed sink.order S.BITS_SIZE bits (S.integer value))
             self.old result self.new }
@@ -89,7 +124,12 @@ pub trait BitWrite {
         }
     }
 
-    /// As [`write_signed_var`](BitWrite::write_signed_var), with as many bits as B says.
+    /// Writes a signed number in as many bits as B says, which S has, as a two's complement.
+    ///
+    /// # Errors
+    ///
+    /// `Checked(ExcessiveValue)` where the number takes more bits: nothing is written then. Those of
+    /// the stream or the limit, and `Failed` after one of the stream's.
     fn write_signed<B: Width, S: SignedInteger>(&mut self, value: S) -> Result<(), Error>
         requires some { 1 ≤ B.BITS }
         requires within { B.BITS ≤ S.BITS_SIZE }
@@ -100,23 +140,37 @@ pub trait BitWrite {
     }
 
     /// Writes the number that V says in as many bits as B says.
+    ///
+    /// # Errors
+    ///
+    /// Those of the stream or the limit, and `Failed` after one of the stream's.
     fn write_const<B: Width, V: Width>(&mut self) -> Result<(), Error>
         requires word { B.BITS ≤ 32 }
         requires value { (V.BITS < 2 ^ B.BITS) ⊎ (B.BITS ≡ 0) }
-        ensures writes { Writes sink (plain (word sink.order B.BITS V.BITS)) self.old result self.new }
+        ensures writes { Writes sink (plain (word sink.order B.BITS V.BITS))
+            self.old result self.new }
     {
         self.write_unsigned::<B, u32>(V::BITS)
     }
 
     /// Writes a count in as few bits as its greatest number takes.
+    ///
+    /// # Errors
+    ///
+    /// Those of the stream or the limit, and `Failed` after one of the stream's.
     fn write_count<C: Count>(&mut self, count: C) -> Result<(), Error>
         requires { 0 < C.MAX }
-        ensures writes { Writes sink (count_entry sink.order C.MAX (C.number count)) self.old result self.new }
+        ensures writes { Writes sink (count_entry sink.order C.MAX (C.number count))
+            self.old result self.new }
     {
         self.write_unsigned_var(count_bits(C::MAX), count.bits())
     }
 
-    /// Writes one bit.
+    /// Writes one bit: 1 for `true`.
+    ///
+    /// # Errors
+    ///
+    /// Those of the stream or the limit, and `Failed` after one of the stream's.
     fn write_bit(&mut self, bit: bool) -> Result<(), Error>
         ensures writes { Writes sink (one_bit bit) self.old result self.new }
     {
@@ -127,7 +181,8 @@ pub trait BitWrite {
     ///
     /// # Errors
     ///
-    /// `CounterOverflow` where they pass the sink's limit: none was written then.
+    /// Those of the stream, and `Failed` after one of these. `CounterOverflow` where the zeros would
+    /// pass the sink's limit: none is written then.
     fn byte_align(&mut self) -> Result<(), Error>
         ensures writes { Writes sink align self.old result self.new }
     {
@@ -141,7 +196,7 @@ pub trait BitWrite {
         Ok(())
     }
 
-    /// The sink by reference, for a function that takes a sink by value.
+    /// Returns the sink by reference, for a function that takes a sink by value.
     fn by_ref(&mut self) -> &mut Self
     where
         Self: Sized,

@@ -1,4 +1,4 @@
-//! The writer of bits to a stream of bytes.
+//! A writer of bits to a stream of bytes.
 ghost use Rattle.std.specs.Prelude.{◌≡◌, ℕ, ◌<◌, ◌≤◌, ◌^◌, false, true};
 
 use crate::check::{check, check_signed};
@@ -13,22 +13,20 @@ use bitstream_order::sign::complement;
 use bitstream_order::target::Target;
 use std::marker::PhantomData;
 
-/// Writes bits to a stream of bytes.
-///
-/// The bits of the last byte, while they are fewer than 8, wait in the writer. Each byte is handed
-/// on as soon as it is whole; what still waits when the writer is dropped is lost, so a caller
-/// aligns first.
+/// Writes bits to a stream of bytes. A byte is sent as soon as it is full, so fewer than 8 bits wait
+/// in the writer. What waits when it is dropped is lost: align it first.
 ///
 /// # Examples
 ///
 /// ```
+/// use bitstream_io::{BE, BitWrite, BitWriter, Bits};
+///
 /// let mut bytes = Vec::new(rt.alloc());
 /// let mut writer = BitWriter::<_, BE>::new(&mut bytes);
 /// writer.write_unsigned::<Bits<4>, u8>(0xb)?;
 /// writer.write_signed_var::<i8>(4, -3)?;
 /// writer.write_bit(true)?;
 /// writer.byte_align()?;
-/// let _ = writer;
 /// assert_eq!(rt; bytes.as_slice(), [0xbd, 0x80].as_slice());
 /// ```
 #[derive(Drop)]
@@ -45,12 +43,13 @@ pub struct BitWriter<W, E> {
 
 impl<W: Target, E: Endianness> BitWriter<W, E> {
     ghost use Rattle.bitstream_number.specs.Word.{word};
-    ghost use Rattle.bitstream_order.specs.Refusal.{MayReject};
+    ghost use Rattle.bitstream_order.specs.Refusal.{MayRefuseSend};
     ghost use Rattle.bitstream_stream.specs.Writer.{writer_state, fresh_writer, AsksForWord, Pushes};
 
-    /// A writer to a stream to which it handed nothing on yet.
+    /// Returns a writer to a stream. Nothing is asked of the stream yet.
     pub fn new(stream: W) -> BitWriter<W, E>
-        ensures { writer_state W.held W.places result ≡ fresh_writer (W.held stream) (W.places stream) }
+        ensures { writer_state W.contents W.reference_names result
+            ≡ fresh_writer (W.contents stream) (W.reference_names stream) }
     {
         BitWriter {
             port: Port::new(stream),
@@ -61,11 +60,12 @@ impl<W: Target, E: Endianness> BitWriter<W, E> {
         }
     }
 
-    /// A writer as [`new`](BitWriter::new) makes it, with its order as an argument.
+    /// Returns a writer as [`new`](BitWriter::new) does, with its order as an argument.
     pub fn endian(stream: W, _order: E) -> BitWriter<W, E>
     where
         E: Drop,
-        ensures { writer_state W.held W.places result ≡ fresh_writer (W.held stream) (W.places stream) }
+        ensures { writer_state W.contents W.reference_names result
+            ≡ fresh_writer (W.contents stream) (W.reference_names stream) }
     {
         BitWriter::new(stream)
     }
@@ -74,8 +74,9 @@ impl<W: Target, E: Endianness> BitWriter<W, E> {
     fn push<U: UnsignedInteger>(&mut self, value: U, n: u32) -> Result<(), Error>
         requires sound { self.old.failed ≡ false }
         requires room { n ≤ U.BITS_SIZE }
-        ensures pushes { Pushes (MayReject W.refuses) E.order (word E.order n (U.value value))
-            (writer_state W.held W.places self.old) result (writer_state W.held W.places self.new) }
+        ensures pushes { Pushes (MayRefuseSend W.refuses) E.order (word E.order n (U.value value))
+            (writer_state W.contents W.reference_names self.old) result
+            (writer_state W.contents W.reference_names self.new) }
         ensures asks { AsksForWord n self.old self.new }
     {
         if self.queued + n < 8 {
@@ -105,15 +106,15 @@ impl<W: Target, E: Endianness> BitWrite for BitWriter<W, E> {
     ghost use Rattle.bitstream_stream.specs.Sink.{Writes};
     ghost use Rattle.bitstream_stream.specs.WriteTable.{unsigned, signed, bit as one_bit};
 
-    ghost sink = { writer_sink W.held W.refuses W.places E.order };
+    ghost sink = { writer_sink W.contents W.refuses W.reference_names E.order };
 
     fn write_unsigned_counted<C: Count, U: UnsignedInteger>(
         &mut self,
         count: C,
         value: U,
     ) -> Result<(), Error>
-        ensures writes { Writes ⟦<BitWriter<W, E> as BitWrite>⟧.sink (unsigned E.order U.BITS_SIZE (C.number count) (U.value value))
-            self.old result self.new }
+        ensures writes { Writes ⟦<BitWriter<W, E> as BitWrite>⟧.sink
+            (unsigned E.order U.BITS_SIZE (C.number count) (U.value value)) self.old result self.new }
         ensures asks { AsksForWord (C.number count) self.old self.new }
     {
         if self.failed {
@@ -129,32 +130,32 @@ impl<W: Target, E: Endianness> BitWrite for BitWriter<W, E> {
         count: C,
         value: S,
     ) -> Result<(), Error>
-        ensures writes { Writes ⟦<BitWriter<W, E> as BitWrite>⟧.sink (signed E.order S.BITS_SIZE (C.number count) (S.integer value))
-            self.old result self.new }
+        ensures writes { Writes ⟦<BitWriter<W, E> as BitWrite>⟧.sink
+            (signed E.order S.BITS_SIZE (C.number count) (S.integer value)) self.old result self.new }
         ensures asks { AsksForWord (C.number count) self.old self.new }
     {
         self.write_signed_var(count.bits(), value)
     }
 
     fn write_unsigned_var<U: UnsignedInteger>(&mut self, bits: u32, value: U) -> Result<(), Error>
-        ensures writes { Writes ⟦<BitWriter<W, E> as BitWrite>⟧.sink (unsigned E.order U.BITS_SIZE bits (U.value value))
-            self.old result self.new }
+        ensures writes { Writes ⟦<BitWriter<W, E> as BitWrite>⟧.sink
+            (unsigned E.order U.BITS_SIZE bits (U.value value)) self.old result self.new }
         ensures asks { AsksForWord bits self.old self.new }
     {
         self.write_unsigned_counted(BitCount::unknown(bits), value)
     }
 
     fn write_unsigned<B: Width, U: UnsignedInteger>(&mut self, value: U) -> Result<(), Error>
-        ensures writes { Writes ⟦<BitWriter<W, E> as BitWrite>⟧.sink (unsigned E.order U.BITS_SIZE B.BITS (U.value value))
-            self.old result self.new }
+        ensures writes { Writes ⟦<BitWriter<W, E> as BitWrite>⟧.sink
+            (unsigned E.order U.BITS_SIZE B.BITS (U.value value)) self.old result self.new }
         ensures asks { AsksForWord B.BITS self.old self.new }
     {
         self.write_unsigned_var(B::BITS, value)
     }
 
     fn write_signed_var<S: SignedInteger>(&mut self, bits: u32, value: S) -> Result<(), Error>
-        ensures writes { Writes ⟦<BitWriter<W, E> as BitWrite>⟧.sink (signed E.order S.BITS_SIZE bits (S.integer value))
-            self.old result self.new }
+        ensures writes { Writes ⟦<BitWriter<W, E> as BitWrite>⟧.sink
+            (signed E.order S.BITS_SIZE bits (S.integer value)) self.old result self.new }
         ensures asks { AsksForWord bits self.old self.new }
     {
         if self.failed {
@@ -165,15 +166,16 @@ impl<W: Target, E: Endianness> BitWrite for BitWriter<W, E> {
     }
 
     fn write_signed<B: Width, S: SignedInteger>(&mut self, value: S) -> Result<(), Error>
-        ensures writes { Writes ⟦<BitWriter<W, E> as BitWrite>⟧.sink (signed E.order S.BITS_SIZE B.BITS (S.integer value))
-            self.old result self.new }
+        ensures writes { Writes ⟦<BitWriter<W, E> as BitWrite>⟧.sink
+            (signed E.order S.BITS_SIZE B.BITS (S.integer value)) self.old result self.new }
         ensures asks { AsksForWord B.BITS self.old self.new }
     {
         self.write_signed_var(B::BITS, value)
     }
 
     fn write_bit(&mut self, bit: bool) -> Result<(), Error>
-        ensures writes { Writes ⟦<BitWriter<W, E> as BitWrite>⟧.sink (one_bit bit) self.old result self.new }
+        ensures writes { Writes ⟦<BitWriter<W, E> as BitWrite>⟧.sink
+            (one_bit bit) self.old result self.new }
         ensures asks { AsksForWord 1 self.old self.new }
     {
         if self.failed {

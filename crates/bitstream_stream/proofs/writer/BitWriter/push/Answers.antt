@@ -12,8 +12,8 @@ returns-then-self-n-lt8-clause-pushes g c =
 
 pub returns-in-Ok-clause-pushes : goal.returns-in-Ok-clause-pushes
 returns-in-Ok-clause-pushes g c =
-    pushed_bytes _ g.E.Endianness.order c.args.self.now.queued c.args.self.now.queue c.args.n (g.U.UnsignedInteger.value c.args.value) c.in-Ok.gone _ _ _ _ _ c.in-Ok.ensures.passes c.in-Ok.ensures.within c.cut-self.ensures c.requires.sound
+    pushed_bytes _ g.E.Endianness.order c.args.self.now.queued c.args.self.now.queue c.args.n (g.U.UnsignedInteger.value c.args.value) c.in-Ok.gone _ _ _ _ _ c.in-Ok.ensures.sends c.in-Ok.ensures.within c.cut-self.ensures c.requires.sound
 
 pub returns-in-Err-clause-pushes : goal.returns-in-Err-clause-pushes
 returns-in-Err-clause-pushes g c =
-    pushed_fault _ g.E.Endianness.order c.args.self.now.queued c.args.self.now.queue c.args.n (g.U.UnsignedInteger.value c.args.value) _ _ _ _ _ _ c.in-Err.ensures.passes c.args.self.now.few (omega arith) refl
+    pushed_fault _ g.E.Endianness.order c.args.self.now.queued c.args.self.now.queue c.args.n (g.U.UnsignedInteger.value c.args.value) _ _ _ _ _ _ c.in-Err.ensures.sends c.args.self.now.few (omega arith) refl

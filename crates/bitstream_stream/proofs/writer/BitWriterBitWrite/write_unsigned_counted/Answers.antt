@@ -1,4 +1,4 @@
-use Rattle.bitstream_order.specs.Refusal.{MayReject}
+use Rattle.bitstream_order.specs.Refusal.{MayRefuseSend}
 use Rattle.std.proofs.Common.{refl, Err, ap, ◌∙◌}
 use Rattle.std.proofs.lemmas.Result.{err_from_is_err_and}
 use Rattle.bitstream_stream.specs.Writer.{writer_state, queue_sink, writer_sink}
@@ -7,15 +7,15 @@ use Rattle.bitstream_stream.proofs.WriterLemmas.{pushes_writes}
 use Rattle.bitstream_stream.proofs.writer.BitWriterBitWrite.write_unsigned_counted.Goals as goal
 
 pub returns-then-self-clause-writes : goal.returns-then-self-clause-writes
-returns-then-self-clause-writes g c = fails (writer_sink g.W.Target.held g.W.Target.refuses g.W.Target.places g.E.Endianness.order) _ _ _ c.if-self.true refl
+returns-then-self-clause-writes g c = fails (writer_sink g.W.Target.contents g.W.Target.refuses g.W.Target.reference_names g.E.Endianness.order) _ _ _ c.if-self.true refl
 
 pub returns-in_err-check-clause-writes : goal.returns-in_err-check-clause-writes
 returns-in_err-check-clause-writes g c =
     let p = err_from_is_err_and c.from_residual.result c.from_residual.ensures.1 in
-    refuses (writer_sink g.W.Target.held g.W.Target.refuses g.W.Target.places g.E.Endianness.order) _ _ _ _ c.if-self.false (rw (← c.bits-bits.ensures.value) (c.in_err-check.ensures.refusal _ _)) (p.1 ∙ ap Err p.2)
+    refuses (writer_sink g.W.Target.contents g.W.Target.refuses g.W.Target.reference_names g.E.Endianness.order) _ _ _ _ c.if-self.false (rw (← c.bits-bits.ensures.value) (c.in_err-check.ensures.refusal _ _)) (p.1 ∙ ap Err p.2)
 
 pub returns-clause-writes : goal.returns-clause-writes
 returns-clause-writes g c =
     let o = g.E.Endianness.order in
-    inner (writer_state g.W.Target.held g.W.Target.places) (queue_sink (MayReject g.W.Target.refuses) o) _ _ _ _
+    inner (writer_state g.W.Target.contents g.W.Target.reference_names) (queue_sink (MayRefuseSend g.W.Target.refuses) o) _ _ _ _
     (pushes_writes _ o _ _ _ _ _ c.if-self.false (rw (← c.bits-bits.ensures.value) (c.in_ok-check.ensures.word _ _)) c.push.ensures.pushes)
