@@ -29,9 +29,9 @@ module _ {A : Type 0} (after : ℕ → A) {R : Type 0} {K : BitSource R} where
   unfolding non_zero_entry
   non_zero-stops o size n {r = r} less h k = rw (lt-ltb n size less) (exit (λ v. gives (after v)) r h k)
 
-  pub non_zero-answers : (o : Order) (size n v : ℕ) (a : A) {s t : R} → n < size → after v ≡ a → Reads K (unsigned_entry o size n) s (Ok v) t → Reads K (non_zero_entry after o size n) s (Ok a) t
+  pub non_zero-takes_front : (o : Order) (size n v : ℕ) (a : A) {s t : R} → n < size → after v ≡ a → Reads K (unsigned_entry o size n) s (Ok v) t → Reads K (non_zero_entry after o size n) s (Ok a) t
   unfolding non_zero_entry
-  non_zero-answers o size n v a {s = s} {t = t} less is h =
+  non_zero-takes_front o size n v a {s = s} {t = t} less is h =
       rw (lt-ltb n size less, ← is) (Reads-chain-ok _ (λ k. gives (after k)) h (Reads-gives (after v) t))
 
   pub non_zero-refused : (o : Order) (size n : ℕ) {r : Result A Error} {s t : R} → size ≤ n → Reads K (refuses NonZeroWidth) s r t → Reads K (non_zero_entry after o size n) s r t
@@ -42,9 +42,9 @@ module _ {A : Type 0} (after : ℕ → A) {R : Type 0} {K : BitSource R} where
   unfolding option_entry
   option-stops o size n {r = r} h k = exit (λ v. gives (if_any after v)) r h k
 
-  pub option-answers : (o : Order) (size n v : ℕ) (x : Option A) {s t : R} → if_any after v ≡ x → Reads K (unsigned_entry o size n) s (Ok v) t → Reads K (option_entry after o size n) s (Ok x) t
+  pub option-takes_front : (o : Order) (size n v : ℕ) (x : Option A) {s t : R} → if_any after v ≡ x → Reads K (unsigned_entry o size n) s (Ok v) t → Reads K (option_entry after o size n) s (Ok x) t
   unfolding option_entry
-  option-answers o size n v x {s = s} {t = t} is h = rw (← is) (Reads-chain-ok _ (λ k. gives (if_any after k)) h (Reads-gives (if_any after v) t))
+  option-takes_front o size n v x {s = s} {t = t} is h = rw (← is) (Reads-chain-ok _ (λ k. gives (if_any after k)) h (Reads-gives (if_any after v) t))
 
 -- a number of fewer bits than the type has is not its greatest
 pub next_fits : (n size v : ℕ) → n < size → v < 2 ^ n → v + 1 < 2 ^ size

@@ -91,21 +91,21 @@ items-word {e = e} {n = n} {g = g} h (suc k) = record {
 
 -- ---- what a new reader answers, over a stream that refuses at true ends alone
 
-module _ {R A : Type 0} {K : BitSource R} {e : ReadEntry A} {n : ℕ} {g : List Bool → Result A Error} {r : Result A Error} {s t : R} {xs : List ℕ} {places : List GName} where
+module _ {R A : Type 0} {K : BitSource R} {e : ReadEntry A} {n : ℕ} {g : List Bool → Result A Error} {r : Result A Error} {s t : R} {xs : List ℕ} {reference_names : List GName} where
   -- the bits are there
-  pub word_there : IsWord e n g → TrueEnds K.may → K.state s ≡ new_reader_state (Some xs) places → Reads K e s r t → n ≤ 8 * length xs → r ≡ g (take n (bits K.order xs))
+  pub word_there : IsWord e n g → TrueEnds K.may → K.state s ≡ new_reader_state (Some xs) reference_names → Reads K e s r t → n ≤ 8 * length xs → r ≡ g (take n (bits K.order xs))
   word_there word ends new h enough =
       let le : n ≤ length (bits K.order xs) = let len = length-bits K.order xs in omega arith in
-      new_answer ends xs places new h ∙ rw (word.reads 0 (bits K.order xs), le-leb n (length (bits K.order xs)) le) refl
+      new_answer ends xs reference_names new h ∙ rw (word.reads 0 (bits K.order xs), le-leb n (length (bits K.order xs)) le) refl
 
   -- they are not
-  pub word_short : IsWord e n g → TrueEnds K.may → K.state s ≡ new_reader_state (Some xs) places → Reads K e s r t → 8 * length xs < n → r ≡ Err EndOfInput
+  pub word_short : IsWord e n g → TrueEnds K.may → K.state s ≡ new_reader_state (Some xs) reference_names → Reads K e s r t → 8 * length xs < n → r ≡ Err EndOfInput
   word_short word ends new h few =
       let less : length (bits K.order xs) < n = let len = length-bits K.order xs in omega arith in
-      new_answer ends xs places new h ∙ rw (word.reads 0 (bits K.order xs), lt-leb n (length (bits K.order xs)) less) refl
+      new_answer ends xs reference_names new h ∙ rw (word.reads 0 (bits K.order xs), lt-leb n (length (bits K.order xs)) less) refl
 
 -- the items are there
-pub items_there : {R A : Type 0} {K : BitSource R} {e : ReadEntry A} {n : ℕ} {g : List Bool → A} {r : Result (List A) Error} {s t : R} {xs : List ℕ} {places : List GName}
-    → IsWord e n (λ w. Ok (g w)) → (k : ℕ) → TrueEnds K.may → K.state s ≡ new_reader_state (Some xs) places → Reads K (items_entry e k) s r t → k * n ≤ 8 * length xs → r ≡ Ok (map g (words n k (bits K.order xs)))
+pub items_there : {R A : Type 0} {K : BitSource R} {e : ReadEntry A} {n : ℕ} {g : List Bool → A} {r : Result (List A) Error} {s t : R} {xs : List ℕ} {reference_names : List GName}
+    → IsWord e n (λ w. Ok (g w)) → (k : ℕ) → TrueEnds K.may → K.state s ≡ new_reader_state (Some xs) reference_names → Reads K (items_entry e k) s r t → k * n ≤ 8 * length xs → r ≡ Ok (map g (words n k (bits K.order xs)))
 items_there {K = K} {n = n} {g = g} {xs = xs} word k ends new h enough =
     word_there (items-word word k) ends new h enough ∙ ap (λ l. Ok (map g l)) (words-take n k (bits K.order xs))

@@ -20,9 +20,9 @@ use bitstream_stream::write::BitWrite;
 /// A type whose values are read and written in so many bits: the integers, `bool`, arrays of such
 /// types, and numbers that are not 0 with the options of them.
 ///
-/// An array is its items in order, each in so many bits. It answers as they do, so the items before
-/// one that is refused stay, and an array of no items makes no call. Any other value is one call: where
-/// it is refused for its width or value, no bit is read or written.
+/// An array is its items in order, each in so many bits: the items before one that is refused stay
+/// read or written, and an array of no items makes no call. Any other value is one call: where it is
+/// refused for its width or value, no bit is read or written.
 pub trait Integer: Sized {
     // What a value is in so many bits, in either order of bits: read, and written.
     ghost reads: { Order → ℕ → ReadEntry Self };
@@ -32,7 +32,11 @@ pub trait Integer: Sized {
     // The widths at which no value is refused for the width.
     ghost IsWidth: { ℕ → Type 0 };
 
-    /// Reads a value in as many bits as B says.
+    /// Reads a value in as many bits as B says, which are never refused, and returns it.
+    ///
+    /// # Errors
+    ///
+    /// Those of the reader's stream, and `Failed` after one of these.
     fn read<B: Width, R: BitRead>(reader: &mut R) -> Result<Self, Error>
         requires { IsWidth B.BITS }
         ensures reads { Reads R.source (reads R.source.order B.BITS) reader.old result reader.new }
@@ -40,20 +44,28 @@ pub trait Integer: Sized {
         Self::read_var(reader, BitCount::unknown(B::BITS))
     }
 
-    /// Reads a value in so many bits.
+    /// Reads a value in so many bits, and returns it.
     ///
     /// # Errors
     ///
-    /// `ReadBits` for more bits than the type has, `NoSignBit` for a signed number in 0 bits,
+    /// `ReadBits` where the type has fewer bits, `NoSignBit` for a signed number in 0 bits,
     /// `BoolWidth` for a `bool` in other than 1 bit, `NonZeroWidth` for a `NonZero` in as many bits
-    /// as its type has, or more.
+    /// as its type has, or more: no bit of the value is read then. Those of the reader's stream, and
+    /// `Failed` after one of these.
     fn read_var<C: Count, R: BitRead>(reader: &mut R, bits: C) -> Result<Self, Error>
-        ensures reads { Reads R.source (reads R.source.order (C.number bits)) reader.old result reader.new };
+        ensures reads { Reads R.source (reads R.source.order (C.number bits))
+            reader.old result reader.new };
 
-    /// Writes a value in as many bits as B says.
+    /// Writes a value in as many bits as B says, which are never refused.
+    ///
+    /// # Errors
+    ///
+    /// `Checked(ExcessiveValue)` where the value takes more bits: no bit of it is written then. Those
+    /// of the writer's stream or limit, and `Failed` after one of the stream's.
     fn write<B: Width, W: BitWrite>(self, writer: &mut W) -> Result<(), Error>
         requires { IsWidth B.BITS }
-        ensures writes { WritesAll W.sink (writes W.sink.order B.BITS self) writer.old result writer.new }
+        ensures writes { WritesAll W.sink (writes W.sink.order B.BITS self)
+            writer.old result writer.new }
     {
         self.write_var(writer, BitCount::unknown(B::BITS))
     }
@@ -62,9 +74,11 @@ pub trait Integer: Sized {
     ///
     /// # Errors
     ///
-    /// `Checked(ExcessiveBits)` for more bits than the type has, `Checked(ExcessiveValue)` for a value
-    /// of more bits than the count; and, before these, `NoSignBit`, `BoolWidth` and `NonZeroWidth` as
-    /// [`read_var`](Integer::read_var) has them.
+    /// `NoSignBit`, `BoolWidth` and `NonZeroWidth` as [`read_var`](Integer::read_var) has them; else
+    /// `Checked(ExcessiveBits)` where the type has fewer bits, and `Checked(ExcessiveValue)` where the
+    /// value takes more: no bit of the value is written then. Those of the writer's stream or limit,
+    /// and `Failed` after one of the stream's.
     fn write_var<C: Count, W: BitWrite>(self, writer: &mut W, bits: C) -> Result<(), Error>
-        ensures writes { WritesAll W.sink (writes W.sink.order (C.number bits) self) writer.old result writer.new };
+        ensures writes { WritesAll W.sink (writes W.sink.order (C.number bits) self)
+            writer.old result writer.new };
 }

@@ -12,6 +12,9 @@ use bitstream_stream::read::BitRead;
 /// # Examples
 ///
 /// ```
+/// use bitstream_io::{BitRead, BitReadExt, BitReader, Bits, LE};
+/// use std::num::NonZero;
+///
 /// let mut reader = BitReader::<_, LE>::new([0x0d, 0x03].as_slice());
 /// let flags = reader.read::<Bits<1>, [bool; 4]>()?;
 /// assert_eq!(rt; flags, [true, false, true, true]);
@@ -20,18 +23,33 @@ use bitstream_stream::read::BitRead;
 /// assert_eq!(rt; track.map(|n| n.get()), Some(3));
 /// ```
 pub trait BitReadExt: BitRead {
-    /// Reads a value in as many bits as B says.
+    /// Reads a value in as many bits as B says, and returns it.
+    ///
+    /// # Errors
+    ///
+    /// As [`Integer::read`].
     fn read<B: Width, I: Integer>(&mut self) -> Result<I, Error>
         requires { I.IsWidth B.BITS }
-        ensures reads { Reads Self.source (I.reads Self.source.order B.BITS) self.old result self.new };
+        ensures reads { Reads Self.source (I.reads Self.source.order B.BITS)
+            self.old result self.new };
 
-    /// Reads a value in so many bits. Refused as [`Integer::read_var`] is.
+    /// Reads a value in so many bits, and returns it.
+    ///
+    /// # Errors
+    ///
+    /// As [`Integer::read_var`].
     fn read_var<I: Integer>(&mut self, bits: u32) -> Result<I, Error>
-        ensures reads { Reads Self.source (I.reads Self.source.order bits) self.old result self.new };
+        ensures reads { Reads Self.source (I.reads Self.source.order bits)
+            self.old result self.new };
 
-    /// Reads a value in so many bits. Refused as [`Integer::read_var`] is.
+    /// Reads a value in so many bits, and returns it.
+    ///
+    /// # Errors
+    ///
+    /// As [`Integer::read_var`].
     fn read_counted<C: Count, I: Integer>(&mut self, bits: C) -> Result<I, Error>
-        ensures reads { Reads Self.source (I.reads Self.source.order (C.number bits)) self.old result self.new };
+        ensures reads { Reads Self.source (I.reads Self.source.order (C.number bits))
+            self.old result self.new };
 }
 
 impl<R: BitRead> BitReadExt for R {

@@ -12,24 +12,39 @@ use bitstream_stream::write::BitWrite;
 /// # Examples
 ///
 /// ```
+/// use bitstream_io::{BitWriteExt, BitWriter, Bits, LE};
+///
 /// let mut bytes = Vec::new(rt.alloc());
 /// let mut writer = BitWriter::<_, LE>::new(&mut bytes);
 /// writer.write::<Bits<1>, [bool; 4]>([true, false, true, true])?;
 /// writer.write_var::<i8>(4, -1)?;
-/// let _ = writer;
 /// assert_eq!(rt; bytes.as_slice(), [0xfd].as_slice());
 /// ```
 pub trait BitWriteExt: BitWrite {
     /// Writes a value in as many bits as B says.
+    ///
+    /// # Errors
+    ///
+    /// As [`Integer::write`].
     fn write<B: Width, I: Integer>(&mut self, value: I) -> Result<(), Error>
         requires { I.IsWidth B.BITS }
-        ensures writes { WritesAll Self.sink (I.writes Self.sink.order B.BITS value) self.old result self.new };
+        ensures writes { WritesAll Self.sink (I.writes Self.sink.order B.BITS value)
+            self.old result self.new };
 
-    /// Writes a value in so many bits. Refused as [`Integer::write_var`] is.
+    /// Writes a value in so many bits.
+    ///
+    /// # Errors
+    ///
+    /// As [`Integer::write_var`].
     fn write_var<I: Integer>(&mut self, bits: u32, value: I) -> Result<(), Error>
-        ensures writes { WritesAll Self.sink (I.writes Self.sink.order bits value) self.old result self.new };
+        ensures writes { WritesAll Self.sink (I.writes Self.sink.order bits value)
+            self.old result self.new };
 
-    /// Writes a value in so many bits. Refused as [`Integer::write_var`] is.
+    /// Writes a value in so many bits.
+    ///
+    /// # Errors
+    ///
+    /// As [`Integer::write_var`].
     fn write_counted<C: Count, I: Integer>(&mut self, bits: C, value: I) -> Result<(), Error>
         ensures writes { WritesAll Self.sink (I.writes Self.sink.order (C.number bits) value)
             self.old result self.new };

@@ -1,7 +1,6 @@
 //! Numbers that are not 0, and options of them.
 ghost use Rattle.std.specs.Prelude.{◌≡◌, ℕ, ◌+◌, ◌^◌, ◌<◌, ◌≤◌, [], ◌∷◌, MatchOption};
-ghost use Rattle.std.specs.Int.NonZero.{non_zero_u8_get, non_zero_u16_get, non_zero_u32_get};
-ghost use Rattle.std.specs.Int.NonZero.{non_zero_u64_get, non_zero_u128_get};
+ghost use Rattle.std.specs.Int.NonZero.{non_zero_u8_get, non_zero_u16_get, non_zero_u32_get, non_zero_u64_get, non_zero_u128_get};
 ghost use Rattle.std.proofs.Common.{sym, arith};
 ghost use Rattle.bitstream_stream.specs.Reads.{Reads};
 ghost use Rattle.bitstream_stream.specs.Sink.{WritesAll};
@@ -28,16 +27,17 @@ pub trait NonZeroInteger: Copy {
 
     ghost after: { ℕ → Self };
 
-    /// The value of a number, or `None` for 0.
+    /// Returns the value of a number, or `None` for 0.
     fn of(base: Self::Base) -> Option<Self>
-        ensures { MatchOption result (Self.Base.value base ≡ 0) (λ x. number x ≡ Self.Base.value base) };
+        ensures { MatchOption result (Self.Base.value base ≡ 0)
+            (λ x. number x ≡ Self.Base.value base) };
 
-    /// The value of the number after this one.
+    /// Returns the value of the number after this one.
     fn next(base: Self::Base) -> Self
         requires { Self.Base.value base + 1 < 2 ^ Self.Base.BITS_SIZE }
         ensures { number result ≡ Self.Base.value base + 1 };
 
-    /// The number.
+    /// Returns the number.
     fn base(self) -> Self::Base
         ensures value { Self.Base.value result ≡ number self }
         ensures some { 0 < Self.Base.value result };
@@ -52,7 +52,8 @@ fn read_non_zero<N: NonZeroInteger, C: Count, R: BitRead>(
     reader: &mut R,
     bits: C,
 ) -> Result<N, Error>
-    ensures reads { Reads R.source (non_zero_entry N.after R.source.order N.Base.BITS_SIZE (C.number bits))
+    ensures reads { Reads R.source
+        (non_zero_entry N.after R.source.order N.Base.BITS_SIZE (C.number bits))
         reader.old result reader.new }
 {
     if bits.bits() < N::Base::BITS_SIZE {
@@ -69,7 +70,8 @@ fn write_non_zero<N: NonZeroInteger, C: Count, W: BitWrite>(
     writer: &mut W,
     bits: C,
 ) -> Result<(), Error>
-    ensures writes { WritesAll W.sink (non_zero W.sink.order N.Base.BITS_SIZE (C.number bits) (N.number value) ∷ [])
+    ensures writes { WritesAll W.sink
+        (non_zero W.sink.order N.Base.BITS_SIZE (C.number bits) (N.number value) ∷ [])
         writer.old result writer.new }
 {
     if bits.bits() < N::Base::BITS_SIZE {
@@ -121,7 +123,8 @@ impl NonZeroInteger for NonZero<u8> {
 
     ghost some_law = { λ x. x.ok };
 
-    ghost after_law = { λ x n e. made-same (λ k p. record { value = k; ok = p }) (n + 1) x.value _ x.ok (sym e) };
+    ghost after_law = { λ x n e.
+        made-same (λ k p. record { value = k; ok = p }) (n + 1) x.value _ x.ok (sym e) };
 }
 
 impl Integer for NonZero<u8> {
@@ -161,7 +164,8 @@ impl NonZeroInteger for NonZero<u16> {
 
     ghost some_law = { λ x. x.ok };
 
-    ghost after_law = { λ x n e. made-same (λ k p. record { value = k; ok = p }) (n + 1) x.value _ x.ok (sym e) };
+    ghost after_law = { λ x n e.
+        made-same (λ k p. record { value = k; ok = p }) (n + 1) x.value _ x.ok (sym e) };
 }
 
 impl Integer for NonZero<u16> {
@@ -201,7 +205,8 @@ impl NonZeroInteger for NonZero<u32> {
 
     ghost some_law = { λ x. x.ok };
 
-    ghost after_law = { λ x n e. made-same (λ k p. record { value = k; ok = p }) (n + 1) x.value _ x.ok (sym e) };
+    ghost after_law = { λ x n e.
+        made-same (λ k p. record { value = k; ok = p }) (n + 1) x.value _ x.ok (sym e) };
 }
 
 impl Integer for NonZero<u32> {
@@ -241,7 +246,8 @@ impl NonZeroInteger for NonZero<u64> {
 
     ghost some_law = { λ x. x.ok };
 
-    ghost after_law = { λ x n e. made-same (λ k p. record { value = k; ok = p }) (n + 1) x.value _ x.ok (sym e) };
+    ghost after_law = { λ x n e.
+        made-same (λ k p. record { value = k; ok = p }) (n + 1) x.value _ x.ok (sym e) };
 }
 
 impl Integer for NonZero<u64> {
@@ -281,7 +287,8 @@ impl NonZeroInteger for NonZero<u128> {
 
     ghost some_law = { λ x. x.ok };
 
-    ghost after_law = { λ x n e. made-same (λ k p. record { value = k; ok = p }) (n + 1) x.value _ x.ok (sym e) };
+    ghost after_law = { λ x n e.
+        made-same (λ k p. record { value = k; ok = p }) (n + 1) x.value _ x.ok (sym e) };
 }
 
 impl Integer for NonZero<u128> {

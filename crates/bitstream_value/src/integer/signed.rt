@@ -17,7 +17,8 @@ fn write_signed<S: SignedInteger, C: Count, W: BitWrite>(
     writer: &mut W,
     bits: C,
 ) -> Result<(), Error>
-    ensures writes { WritesAll W.sink (signed W.sink.order S.BITS_SIZE (C.number bits) (S.integer number) ∷ [])
+    ensures writes { WritesAll W.sink
+        (signed W.sink.order S.BITS_SIZE (C.number bits) (S.integer number) ∷ [])
         writer.old result writer.new }
 {
     writer.write_signed_var(bits.bits(), number)

@@ -17,7 +17,8 @@ pub(crate) fn write_number<U: UnsignedInteger, C: Count, W: BitWrite>(
     writer: &mut W,
     bits: C,
 ) -> Result<(), Error>
-    ensures writes { WritesAll W.sink (unsigned W.sink.order U.BITS_SIZE (C.number bits) (U.value number) ∷ [])
+    ensures writes { WritesAll W.sink
+        (unsigned W.sink.order U.BITS_SIZE (C.number bits) (U.value number) ∷ [])
         writer.old result writer.new }
 {
     writer.write_unsigned_counted(bits, number)
