@@ -3,7 +3,7 @@ pub use Rattle.bitstream_count.specs.declared.checked_error.CheckedError
 pub use Rattle.bitstream_count.specs.declared.error.Error
 pub use Rattle.bitstream_count.specs.Entry
 pub use Rattle.bitstream_count.specs.Kind
-pub use Rattle.bitstream_order.specs.Draw
+pub use Rattle.bitstream_order.specs.TakeBits
 pub use Rattle.bitstream_order.specs.Fault
 pub use Rattle.bitstream_order.specs.Port
 pub use Rattle.bitstream_order.specs.Refusal

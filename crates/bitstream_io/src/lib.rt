@@ -5,6 +5,8 @@
 //! # Examples
 //!
 //! ```
+//! use bitstream_io::{BE, BitReadExt, BitReader, Bits, Slice};
+//!
 //! let bytes = [0xbe, 0xff, 0xff, 0x80];
 //! let mut reader = BitReader::<_, BE>::new(Slice::new(&bytes));
 //! let kind = reader.read::<Bits<3>, u8>()?;
