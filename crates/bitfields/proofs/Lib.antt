@@ -1,6 +1,5 @@
-pub mod CallLemmas
 pub mod DecimalLemmas
-pub mod FieldReads
+pub mod FieldCalls
 pub mod LayoutLemmas
 pub mod PackingLemmas
 pub mod PrintedLines
@@ -8,6 +7,5 @@ pub mod Rows
 pub mod RunLemmas
 pub mod SpelledLayouts
 pub mod UnpackedBytes
-pub mod UnpackedWords
 pub mod UnpackingLemmas
 pub mod ValueLemmas

@@ -1,24 +1,33 @@
--- Packing, field by field.
-use Rattle.std.specs.Prelude.{false, Bool, IsErrAnd, slice_index, ◌*◌, ◌%◌}
-use Rattle.std.proofs.Common.{◌≡◌, ℕ, ◌+◌, ◌<◌, ◌≤◌, List, [], ◌∷◌, ◌++◌, length, drop, get_or, Option, None, Result, Ok, Err, refl, sym, ap, subst, ◌∙◌, arith, append_assoc, add-one, drop-cons, append-nil, length-append}
+-- Packing, call by call.
+use Rattle.std.specs.Prelude.{false, Bool, IsErr, ◌*◌, ◌%◌}
+use Rattle.std.specs.List.{AllByRecursion}
+use Rattle.std.specs.Borrow.{GName}
+use Rattle.std.proofs.Common.{◌≡◌, ℕ, ◌+◌, ◌<◌, ◌≤◌, List, [], ◌∷◌, ◌++◌, length, drop, get_or, Option, None, Result, Ok, Err, refl, sym, ap, subst, ◌∙◌, arith, inl, inr, add-one, drop-cons, append-nil, length-append}
+use Rattle.std.proofs.lemmas.List.{drop_all, length-replicate}
+use Rattle.std.proofs.lemmas.List.Elements.{recursion_from_All}
+use Rattle.bitstream_number.specs.Word.{Order, word, High, Low, bits, digits}
+use Rattle.bitstream_number.proofs.WordLemmas.{length-word, length-bits}
 use Rattle.bitstream_count.specs.declared.error.Error.{Error}
 use Rattle.bitstream_count.specs.Entry.{WriteEntry}
-use Rattle.std.proofs.lemmas.List.{drop_all, length-replicate}
-use Rattle.bitstream_number.specs.Word.{Order, word, High, Low, bits, digits}
-use Rattle.bitstream_stream.specs.Sink.{Sink, IsBeyond, Appended, Faulted, Writes, was_failed, was_refused, passed_limit, had_fault, did_write}
-use Rattle.bitstream_stream.specs.WriteTable.{unsigned, align}
-use Rattle.bitstream_stream.proofs.WriteLemmas.{unsigned-fits}
-use Rattle.std.specs.Borrow.{GName}
-use Rattle.bitstream_number.proofs.WordLemmas.{length-word, length-bits}
-use Rattle.bitstream_stream.specs.Writer.{WriterState, fresh_writer, Carries}
 use Rattle.bitstream_stream.specs.Alignment.{to_boundary}
-use Rattle.bitfields.specs.Packing.{PackedBytes, field_word, words, packed, alignment, Adds}
+use Rattle.bitstream_stream.specs.Run.{accepted, refusal, write_run, write_refusals}
+use Rattle.bitstream_stream.specs.Sink.{Sink, IsBeyond, Appended, Faulted, Writes, WritesAll, was_failed, was_refused, passed_limit, had_fault, did_write}
+use Rattle.bitstream_stream.specs.WriteTable.{align}
+use Rattle.bitstream_stream.specs.Writer.{WriterState, fresh_writer, Carries}
+use Rattle.bitstream_stream.proofs.WriteParts.{all_none, all_err, all_more}
 use Rattle.bitfields.specs.declared.field.Field.{Field}
 use Rattle.bitfields.specs.declared.field.Field.TheVariants.{Unsigned}
+use Rattle.bitfields.specs.declared.field_value.FieldValue.{FieldValue}
+use Rattle.bitfields.specs.declared.field_value.FieldValue.TheVariants as Value
+use Rattle.bitfields.specs.Layout.{IsField, IsLayout}
+use Rattle.bitfields.specs.Packing.{Adds, PackedBytes, field_write, field_writes, packed}
 use Rattle.bitfields.specs.Value.{value_count, FitsField, Fit}
+use Rattle.bitfields.proofs.FieldCalls.{refusals-none, write_run-append}
+
+-- ---- a list of accepted calls, to a sink without a limit
 
 -- a call whose word is x adds it to a sink that has not failed and has no limit, or a request is refused
-pub Adds-from : {S : Type 0} (K : Sink S) (entry : WriteEntry) (x : List Bool) (old : S) (r : Result (Unit {0}) Error) (new : S) → K.failed old ≡ false → K.limit ≡ None → entry (K.len old) ≡ Ok x → Writes K entry old r new → Adds K x old r new
+Adds-from : {S : Type 0} (K : Sink S) (entry : WriteEntry) (x : List Bool) (old : S) (r : Result (Unit {0}) Error) (new : S) → K.failed old ≡ false → K.limit ≡ None → entry (K.len old) ≡ Ok x → Writes K entry old r new → Adds K x old r new
 Adds-from K entry x old r new sound unlimited is (was_failed p q k) = absurd (cc)
 Adds-from K entry x old r new sound unlimited is (was_refused error p q e k) = absurd (cc)
 Adds-from K entry x old r new sound unlimited is (passed_limit w u v p q beyond e s t a) = absurd (subst (λ (m : Option ℕ). IsBeyond m (K.len old + length w)) unlimited beyond)
@@ -26,10 +35,6 @@ Adds-from K entry x old r new sound unlimited is (had_fault w error p q many e f
 Adds-from K entry x old r new sound unlimited is (did_write w done p q within e a) =
     let same : w ≡ x = cc in
     subst (λ (b : Result (Unit {0}) Error). Adds K x old b new) (sym e) (subst (λ (y : List Bool). Appended K old y new) same a)
-
-pub Adds-exit : {S : Type 0} (K : Sink S) (x : List Bool) (old : S) (r : Result (Unit {0}) Error) (error : Error) (new : S) → IsErrAnd r (λ e. e ≡ error) → Faulted K old error new → Adds K x old r new
-Adds-exit K x old (Ok done) error new h f = absurd h
-Adds-exit K x old (Err e) error new h f = subst (λ (d : Error). Faulted K old d new) (sym h) f
 
 Appended-nil : {S : Type 0} (K : Sink S) (s : S) → K.failed s ≡ false → Appended K s [] s
 Appended-nil K s sound = record { grown = K.appends_nil s; sound = sound; refused = refl; places = refl }
@@ -56,64 +61,99 @@ Adds-later : {S : Type 0} (K : Sink S) (x y : List Bool) (old mid : S) (r : Resu
 Adds-later K x y old mid (Ok done) new h k = Appended-trans K old mid new x y h k
 Adds-later K x y old mid (Err e) new h k = Faulted-later K old mid new x e h k
 
--- a field's word
-pub Adds-unsigned : {S : Type 0} (K : Sink S) (n : ℕ) (vs : List ℕ) (old : S) (r : Result (Unit {0}) Error) (new : S) → n ≤ 128 → FitsField (Unsigned n) vs → K.failed old ≡ false → K.limit ≡ None → Writes K (unsigned K.order 128 n (slice_index vs 0)) old r new → Adds K (field_word K.order (Unsigned n) vs (K.len old)) old r new
-Adds-unsigned K n [] old r new small fit sound unlimited w = absurd fit
-Adds-unsigned K n (v ∷ vs) old r new small fit sound unlimited w =
-    Adds-from K (unsigned K.order 128 n v) (word K.order n v) old r new sound unlimited (unsigned-fits K.order 128 n v (K.len old) small fit) w
+-- a refusal of the first bits is one of all
+Adds-first : {S : Type 0} (K : Sink S) (x y : List Bool) (old : S) (r : Result (Unit {0}) Error) (new : S) → IsErr r → Adds K x old r new → Adds K (x ++ y) old r new
+Adds-first K x y old (Ok done) new h k = absurd (cc)
+Adds-first K x y old (Err e) new h k = k
 
-pub Adds-align : {S : Type 0} (K : Sink S) (old : S) (r : Result (Unit {0}) Error) (new : S) → K.failed old ≡ false → K.limit ≡ None → Writes K align old r new → Adds K (alignment (K.len old)) old r new
-Adds-align K old r new sound unlimited w = Adds-from K align (alignment (K.len old)) old r new sound unlimited refl w
+accepted-word : (r : Result (List Bool) Error) → refusal r ≡ None → r ≡ Ok (accepted r)
+accepted-word (Ok w) h = refl
+accepted-word (Err e) h = absurd (cc)
 
--- the words of the first fields were added, and these are the values of the others
-pub record Packing {S : Type 0} (K : Sink S) (fields : List Field) (vs : List ℕ) (i : ℕ) (old : S) (rest : List ℕ) (now : S) : Type 0 where
-  pub word : List Bool
-  pub added : Appended K old word now
+-- calls that are all accepted add their write run
+Adds-all : {S : Type 0} (K : Sink S) (es : List WriteEntry) (old : S) (r : Result (Unit {0}) Error) (new : S) → K.failed old ≡ false → K.limit ≡ None
+    → AllByRecursion (λ e. e ≡ None) (write_refusals es (K.len old)) → WritesAll K es old r new → Adds K (write_run es (K.len old)) old r new
+unfolding WritesAll
+Adds-all K [] old r new sound unlimited fine w =
+    subst (λ (s : Result (Unit {0}) Error). Adds K [] old s new) (sym w.0) (subst (λ (z : _). Appended K old [] z) (sym w.1) (Appended-nil K old sound))
+Adds-all K (e ∷ es) old r new sound unlimited fine (inl h) =
+    let x = accepted (e (K.len old)) in
+    let here = Adds-from K e x old r new sound unlimited (accepted-word (e (K.len old)) fine.0) h.1 in
+    Adds-first K x (write_run es (K.len old + length x)) old r new h.0 here
+Adds-all K (e ∷ es) old r new sound unlimited fine (inr (mid, first, others)) =
+    let x = accepted (e (K.len old)) in
+    let here = Adds-from K e x old (Ok tt) mid sound unlimited (accepted-word (e (K.len old)) fine.0) first in
+    let place : K.len mid ≡ K.len old + length x = K.appends_len old mid x here.grown in
+    let rest = Adds-all K es mid r new here.sound unlimited (subst (λ (n : ℕ). AllByRecursion (λ e. e ≡ None) (write_refusals es n)) (sym place) fine.1) others in
+    Adds-later K x (write_run es (K.len old + length x)) old mid r new here (subst (λ (n : ℕ). Adds K (write_run es n) mid r new) place rest)
+
+-- values that fit are packed
+pub Adds-packed : {S : Type 0} (K : Sink S) (fields : List Field) (vs : List FieldValue) (old : S) (r : Result (Unit {0}) Error) (new : S) → IsLayout fields → Fit fields vs
+    → WritesAll K (field_writes K.order fields vs ++ align ∷ []) old r new → K.failed old ≡ false → K.limit ≡ None → Adds K (packed K.order fields vs (K.len old)) old r new
+Adds-packed K fields vs old r new layout fit w sound unlimited =
+    let each = recursion_from_All IsField fields layout.in_range in
+    Adds-all K (field_writes K.order fields vs ++ align ∷ []) old r new sound unlimited (refusals-none K.order fields vs (K.len old) each fit) w
+
+-- ---- the fields' calls, one behind the other
+
+-- what is made of the calls that are left is made of them all
+abbrev pub Remains : {S : Type 0} → Sink S → List WriteEntry → S → List WriteEntry → S → Type 0
+Remains {S} K all old left now = (r : Result (Unit {0}) Error) (new : S) → WritesAll K left now r new → WritesAll K all old r new
+
+-- the calls of fields, and the first of them
+writes_first : (o : Order) (fields : List Field) (i : ℕ) (d : Field) (vs : List FieldValue) → i < length fields
+    → field_writes o (drop i fields) vs ≡ field_write o (get_or fields i d) vs ∷ field_writes o (drop (i + 1) fields) (drop (value_count (get_or fields i d)) vs)
+writes_first o fields i d vs h =
+    let cut : drop i fields ≡ get_or fields i d ∷ drop (i + 1) fields = rw add-one (drop-cons fields i d h) in
+    ap (λ (fs : List Field). field_writes o fs vs) cut
+
+-- the number that stands first
+pub number_first : (f : Field) (n : ℕ) (vs : List FieldValue) → f ≡ Unsigned n → FitsField f vs → (v : ℕ) × (us : List FieldValue) × (vs ≡ Value.Unsigned v ∷ us)
+number_first f n vs is fit = number_among vs (subst (λ (g : Field). FitsField g vs) is fit)
+  where
+    number_among : (us : List FieldValue) → FitsField (Unsigned n) us → (v : ℕ) × (rest : List FieldValue) × (us ≡ Value.Unsigned v ∷ rest)
+    number_among [] h = absurd h
+    number_among (Value.Unsigned v ∷ us) h = (v, us, refl)
+
+-- the first fields wrote their words, and these are the values of the others
+pub record Packing {S : Type 0} (K : Sink S) (fields : List Field) (vs : List FieldValue) (i : ℕ) (old : S) (rest : List FieldValue) (now : S) : Type 0 where
   pub fit : Fit (drop i fields) rest
-  pub others : words K.order fields vs (K.len old) ≡ word ++ words K.order (drop i fields) rest (K.len now)
+  pub remains : Remains K (field_writes K.order fields vs) old (field_writes K.order (drop i fields) rest) now
 
-pub Packing-start : {S : Type 0} (K : Sink S) (fields : List Field) (vs : List ℕ) (s : S) → K.failed s ≡ false → Fit fields vs → Packing K fields vs 0 s vs s
-Packing-start K fields vs s sound fit = record { word = []; added = Appended-nil K s sound; fit = fit; others = refl }
+pub Packing-start : {S : Type 0} (K : Sink S) (fields : List Field) (vs : List FieldValue) (s : S) → Fit fields vs → Packing K fields vs 0 s vs s
+Packing-start K fields vs s fit = record { fit = fit; remains = λ r new h. h }
 
 -- the first of the fields that are left fits
-pub Packing-fits : {S : Type 0} (K : Sink S) (fields : List Field) (vs : List ℕ) (i : ℕ) (d : Field) (old : S) (rest : List ℕ) (now : S) → i < length fields → Packing K fields vs i old rest now → FitsField (get_or fields i d) rest × Fit (drop (i + 1) fields) (drop (value_count (get_or fields i d)) rest)
+pub Packing-fits : {S : Type 0} (K : Sink S) (fields : List Field) (vs : List FieldValue) (i : ℕ) (d : Field) (old : S) (rest : List FieldValue) (now : S) → i < length fields → Packing K fields vs i old rest now
+    → FitsField (get_or fields i d) rest × Fit (drop (i + 1) fields) (drop (value_count (get_or fields i d)) rest)
 Packing-fits K fields vs i d old rest now h known =
     let cut : drop i fields ≡ get_or fields i d ∷ drop (i + 1) fields = rw add-one (drop-cons fields i d h) in
     subst (λ (fs : List Field). Fit fs rest) cut known.fit
 
-pub Packing-more : {S : Type 0} (K : Sink S) (fields : List Field) (vs : List ℕ) (i : ℕ) (d : Field) (old : S) (rest behind : List ℕ) (now new : S) → i < length fields → Packing K fields vs i old rest now → Appended K now (field_word K.order (get_or fields i d) rest (K.len now)) new → behind ≡ drop (value_count (get_or fields i d)) rest → Packing K fields vs (i + 1) old behind new
-Packing-more K fields vs i d old rest behind now new h known a is =
-    let f = get_or fields i d in
-    let w = field_word K.order f rest (K.len now) in
-    let cut : drop i fields ≡ f ∷ drop (i + 1) fields = rw add-one (drop-cons fields i d h) in
-    let place : K.len now + length w ≡ K.len new = sym (K.appends_len now new w a.grown) in
+pub Packing-more : {S : Type 0} (K : Sink S) (fields : List Field) (vs : List FieldValue) (i : ℕ) (d : Field) (old : S) (rest behind : List FieldValue) (now new : S) → i < length fields → Packing K fields vs i old rest now
+    → Writes {T = Unit {0}} K (field_write K.order (get_or fields i d) rest) now (Ok tt) new → behind ≡ drop (value_count (get_or fields i d)) rest → Packing K fields vs (i + 1) old behind new
+Packing-more {S} K fields vs i d old rest behind now new h known w is =
+    let e = field_write K.order (get_or fields i d) rest in
+    let more = field_writes K.order (drop (i + 1) fields) in
     record {
-      word = known.word ++ w;
-      added = Appended-trans K old now new known.word w known.added a;
-      fit = subst (λ (us : List ℕ). Fit (drop (i + 1) fields) us) (sym is) (Packing-fits K fields vs i d old rest now h known).1;
-      others =
-          known.others
-          ∙ ap (λ (fs : List Field). known.word ++ words K.order fs rest (K.len now)) cut
-          ∙ ap (λ (p : ℕ). known.word ++ (w ++ words K.order (drop (i + 1) fields) (drop (value_count f) rest) p)) place
-          ∙ ap (λ (us : List ℕ). known.word ++ (w ++ words K.order (drop (i + 1) fields) us (K.len new))) (sym is)
-          ∙ sym (append_assoc known.word w (words K.order (drop (i + 1) fields) behind (K.len new)));
+      fit = subst (λ (us : List FieldValue). Fit (drop (i + 1) fields) us) (sym is) (Packing-fits K fields vs i d old rest now h known).1;
+      remains = λ r z others. known.remains r z
+          (subst (λ (es : List WriteEntry). WritesAll K es now r z) (sym (writes_first K.order fields i d rest h))
+          (all_more K e (more (drop (value_count (get_or fields i d)) rest)) now new r z w (subst (λ (us : List FieldValue). WritesAll K (more us) new r z) is others)));
     }
 
-pub Packing-fault : {S : Type 0} (K : Sink S) (fields : List Field) (vs : List ℕ) (i : ℕ) (old : S) (rest : List ℕ) (now : S) (error : Error) (new : S) → Packing K fields vs i old rest now → Faulted K now error new → Faulted K old error new
-Packing-fault K fields vs i old rest now error new known f = Faulted-later K old now new known.word error known.added f
+pub Packing-fault : {S : Type 0} (K : Sink S) (fields : List Field) (vs : List FieldValue) (i : ℕ) (d : Field) (old : S) (rest : List FieldValue) (now : S) (r : Result (Unit {0}) Error) (error : Error) (new : S) → i < length fields
+    → Packing K fields vs i old rest now → r ≡ Err error → Writes {T = Unit {0}} K (field_write K.order (get_or fields i d) rest) now (Err error) new → WritesAll K (field_writes K.order fields vs) old r new
+Packing-fault K fields vs i d old rest now r error new h known is w =
+    known.remains r new
+    (subst (λ (es : List WriteEntry). WritesAll K es now r new) (sym (writes_first K.order fields i d rest h))
+    (all_err K (field_write K.order (get_or fields i d) rest) (field_writes K.order (drop (i + 1) fields) (drop (value_count (get_or fields i d)) rest)) now r error new is w))
 
-pub Packing-end : {S : Type 0} (K : Sink S) (fields : List Field) (vs : List ℕ) (i : ℕ) (old : S) (rest : List ℕ) (now : S) → length fields ≤ i → Packing K fields vs i old rest now → Appended K old (words K.order fields vs (K.len old)) now
+pub Packing-end : {S : Type 0} (K : Sink S) (fields : List Field) (vs : List FieldValue) (i : ℕ) (old : S) (rest : List FieldValue) (now : S) → length fields ≤ i → Packing K fields vs i old rest now
+    → WritesAll K (field_writes K.order fields vs) old (Ok tt) now
 Packing-end K fields vs i old rest now end known =
-    let whole : words K.order fields vs (K.len old) ≡ known.word = known.others ∙ ap (λ (fs : List Field). known.word ++ words K.order fs rest (K.len now)) (drop_all i fields end) ∙ append-nil known.word in
-    subst (λ (x : List Bool). Appended K old x now) (sym whole) known.added
-
--- the fields' words and the last alignment
-pub Adds-packed : {S : Type 0} (K : Sink S) (fields : List Field) (vs : List ℕ) (old mid : S) (r : Result (Unit {0}) Error) (new : S) → K.limit ≡ None → Appended K old (words K.order fields vs (K.len old)) mid → Writes K align mid r new → Adds K (packed K.order fields vs (K.len old)) old r new
-Adds-packed K fields vs old mid r new unlimited h w =
-    let x = words K.order fields vs (K.len old) in
-    let place : K.len mid ≡ K.len old + length x = K.appends_len old mid x h.grown in
-    let last : Adds K (alignment (K.len old + length x)) mid r new = subst (λ (p : ℕ). Adds K (alignment p) mid r new) place (Adds-align K mid r new h.sound unlimited w) in
-    Adds-later K x (alignment (K.len old + length x)) old mid r new h last
+    known.remains (Ok tt) now
+    (subst (λ (fs : List Field). WritesAll K (field_writes K.order fs rest) now (Ok tt) now) (sym (drop_all i fields end)) (all_none K now))
 
 -- ---- a new writer of a stream
 
@@ -122,15 +162,17 @@ unfolding digits
 word-none High n v e = rw e refl
 word-none Low n v e = rw e refl
 
-length-packed : (o : Order) (fields : List Field) (vs : List ℕ) → length (packed o fields vs 0) % 8 ≡ 0
+length-packed : (o : Order) (fields : List Field) (vs : List FieldValue) → length (packed o fields vs 0) % 8 ≡ 0
 length-packed o fields vs =
-    let w = words o fields vs 0 in
-    let all = length-append w (alignment (0 + length w)) in
-    let last : length (alignment (0 + length w)) ≡ to_boundary (0 + length w) = length-replicate (to_boundary (0 + length w)) false in
-    omega (arith, all, last)
+    let w = write_run (field_writes o fields vs) 0 in
+    let last = write_run (align ∷ []) (0 + length w) in
+    let parts : length (packed o fields vs 0) ≡ length w + length last = ap length (write_run-append (field_writes o fields vs) (align ∷ []) 0) ∙ length-append w last in
+    let rest : length last ≡ to_boundary (0 + length w) = ap length (append-nil (accepted (align (0 + length w)))) ∙ length-replicate (to_boundary (0 + length w)) false in
+    omega (arith, parts, rest)
 
 -- the bytes of the packed values were handed on
-pub PackedBytes-from : (o : Order) (fields : List Field) (vs : List ℕ) (held : Option (List ℕ)) (places : List GName) (s t : WriterState) → t.queued < 8 → s ≡ fresh_writer held places → Carries o s (packed o fields vs (8 * s.port.sent + s.queued)) t → PackedBytes o fields vs held t.port.bytes
+pub PackedBytes-from : (o : Order) (fields : List Field) (vs : List FieldValue) (held : Option (List ℕ)) (places : List GName) (s t : WriterState) → t.queued < 8 → s ≡ fresh_writer held places
+    → Carries o s (packed o fields vs (8 * s.port.sent + s.queued)) t → PackedBytes o fields vs held t.port.bytes
 PackedBytes-from o fields vs held places s t few fresh was =
     let c : Carries o (fresh_writer held places) (packed o fields vs 0) t = subst (λ (u : WriterState). Carries o u (packed o fields vs (8 * u.port.sent + u.queued)) t) fresh was in
     let x = packed o fields vs 0 in

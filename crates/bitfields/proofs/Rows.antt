@@ -1,9 +1,14 @@
 -- Worked rows.
-use Rattle.std.specs.Prelude.{◌≡◌, ℕ, List, [], ◌∷◌, refl}
+use Rattle.std.specs.Prelude.{◌≡◌, ℕ, List, [], ◌∷◌, map, refl}
 use Rattle.bitstream_number.specs.Word.{High, Low, digits, digits_number, bits}
+use Rattle.bitstream_count.specs.Entry.{chain}
+use Rattle.bitstream_stream.specs.ReadTable.{unsigned_entry, align_entry}
+use Rattle.bitstream_stream.specs.WriteTable.{unsigned}
 use Rattle.bitfields.specs.declared.fault.Reason.TheVariants.{BitsEnded}
 use Rattle.bitfields.specs.declared.field.Field.{Field}
 use Rattle.bitfields.specs.declared.field.Field.TheVariants.{Unsigned, Align}
+use Rattle.bitfields.specs.declared.field_value.FieldValue.{FieldValue}
+use Rattle.bitfields.specs.declared.field_value.FieldValue.TheVariants as Value
 use Rattle.bitfields.specs.Fault.{fault}
 use Rattle.bitfields.specs.Packing.{packed}
 use Rattle.bitfields.specs.Unpacking.{unpacked, Unpacks, Stops}
@@ -14,33 +19,38 @@ five = Unsigned 2 ∷ Unsigned 3 ∷ Unsigned 5 ∷ Unsigned 3 ∷ Unsigned 19 �
 abbrev four_bytes : List ℕ
 four_bytes = 177 ∷ 237 ∷ 59 ∷ 193 ∷ []
 
-packs_high : packed High five (2 ∷ 6 ∷ 7 ∷ 5 ∷ 342977 ∷ []) 0 ≡ bits High four_bytes
-unfolding digits
+-- values of fields `uN`
+abbrev numbers : List ℕ → List FieldValue
+numbers vs = map Value.Unsigned vs
+
+packs_high : packed High five (numbers (2 ∷ 6 ∷ 7 ∷ 5 ∷ 342977 ∷ [])) 0 ≡ bits High four_bytes
+unfolding unsigned digits
 packs_high = refl
 
-packs_low : packed Low five (1 ∷ 4 ∷ 13 ∷ 3 ∷ 395743 ∷ []) 0 ≡ bits Low four_bytes
-unfolding digits
+packs_low : packed Low five (numbers (1 ∷ 4 ∷ 13 ∷ 3 ∷ 395743 ∷ [])) 0 ≡ bits Low four_bytes
+unfolding unsigned digits
 packs_low = refl
 
-aligns_high : packed High (Unsigned 4 ∷ Align ∷ Unsigned 8 ∷ []) (15 ∷ 1 ∷ []) 0 ≡ bits High (240 ∷ 1 ∷ [])
-unfolding digits
+aligns_high : packed High (Unsigned 4 ∷ Align ∷ Unsigned 8 ∷ []) (numbers (15 ∷ 1 ∷ [])) 0 ≡ bits High (240 ∷ 1 ∷ [])
+unfolding unsigned digits
 aligns_high = refl
 
-aligns_low : packed Low (Unsigned 4 ∷ Align ∷ Unsigned 8 ∷ []) (15 ∷ 1 ∷ []) 0 ≡ bits Low (15 ∷ 1 ∷ [])
-unfolding digits
+aligns_low : packed Low (Unsigned 4 ∷ Align ∷ Unsigned 8 ∷ []) (numbers (15 ∷ 1 ∷ [])) 0 ≡ bits Low (15 ∷ 1 ∷ [])
+unfolding unsigned digits
 aligns_low = refl
 
-unpacks_high : unpacked High 1 five 0 (bits High four_bytes) ≡ Unpacks (2 ∷ 6 ∷ 7 ∷ 5 ∷ 342977 ∷ []) 32
-unfolding digits digits_number
+unpacks_high : unpacked High 1 five 0 (bits High four_bytes) ≡ Unpacks (numbers (2 ∷ 6 ∷ 7 ∷ 5 ∷ 342977 ∷ [])) 32
+unfolding chain unsigned_entry digits digits_number
 unpacks_high = refl
 
-unpacks_low : unpacked Low 1 five 0 (bits Low four_bytes) ≡ Unpacks (1 ∷ 4 ∷ 13 ∷ 3 ∷ 395743 ∷ []) 32
-unfolding digits digits_number
+unpacks_low : unpacked Low 1 five 0 (bits Low four_bytes) ≡ Unpacks (numbers (1 ∷ 4 ∷ 13 ∷ 3 ∷ 395743 ∷ [])) 32
+unfolding chain unsigned_entry digits digits_number
 unpacks_low = refl
 
 ends : unpacked High 1 (Unsigned 9 ∷ []) 0 (bits High (177 ∷ [])) ≡ Stops (fault 1 BitsEnded)
-unfolding digits
+unfolding chain unsigned_entry digits
 ends = refl
 
 aligns_at_once : unpacked Low 1 (Align ∷ []) 0 [] ≡ Unpacks [] 0
+unfolding chain align_entry
 aligns_at_once = refl

@@ -7,7 +7,8 @@ use Rattle.bitfields.specs.declared.fault.Reason.TheVariants.{BitsEnded, StreamF
 use Rattle.bitfields.specs.Fault.{fault}
 use Rattle.bitstream_count.specs.declared.error.Error.{Error}
 use Rattle.bitstream_order.specs.Draw.{seen}
-use Rattle.bitstream_stream.specs.Reads.{ReaderState, Loses, Holds, Demands}
+use Rattle.bitstream_stream.specs.Reads.{ReaderState, Reads, stays, answers, faults, Loses, Holds, Demands}
+use Rattle.bitstream_stream.specs.ReadTable.{align_entry}
 use Rattle.std.specs.Borrow.{GName}
 use Rattle.bitstream_count.specs.declared.error.Error.TheVariants as errors
 use Rattle.std.specs.declared.io.ErrorKind.{ErrorKind}
@@ -15,7 +16,7 @@ use Rattle.bitstream_order.specs.Fault.{read_refusal_of}
 use Rattle.bitstream_order.specs.Mislead.{Misleads, MisledOnlyBy}
 use Rattle.bitstream_stream.specs.Reader.{new_reader_state}
 use Rattle.bitfields.specs.declared.fault.Fault.{Fault}
-use Rattle.bitfields.specs.Unpacking.{Stops, unpacked, read_reason, UnpackedAll, Starved, Stopped, UnpackedBytes, Refused, UnpacksBytes}
+use Rattle.bitfields.specs.Unpacking.{Stops, unpacked, read_reason, UnpackedAll, Starved, Told, Stopped, UnpackedBytes, Refused, UnpacksBytes}
 use Rattle.bitstream_stream.proofs.TakenLemmas.{front_bytes}
 
 -- the bytes that the fields' bits reach into are gone from the stream
@@ -41,6 +42,13 @@ reason_cases errors.EndOfInput = inl refl
 reason_cases errors.OutOfMemory = inr (inr refl)
 reason_cases e = inr (inl refl)
 
+reason_of : (why : Fault) (field : ℕ) (e : Error) → why ≡ fault field (read_reason e) → (why ≡ fault field BitsEnded) ⊎ (why ≡ fault field StreamFault) ⊎ (why ≡ fault field OutOfMemory)
+reason_of why field e h = elim (reason_cases e) [
+  | inl x ↦ inl (h ∙ ap (fault field) x)
+  | inr (inl x) ↦ inr (inl (h ∙ ap (fault field) x))
+  | inr (inr x) ↦ inr (inr (h ∙ ap (fault field) x))
+]
+
 -- a stream that is seen through another state misleads where that does
 seen_misleads : {R S : Type 0} (f : S → R) (known : R → Option (List ℕ)) (refuses : R → ℕ → ErrorKind → R → Type 0) → Misleads (λ s. known (f s)) (λ s n kind t. refuses (f s) n kind (f t)) → Misleads known refuses
 seen_misleads f known refuses h = record { before = f h.before; after = f h.after; wanted = h.wanted; kind = h.kind; bytes = h.bytes; tells = h.tells; refused = h.refused; untrue = h.untrue }
@@ -53,16 +61,17 @@ stops_or_misleads f known refuses o fields first places old new why fresh h (inl
 stops_or_misleads f known refuses o fields first places old new why fresh h (inr misled) xs told = inr (seen_misleads f known refuses misled)
 
 pub Refused-from : {R S : Type 0} (f : S → R) (known : R → Option (List ℕ)) (refuses : R → ℕ → ErrorKind → R → Type 0) (o : Order) (fields : List Field) (input : R) (places : List GName) (old new : ReaderState) (why : Fault)
-    → old ≡ new_reader_state o (known input) places → Starved old why new ⊎ Stopped o fields old why new → MisledOnlyBy (λ s. known (f s)) (λ s n kind t. refuses (f s) n kind (f t)) old.misled new.misled
+    → old ≡ new_reader_state o (known input) places → Starved old why new ⊎ Told o fields old why new ⊎ Stopped o fields old why new → MisledOnlyBy (λ s. known (f s)) (λ s n kind t. refuses (f s) n kind (f t)) old.misled new.misled
     → Refused known refuses o fields input why
 Refused-from f known refuses o fields input places old new why fresh (inl h) faithful = record { field = h.field; reason = inr (inr h.reason); cause = inl h.reason }
-Refused-from f known refuses o fields input places old new why fresh (inr h) faithful = record {
+Refused-from f known refuses o fields input places old new why fresh (inr (inl h)) faithful = record {
   field = h.field;
-  reason = elim (reason_cases (read_refusal_of h.kind)) [
-    | inl e ↦ inl (h.reason ∙ ap (fault h.field) e)
-    | inr (inl e) ↦ inr (inl (h.reason ∙ ap (fault h.field) e))
-    | inr (inr e) ↦ inr (inr (h.reason ∙ ap (fault h.field) e))
-  ];
+  reason = reason_of why h.field h.error h.reason;
+  cause = inr (λ xs told. inl (ap (λ (p : ℕ). unpacked o 1 fields p (bits o xs)) (sym (ap (λ (s : ReaderState). s.taken) fresh)) ∙ h.says (bits o xs) (ap (λ (s : ReaderState). s.bits) fresh ∙ ap (option_map (λ bs. bits o bs)) told)));
+}
+Refused-from f known refuses o fields input places old new why fresh (inr (inr h)) faithful = record {
+  field = h.field;
+  reason = reason_of why h.field (read_refusal_of h.kind) h.reason;
   cause = inr (stops_or_misleads f known refuses o fields (known input) places old new why fresh h faithful);
 }
 
@@ -70,3 +79,14 @@ pub UnpacksBytes-exit : {R V : Type 0} (known : R → Option (List ℕ)) (refuse
     → IsErrAnd r (λ e. e ≡ f) → Refused known refuses o fields old f → UnpacksBytes known refuses o fields old (seen view r) new
 UnpacksBytes-exit known refuses o fields old new view (Ok v) f h k = absurd h
 UnpacksBytes-exit known refuses o fields old new view (Err e) f h k = subst (Refused known refuses o fields old) (sym h) k
+
+-- an alignment asks the stream for nothing
+pub align_misled : (old new : ReaderState) → Reads align_entry old (Ok tt) new → new.misled ≡ old.misled
+align_misled old new (stays h) = ap (λ (s : ReaderState). s.misled) h.same
+align_misled old new (answers h) = h.misled
+align_misled old new (faults h) = absurd (let a = h.answer in cc)
+
+-- what the last of some calls may have misled, behind calls that did not
+pub misled_after : {R : Type 0} (known : R → Option (List ℕ)) (refuses : R → ℕ → ErrorKind → R → Type 0) (first before after : ℕ) → before ≡ first → MisledOnlyBy known refuses before after → MisledOnlyBy known refuses first after
+misled_after known refuses first before after same (inl e) = inl (e ∙ same)
+misled_after known refuses first before after same (inr misled) = inr misled

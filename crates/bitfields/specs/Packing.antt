@@ -1,48 +1,37 @@
 -- Packing: the words of fields, and a last alignment.
-use Rattle.std.specs.Prelude.{◌≡◌, ◌⊎◌, Result, Ok, Err, ℕ, ◌+◌, false, Bool, List, [], ◌∷◌, ◌++◌, length, drop, replicate, slice_index, Option}
+use Rattle.std.specs.Prelude.{◌≡◌, ◌⊎◌, Result, Ok, Err, ℕ, Bool, List, [], ◌∷◌, ◌++◌, drop, Option}
 use Rattle.std.specs.Io.KnownBytes.{Appends}
-use Rattle.bitstream_number.specs.Word.{Order, word, bits}
+use Rattle.bitstream_number.specs.Word.{Order, bits}
 use Rattle.bitstream_count.specs.declared.error.Error.{Error}
 use Rattle.bitstream_count.specs.declared.error.Error.TheVariants as errors
 use Rattle.bitstream_count.specs.Entry.{WriteEntry}
-use Rattle.bitstream_stream.specs.WriteTable.{unsigned, align}
+use Rattle.bitstream_stream.specs.Run.{write_run}
 use Rattle.bitstream_stream.specs.Sink.{Sink, Appended, Faulted}
-use Rattle.bitstream_stream.specs.Alignment.{to_boundary}
+use Rattle.bitstream_stream.specs.WriteTable.{plain, unsigned, align}
 use Rattle.bitfields.specs.declared.fault.Reason.{Reason}
 use Rattle.bitfields.specs.declared.fault.Reason.TheVariants.{OutOfMemory, StreamFault}
 use Rattle.bitfields.specs.declared.fault.Fault.{Fault}
 use Rattle.bitfields.specs.declared.field.Field.{Field}
 use Rattle.bitfields.specs.declared.field.Field.TheVariants.{Unsigned, Align}
+use Rattle.bitfields.specs.declared.field_value.FieldValue.{FieldValue}
+use Rattle.bitfields.specs.declared.field_value.FieldValue.TheVariants as Value
 use Rattle.bitfields.specs.Fault.{fault}
 use Rattle.bitfields.specs.Value.{value_count}
 
--- zeros up to the next multiple of 8
-abbrev pub alignment : ℕ → List Bool
-alignment at = replicate (to_boundary at) false
-
--- the word of a field at a place, where the field's value is the first of these
-abbrev pub field_word : Order → Field → List ℕ → ℕ → List Bool
-field_word o (Unsigned n) vs at = word o n (slice_index vs 0)
-field_word o Align vs at = alignment at
-
--- the words of fields with these values, from a place on
-abbrev pub words : Order → List Field → List ℕ → ℕ → List Bool
-words o [] vs at = []
-words o (field ∷ fields) vs at =
-    let w = field_word o field vs at in
-    w ++ words o fields (drop (value_count field) vs) (at + length w)
-
--- the words of the fields, from a place on, and a last alignment
-abbrev pub packed : Order → List Field → List ℕ → ℕ → List Bool
-packed o fields vs at =
-    let w = words o fields vs at in
-    w ++ alignment (at + length w)
+-- the write call of a field whose value is the first of these; of a value that is missing, no bit
+abbrev pub field_write : Order → Field → List FieldValue → WriteEntry
+field_write o (Unsigned n) [] = plain []
+field_write o (Unsigned n) (Value.Unsigned v ∷ vs) = unsigned o 128 n v
+field_write o Align vs = align
 
 -- the write calls of fields with these values
-abbrev pub field_writes : Order → List Field → List ℕ → List WriteEntry
+abbrev pub field_writes : Order → List Field → List FieldValue → List WriteEntry
 field_writes o [] vs = []
-field_writes o (Unsigned n ∷ fields) vs = unsigned o 128 n (slice_index vs 0) ∷ field_writes o fields (drop 1 vs)
-field_writes o (Align ∷ fields) vs = align ∷ field_writes o fields vs
+field_writes o (field ∷ fields) vs = field_write o field vs ∷ field_writes o fields (drop (value_count field) vs)
+
+-- what the write calls of the fields append from a place on, and a last alignment
+abbrev pub packed : Order → List Field → List FieldValue → ℕ → List Bool
+packed o fields vs at = write_run (field_writes o fields vs ++ align ∷ []) at
 
 -- ---- to a sink and to a stream
 
@@ -61,13 +50,13 @@ abbrev pub IsOutside : Fault → Type 0
 IsOutside f = (f ≡ fault 0 StreamFault) ⊎ (f ≡ fault 0 OutOfMemory)
 
 -- a stream took the bytes whose bits are the packed values
-pub record PackedBytes (o : Order) (fields : List Field) (vs : List ℕ) (old new : Option (List ℕ)) : Type 0 where
+pub record PackedBytes (o : Order) (fields : List Field) (vs : List FieldValue) (old new : Option (List ℕ)) : Type 0 where
   pub bytes : List ℕ
   pub grows : Appends old new bytes
   pub says : bits o bytes ≡ packed o fields vs 0
 
 -- The values were packed, or the first fault of the input was answered and the stream left as it was; or the stream or memory refused.
-abbrev pub Packs : {W : Type 0} → (W → Option (List ℕ)) → Order → List Field → Result (List ℕ) Fault → W → Result (Unit {0}) Fault → W → Type 0
+abbrev pub Packs : {W : Type 0} → (W → Option (List ℕ)) → Order → List Field → Result (List FieldValue) Fault → W → Result (Unit {0}) Fault → W → Type 0
 Packs contents o fields (Ok vs) old (Ok done) new = PackedBytes o fields vs (contents old) (contents new)
 Packs contents o fields (Ok vs) old (Err f) new = IsOutside f
 Packs contents o fields (Err f) old (Ok done) new = ⊥

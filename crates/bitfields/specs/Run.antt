@@ -6,6 +6,7 @@ use Rattle.bitstream_number.specs.Word.{Order}
 use Rattle.bitfields.specs.declared.fault.Reason.TheVariants.{BadArguments}
 use Rattle.bitfields.specs.declared.fault.Fault.{Fault}
 use Rattle.bitfields.specs.declared.field.Field.{Field}
+use Rattle.bitfields.specs.declared.field_value.FieldValue.{FieldValue}
 use Rattle.bitfields.specs.declared.run.Command.{Command}
 use Rattle.bitfields.specs.declared.run.Command.TheVariants.{Pack, Unpack}
 use Rattle.bitfields.specs.Call.{Request}
@@ -20,7 +21,7 @@ pub record PackedInput (o : Order) (fields : List Field) (input output input_aft
   pub bytes : List ℕ
   pub read : Consumes input input_after bytes
   pub end : IsAtEnd input_after
-  pub vs : List ℕ
+  pub vs : List FieldValue
   pub spelt : values 1 fields (lines bytes) ≡ Ok vs
   pub packs : PackedBytes o fields vs output output_after
 

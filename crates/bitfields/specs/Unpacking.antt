@@ -1,12 +1,13 @@
 -- Unpacking: the values that bits hold for fields.
-use Rattle.std.specs.Prelude.{◌≡◌, ◌⊎◌, ◌<◌, ◌≤◌, ◌*◌, Result, Ok, Err, Option, Some, ℕ, ◌+◌, if◌then◌else◌, Bool, true, false, List, [], ◌∷◌, ◌++◌, length, take, drop, nat_lt}
+use Rattle.std.specs.Prelude.{◌≡◌, ◌⊎◌, ◌<◌, ◌≤◌, ◌*◌, Result, Ok, Err, Option, Some, None, ℕ, ◌+◌, Bool, true, false, List, [], ◌∷◌, ◌++◌, length, map}
 use Rattle.std.specs.Io.KnownBytes.{Consumes}
 use Rattle.std.specs.declared.io.ErrorKind.{ErrorKind}
-use Rattle.bitstream_number.specs.Word.{Order, number, bits}
+use Rattle.bitstream_number.specs.Word.{Order, bits}
 use Rattle.bitstream_count.specs.declared.error.Error.{Error}
 use Rattle.bitstream_count.specs.declared.error.Error.TheVariants as errors
 use Rattle.bitstream_count.specs.Entry.{ReadEntry, chain, gives}
 use Rattle.bitstream_stream.specs.ReadTable.{unsigned_entry, align_entry}
+use Rattle.bitstream_stream.specs.Run.{read_run}
 use Rattle.bitstream_order.specs.Fault.{read_refusal_of}
 use Rattle.bitstream_order.specs.Mislead.{Misleads}
 use Rattle.bitstream_stream.specs.Reads.{ReaderState, Loses, Drains}
@@ -15,37 +16,20 @@ use Rattle.bitfields.specs.declared.fault.Reason.TheVariants.{BitsEnded, StreamF
 use Rattle.bitfields.specs.declared.fault.Fault.{Fault}
 use Rattle.bitfields.specs.declared.field.Field.{Field}
 use Rattle.bitfields.specs.declared.field.Field.TheVariants.{Unsigned, Align}
+use Rattle.bitfields.specs.declared.field_value.FieldValue.{FieldValue}
+use Rattle.bitfields.specs.declared.field_value.FieldValue.TheVariants as Value
 use Rattle.bitfields.specs.Fault.{fault}
-use Rattle.bitstream_stream.specs.Alignment.{to_boundary}
-use Rattle.bitfields.specs.Value.{printed_lines}
+use Rattle.bitfields.specs.Value.{value_list, printed_lines}
 
 -- what bits say for fields: the values of those that have one, and the place behind the last; or the first fault
 pub data Unpacked : Type 0 where
-  Unpacks : (vs : List ℕ) (at : ℕ) → Unpacked
+  Unpacks : (vs : List FieldValue) (at : ℕ) → Unpacked
   Stops : Fault → Unpacked
 
--- how many bits a field takes at a place
-abbrev pub field_length : Field → ℕ → ℕ
-field_length (Unsigned n) at = n
-field_length Align at = to_boundary at
-
--- the values that a field's bits say: one, or none
-abbrev pub field_values : Order → Field → List Bool → List ℕ
-field_values o (Unsigned n) w = number o w ∷ []
-field_values o Align w = []
-
 -- values before those of the fields that follow
-abbrev pub values_and : List ℕ → Unpacked → Unpacked
+abbrev pub values_and : List FieldValue → Unpacked → Unpacked
 values_and vs (Unpacks ws at) = Unpacks (vs ++ ws) at
 values_and vs (Stops f) = Stops f
-
--- what the bits from a place on say for fields, which are numbered from k on
-abbrev pub unpacked : Order → ℕ → List Field → ℕ → List Bool → Unpacked
-unpacked o k [] at bits = Unpacks [] at
-unpacked o k (field ∷ fields) at bits =
-    let n = field_length field at in
-    if nat_lt (length bits) n then Stops (fault k BitsEnded)
-    else values_and (field_values o field (take n bits)) (unpacked o (k + 1) fields (at + n) (drop n bits))
 
 -- the reason for an error of a reader
 abbrev pub read_reason : Error → Reason
@@ -53,17 +37,21 @@ read_reason errors.EndOfInput = BitsEnded
 read_reason errors.OutOfMemory = OutOfMemory
 read_reason error = StreamFault
 
--- the read call of a field, which answers the field's values
-abbrev pub field_read : Order → Field → ReadEntry (List ℕ)
-field_read o (Unsigned n) = chain (unsigned_entry o 128 n) (λ v. gives (v ∷ []))
-field_read o Align = chain align_entry (λ _. gives [])
+-- the read call of a field, which answers the field's value, if it has one
+abbrev pub field_read : Order → Field → ReadEntry (Option FieldValue)
+field_read o (Unsigned n) = chain (unsigned_entry o 128 n) (λ v. gives (Some (Value.Unsigned v)))
+field_read o Align = chain align_entry (λ _. gives None)
 
 -- what the answers of the fields' read calls come to, where the fields are numbered from k on
-abbrev pub answered : ℕ → List Field → ℕ → List (Result (List ℕ) Error × ℕ) → Unpacked
+abbrev pub answered : ℕ → List Field → ℕ → List (Result (Option FieldValue) Error × ℕ) → Unpacked
 answered k [] at answers = Unpacks [] at
 answered k (field ∷ fields) at [] = Stops (fault k BitsEnded)
-answered k (field ∷ fields) at ((Ok vs, next) ∷ answers) = values_and vs (answered (k + 1) fields next answers)
+answered k (field ∷ fields) at ((Ok v, next) ∷ answers) = values_and (value_list v) (answered (k + 1) fields next answers)
 answered k (field ∷ fields) at ((Err e, next) ∷ answers) = Stops (fault k (read_reason e))
+
+-- what the bits from a place on say for fields, which are numbered from k on
+abbrev pub unpacked : Order → ℕ → List Field → ℕ → List Bool → Unpacked
+unpacked o k fields at bits = answered k fields at (read_run (map (field_read o) fields) at bits)
 
 -- ---- from a reader
 
@@ -77,32 +65,10 @@ pub record Took (old : ReaderState) (word : List Bool) (new : ReaderState) : Typ
   pub misled : new.misled ≡ old.misled
   pub places : new.places ≡ old.places
 
--- A request was refused, with this error for its kind, and the reader has failed. Of a stream that did not mislead, fewer than n bits were left.
-pub record Broke (n : ℕ) (old : ReaderState) (error : Error) (new : ReaderState) : Type 0 where
-  pub kind : ErrorKind
-  pub by_kind : error ≡ read_refusal_of kind
-  pub failed : new.failed ≡ true
-  pub refused : new.refused ≡ old.refused + 1
-  pub misled : old.misled ≤ new.misled
-  pub places : new.places ≡ old.places
-  pub ended : (b : List Bool) → old.bits ≡ Some b → new.misled ≡ old.misled → (error ≡ errors.EndOfInput) × (length b < n)
-
--- the bits of a field were taken, and say these values
-pub record TookField (o : Order) (field : Field) (old : ReaderState) (vs : List ℕ) (new : ReaderState) : Type 0 where
-  pub word : List Bool
-  pub took : Took old word new
-  pub size : length word ≡ field_length field old.taken
-  pub says : field_values o field word ≡ vs
-
--- one field, read by a reader that has not failed
-abbrev pub ReadsField : Order → Field → ReaderState → Result (List ℕ) Error → ReaderState → Type 0
-ReadsField o field old (Ok vs) new = TookField o field old vs new
-ReadsField o field old (Err error) new = Broke (field_length field old.taken) old error new
-
--- the bits of all fields were taken, whatever follows them, and these lines were printed of their values
+-- the bits of all fields were taken, whatever follows them, and these lines printed of their values
 pub record UnpackedAll (o : Order) (fields : List Field) (old : ReaderState) (text : List ℕ) (new : ReaderState) : Type 0 where
   pub word : List Bool
-  pub values : List ℕ
+  pub values : List FieldValue
   pub took : Took old word new
   pub says : (more : List Bool) → unpacked o 1 fields old.taken (word ++ more) ≡ Unpacks values new.taken
   pub prints : text ≡ printed_lines values
@@ -112,6 +78,14 @@ pub record Starved (old : ReaderState) (f : Fault) (new : ReaderState) : Type 0 
   pub field : ℕ
   pub reason : f ≡ fault field OutOfMemory
   pub refused : new.refused ≡ old.refused
+
+-- the bits, where they are told, stop with this fault
+pub record Told (o : Order) (fields : List Field) (old : ReaderState) (f : Fault) (new : ReaderState) : Type 0 where
+  pub field : ℕ
+  pub error : Error
+  pub reason : f ≡ fault field (read_reason error)
+  pub refused : new.refused ≡ old.refused
+  pub says : (b : List Bool) → old.bits ≡ Some b → unpacked o 1 fields old.taken b ≡ Stops f
 
 -- The stream refused a request at some field. Of a stream that did not mislead, the bits stop with this fault.
 pub record Stopped (o : Order) (fields : List Field) (old : ReaderState) (f : Fault) (new : ReaderState) : Type 0 where
@@ -127,7 +101,7 @@ pub record Stopped (o : Order) (fields : List Field) (old : ReaderState) (f : Fa
 -- fields, read by a reader that has not failed: the lines of their values, or the fault
 abbrev pub UnpacksFrom : Order → List Field → ReaderState → Result (List ℕ) Fault → ReaderState → Type 0
 UnpacksFrom o fields old (Ok text) new = UnpackedAll o fields old text new
-UnpacksFrom o fields old (Err f) new = Starved old f new ⊎ Stopped o fields old f new
+UnpacksFrom o fields old (Err f) new = Starved old f new ⊎ Told o fields old f new ⊎ Stopped o fields old f new
 
 -- ---- from a stream
 
@@ -135,7 +109,7 @@ UnpacksFrom o fields old (Err f) new = Starved old f new ⊎ Stopped o fields ol
 pub record UnpackedBytes (o : Order) (fields : List Field) (old : Option (List ℕ)) (text : List ℕ) (new : Option (List ℕ)) : Type 0 where
   pub gone : List ℕ
   pub loses : Consumes old new gone
-  pub values : List ℕ
+  pub values : List FieldValue
   pub len : ℕ
   pub least : (8 * length gone < len + 8) × (len ≤ 8 * length gone)
   pub says : (xs : List ℕ) → old ≡ Some xs → unpacked o 1 fields 0 (bits o gone) ≡ Unpacks values len

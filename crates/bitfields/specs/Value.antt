@@ -7,6 +7,8 @@ use Rattle.bitfields.specs.declared.fault.Reason.TheVariants.{ValueMissing, Valu
 use Rattle.bitfields.specs.declared.fault.Fault.{Fault}
 use Rattle.bitfields.specs.declared.field.Field.{Field}
 use Rattle.bitfields.specs.declared.field.Field.TheVariants.{Unsigned, Align}
+use Rattle.bitfields.specs.declared.field_value.FieldValue.{FieldValue}
+use Rattle.bitfields.specs.declared.field_value.FieldValue.TheVariants as Value
 use Rattle.bitfields.specs.Decimal.{decimal_below}
 use Rattle.bitfields.specs.Fault.{fault}
 use Rattle.bitfields.specs.Layout.{one_more}
@@ -25,40 +27,40 @@ abbrev pub value_count : Field → ℕ
 value_count (Unsigned n) = 1
 value_count Align = 0
 
-abbrev pub some_value : Result ℕ Reason → Result (Option ℕ) Reason
-some_value (Ok v) = Ok (Some v)
-some_value (Err why) = Err why
+abbrev pub some_value : {A : Type 0} → (A → FieldValue) → Result A Reason → Result (Option FieldValue) Reason
+some_value kind (Ok v) = Ok (Some (kind v))
+some_value kind (Err why) = Err why
 
 -- the value of a field that the first of the lines spells, or what is wrong; None where the field has no value
-abbrev pub value_in : Field → List (List ℕ) → Result (Option ℕ) Reason
+abbrev pub value_in : Field → List (List ℕ) → Result (Option FieldValue) Reason
 value_in (Unsigned n) [] = Err ValueMissing
-value_in (Unsigned n) (line ∷ others) = some_value (decimal_below (2 ^ n) line)
+value_in (Unsigned n) (line ∷ others) = some_value Value.Unsigned (decimal_below (2 ^ n) line)
 value_in Align lines = Ok None
 
 -- the values of a field: one, or none
-abbrev pub value_list : Option ℕ → List ℕ
+abbrev pub value_list : Option FieldValue → List FieldValue
 value_list None = []
 value_list (Some v) = v ∷ []
 
-abbrev pub value_and : ℕ → Result (Option ℕ) Reason → Result (List ℕ) Fault → Result (List ℕ) Fault
+abbrev pub value_and : ℕ → Result (Option FieldValue) Reason → Result (List FieldValue) Fault → Result (List FieldValue) Fault
 value_and k (Err why) others = Err (fault k why)
 value_and k (Ok None) others = others
 value_and k (Ok (Some v)) others = one_more v others
 
 -- the values that lines spell for fields, which are numbered from k on, or the first fault
-abbrev pub values : ℕ → List Field → List (List ℕ) → Result (List ℕ) Fault
+abbrev pub values : ℕ → List Field → List (List ℕ) → Result (List FieldValue) Fault
 values k [] lines = if length lines == 0 then Ok [] else Err (fault 0 ValueLeftOver)
 values k (field ∷ fields) lines =
     value_and k (value_in field lines) (values (k + 1) fields (drop (value_count field) lines))
 
 -- the field's value is there, the first of these, and fits the field; nothing is asked where the field has none
-abbrev pub FitsField : Field → List ℕ → Type 0
+abbrev pub FitsField : Field → List FieldValue → Type 0
 FitsField (Unsigned n) [] = ⊥
-FitsField (Unsigned n) (v ∷ vs) = v < 2 ^ n
+FitsField (Unsigned n) (Value.Unsigned v ∷ vs) = v < 2 ^ n
 FitsField Align vs = ⊤
 
 -- these are the values of the fields that have one, in their order, and each fits its field
-abbrev pub Fit : List Field → List ℕ → Type 0
+abbrev pub Fit : List Field → List FieldValue → Type 0
 Fit [] vs = vs ≡ []
 Fit (field ∷ fields) vs = FitsField field vs × Fit fields (drop (value_count field) vs)
 
@@ -67,12 +69,16 @@ abbrev pub IsOrMemory : {A B : Type 0} → Result B Fault → (A → B) → Resu
 IsOrMemory expected view (Ok x) = expected ≡ Ok (view x)
 IsOrMemory expected view (Err f) = (f ≡ fault 0 OutOfMemory) ⊎ (expected ≡ Err f)
 
--- a value as a decimal, and LF
-abbrev pub printed_line : ℕ → List ℕ
-printed_line v = decimal v ++ 10 ∷ []
+-- a value as it is printed
+abbrev pub value_text : FieldValue → List ℕ
+value_text (Value.Unsigned v) = decimal v
+
+-- a value's text, and LF
+abbrev pub printed_line : FieldValue → List ℕ
+printed_line v = value_text v ++ 10 ∷ []
 
 -- the line of each value
-abbrev pub printed_lines : List ℕ → List ℕ
+abbrev pub printed_lines : List FieldValue → List ℕ
 printed_lines vs = flat_map printed_line vs
 
 -- lines, each of them ended by LF

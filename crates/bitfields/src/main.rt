@@ -4,11 +4,11 @@
 mod decimal;
 mod fault;
 mod field;
+mod field_value;
 mod laws;
 mod layout;
 mod lines;
 mod packing;
-mod printing;
 #[cfg(test)]
 mod r01_first_path;
 mod run;

@@ -1,13 +1,14 @@
 //! Packing: the words of an input's values, and a last alignment.
 
-ghost use Rattle.std.specs.Prelude.{◌≡◌, false, None};
-ghost use Rattle.std.specs.List.{All};
-ghost use Rattle.bitfields.specs.Layout.{IsField};
-ghost use Rattle.bitfields.specs.Packing.{field_word, words, packed, write_reason as write_reason_of, Adds, Packs};
+ghost use Rattle.std.specs.Prelude.{◌≡◌, false, None, [], ◌∷◌, ◌++◌};
+ghost use Rattle.bitstream_stream.specs.Sink.{Writes, WritesAll};
+ghost use Rattle.bitstream_stream.specs.WriteTable.{align};
+ghost use Rattle.bitfields.specs.Packing.{field_write, field_writes, packed, Adds, write_reason as write_reason_of, Packs};
 ghost use Rattle.bitfields.specs.Value.{lines as lines_of, values as values_of, FitsField, Fit};
 
 use crate::fault::{Fault, Reason};
 use crate::field::Field;
+use crate::field_value::FieldValue;
 use crate::layout::Layout;
 use crate::value::{behind_value, values};
 use bitstream_io::{BitWrite, BitWriter, Endianness, Error, Lent, Target};
@@ -33,14 +34,17 @@ pub fn pack<E: Endianness, W: Target>(
     }
 }
 
-/// Packs values that fit a layout: writes the words of the fields, and zeros up to the next byte.
-///
-/// Refused only where the writer's stream refuses.
-pub fn pack_to<W: BitWrite>(layout: &Layout, values: &[u128], writer: &mut W) -> Result<(), Error>
+/// Packs values that fit a layout: makes the write calls of the fields and aligns, up to the first call that is refused. A sink
+/// without a limit refuses none, unless its stream does or it has failed.
+pub fn pack_to<W: BitWrite>(
+    layout: &Layout,
+    values: &[FieldValue],
+    writer: &mut W,
+) -> Result<(), Error>
     requires fit { Fit layout.now values.now }
-    requires sound { W.sink.failed writer.old ≡ false }
-    requires unlimited { W.sink.limit ≡ None }
-    ensures { Adds W.sink (packed W.sink.order layout.now values.now (W.sink.len writer.old)) writer.old result writer.new }
+    ensures calls { WritesAll W.sink (field_writes W.sink.order layout.now values.now ++ align ∷ []) writer.old result writer.new }
+    ensures adds { W.sink.failed writer.old ≡ false → W.sink.limit ≡ None →
+        Adds W.sink (packed W.sink.order layout.now values.now (W.sink.len writer.old)) writer.old result writer.new }
 {
     append_fields(layout.fields(), values, writer)?;
     writer.byte_align()
@@ -48,14 +52,11 @@ pub fn pack_to<W: BitWrite>(layout: &Layout, values: &[u128], writer: &mut W) ->
 
 fn append_fields<W: BitWrite>(
     fields: &[Field],
-    values: &[u128],
+    values: &[FieldValue],
     writer: &mut W,
 ) -> Result<(), Error>
-    requires in_range { All IsField fields.now }
     requires fit { Fit fields.now values.now }
-    requires sound { W.sink.failed writer.old ≡ false }
-    requires unlimited { W.sink.limit ≡ None }
-    ensures { Adds W.sink (words W.sink.order fields.now values.now (W.sink.len writer.old)) writer.old result writer.new }
+    ensures { WritesAll W.sink (field_writes W.sink.order fields.now values.now) writer.old result writer.new }
 {
     let mut rest = values;
     for field in fields {
@@ -65,16 +66,20 @@ fn append_fields<W: BitWrite>(
     Ok(())
 }
 
-/// Writes the word of a field, whose value is the first of these.
-fn append_field<W: BitWrite>(field: Field, values: &[u128], writer: &mut W) -> Result<(), Error>
-    requires in_range { IsField field }
+/// Makes the write call of a field, whose value is the first of these.
+fn append_field<W: BitWrite>(
+    field: Field,
+    values: &[FieldValue],
+    writer: &mut W,
+) -> Result<(), Error>
     requires fit { FitsField field values.now }
-    requires sound { W.sink.failed writer.old ≡ false }
-    requires unlimited { W.sink.limit ≡ None }
-    ensures { Adds W.sink (field_word W.sink.order field values.now (W.sink.len writer.old)) writer.old result writer.new }
+    ensures { Writes W.sink (field_write W.sink.order field values.now) writer.old result writer.new }
 {
     match field {
-        Field::Unsigned(width) => writer.write_unsigned_var(width, values[0]),
+        Field::Unsigned(width) => {
+            let FieldValue::Unsigned(value) = values[0];
+            writer.write_unsigned_var(width, value)
+        }
         Field::Align => writer.byte_align(),
     }
 }

@@ -3,14 +3,14 @@
 ghost use Rattle.std.specs.Prelude.{◌≡◌, ◌++◌, false, string_bytes, OnOk};
 ghost use Rattle.bitstream_order.specs.Draw.{seen};
 ghost use Rattle.bitstream_order.specs.Mislead.{MisledOnlyBy};
-ghost use Rattle.bitfields.specs.Layout.{IsField, IsLayout};
-ghost use Rattle.bitfields.specs.Unpacking.{read_reason as read_reason_of, ReadsField, UnpacksFrom, UnpacksBytes};
+ghost use Rattle.bitstream_stream.specs.Reads.{Reads};
+ghost use Rattle.bitfields.specs.Unpacking.{field_read, read_reason as read_reason_of, UnpacksFrom, UnpacksBytes};
 ghost use Rattle.bitfields.specs.Value.{value_list, printed_lines};
 
 use crate::fault::{Fault, Reason};
 use crate::field::Field;
+use crate::field_value::{FieldValue, print_value};
 use crate::layout::Layout;
-use crate::printing::print_value;
 use bitstream_io::{BitCount, BitRead, BitReader, Endianness, Error, Lent, Source};
 use std::alloc::{AllocError, Global};
 
@@ -53,7 +53,6 @@ fn unpack_fields<R: Source, E: Endianness>(
     reader: &mut BitReader<R, E>,
 ) -> Result<String, Fault>
     requires fine { (⟦<BitReader<R, E> as BitRead>⟧.state reader.old).failed ≡ false }
-    requires is_layout { IsLayout fields.now }
     ensures unpacks { UnpacksFrom E.order fields.now (⟦<BitReader<R, E> as BitRead>⟧.state reader.old) (seen (λ s. string_bytes s) result) (⟦<BitReader<R, E> as BitRead>⟧.state reader.new) }
     ensures misled { MisledOnlyBy R.known R.refuses (⟦<BitReader<R, E> as BitRead>⟧.state reader.old).misled (⟦<BitReader<R, E> as BitRead>⟧.state reader.new).misled }
 {
@@ -75,16 +74,16 @@ fn unpack_fields<R: Source, E: Endianness>(
 fn unpack_field<R: Source, E: Endianness>(
     field: Field,
     reader: &mut BitReader<R, E>,
-) -> Result<Option<u128>, Error>
-    requires fine { (⟦<BitReader<R, E> as BitRead>⟧.state reader.old).failed ≡ false }
-    requires in_range { IsField field }
-    ensures reads { ReadsField E.order field (⟦<BitReader<R, E> as BitRead>⟧.state reader.old) (seen value_list result) (⟦<BitReader<R, E> as BitRead>⟧.state reader.new) }
+) -> Result<Option<FieldValue>, Error>
+    ensures reads { Reads (field_read E.order field) (⟦<BitReader<R, E> as BitRead>⟧.state reader.old) result (⟦<BitReader<R, E> as BitRead>⟧.state reader.new) }
     ensures misled { MisledOnlyBy R.known R.refuses (⟦<BitReader<R, E> as BitRead>⟧.state reader.old).misled (⟦<BitReader<R, E> as BitRead>⟧.state reader.new).misled }
 {
     match field {
-        Field::Unsigned(width) => reader
-            .read_unsigned_counted::<_, u128>(BitCount::unknown(width))
-            .map(Some),
+        Field::Unsigned(width) => {
+            let count = BitCount::unknown(width);
+            let value = reader.read_unsigned_counted::<_, u128>(count)?;
+            Ok(Some(FieldValue::Unsigned(value)))
+        }
         Field::Align => {
             reader.byte_align();
             Ok(None)
@@ -104,7 +103,7 @@ fn read_reason(error: Error) -> Reason
 }
 
 /// Appends the line of a field's value, if it has one.
-fn print_field(lines: &mut String, value: Option<u128>) -> Result<(), AllocError>
+fn print_field(lines: &mut String, value: Option<FieldValue>) -> Result<(), AllocError>
     ensures { OnOk result (string_bytes lines.new ≡ string_bytes lines.old ++ printed_lines (value_list value)) }
 {
     match value {

@@ -2,14 +2,13 @@
 
 ghost use Rattle.std.specs.Prelude.{◌≡◌, ◌+◌, ◌++◌, [], ◌∷◌, ◌^◌, ◌≤◌, length, drop, map, IfOk, OnOk, IsOkUnless};
 ghost use Rattle.std.specs.List.{All};
-ghost use Rattle.bitfields.specs.Decimal.{decimal_below};
 ghost use Rattle.bitfields.specs.Fault.{fault};
 ghost use Rattle.bitfields.specs.Layout.{IsField, IsLayout};
 ghost use Rattle.bitfields.specs.Value.{lines as lines_of, values as values_of, value_in as value_in_of, value_count as value_count_of, Fit, value_list, IsOrMemory};
 
-use crate::decimal::decimal;
 use crate::fault::{Fault, Reason};
 use crate::field::Field;
+use crate::field_value::{FieldValue, value_in};
 use crate::layout::Layout;
 use crate::lines::lines;
 use std::alloc::Global;
@@ -19,7 +18,7 @@ use std::alloc::Global;
 /// Refused at the first value field with a fault: as `ValueMissing` where its line is missing, as `ValueMisspelt` where the line is no
 /// decimal, and as `ValueDoesNotFit` where the number is too great; else as `ValueLeftOver` (field 0) where lines remain.
 /// `OutOfMemory` (field 0) is the only other refusal.
-pub fn values(alloc: Global, layout: &Layout, input: &[u8]) -> Result<Vec<u128>, Fault>
+pub fn values(alloc: Global, layout: &Layout, input: &[u8]) -> Result<Vec<FieldValue>, Fault>
     ensures values { IsOrMemory (values_of 1 layout.now (lines_of input.now)) (λ v. v.items) result }
     ensures fit { IfOk result (λ v. Fit layout.now v.items) }
 {
@@ -27,7 +26,7 @@ pub fn values(alloc: Global, layout: &Layout, input: &[u8]) -> Result<Vec<u128>,
     read_values(alloc, layout.fields(), &lines)
 }
 
-fn read_values(alloc: Global, fields: &[Field], lines: &[&[u8]]) -> Result<Vec<u128>, Fault>
+fn read_values(alloc: Global, fields: &[Field], lines: &[&[u8]]) -> Result<Vec<FieldValue>, Fault>
     requires { IsLayout fields.now }
     ensures { IsOrMemory (values_of 1 fields.now (map (λ x. x.now) lines.now)) (λ v. v.items) result }
 {
@@ -47,35 +46,7 @@ fn read_values(alloc: Global, fields: &[Field], lines: &[&[u8]]) -> Result<Vec<u
     Ok(values)
 }
 
-/// The value of a field that the first of the lines spells; none where the field has no value.
-fn value_in(field: Field, lines: &[&[u8]]) -> Result<Option<u128>, Reason>
-    requires { IsField field }
-    ensures value { result ≡ value_in_of field (map (λ x. x.now) lines.now) }
-    ensures line { OnOk result (value_count_of field ≤ length lines.now) }
-{
-    match field {
-        Field::Unsigned(width) => match lines.first() {
-            Some(line) => decimal_of_width(width, line).map(Some),
-            None => Err(Reason::ValueMissing),
-        },
-        Field::Align => Ok(None),
-    }
-}
-
-/// The number below 2^width that a text spells.
-#[tactic(auto, using(crate::proofs::DecimalLemmas::wider))]
-fn decimal_of_width(width: u32, text: &[u8]) -> Result<u128, Reason>
-    requires { width ≤ 128 }
-    ensures { result ≡ decimal_below (2 ^ width) text.now }
-{
-    match decimal(text) {
-        Ok(value) if width < 128 && value >> width != 0 => Err(Reason::ValueDoesNotFit),
-        Ok(value) => Ok(value),
-        Err(reason) => Err(reason),
-    }
-}
-
-fn push_value(values: &mut Vec<u128>, value: Option<u128>) -> Result<(), Fault>
+fn push_value(values: &mut Vec<FieldValue>, value: Option<FieldValue>) -> Result<(), Fault>
     ensures pushed { OnOk result (values.new.items ≡ values.old.items ++ value_list value) }
     ensures memory { IsOkUnless result (fault 0 Reason.OutOfMemory) }
 {

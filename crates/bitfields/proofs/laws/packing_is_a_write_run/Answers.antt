@@ -1,13 +1,12 @@
-use Rattle.std.proofs.Common.{◌≡◌, None}
+use Rattle.std.proofs.Common.{◌≡◌, [], ◌∷◌, ◌++◌, None}
 use Rattle.std.proofs.lemmas.List.Elements.{recursion_from_All, All-from_recursion}
 use Rattle.bitstream_stream.specs.Run.{write_refusals}
+use Rattle.bitstream_stream.specs.WriteTable.{align}
 use Rattle.bitfields.specs.Layout.{IsField}
 use Rattle.bitfields.specs.Packing.{field_writes}
-use Rattle.bitfields.proofs.CallLemmas.{write_run-packed, write_refusals-none}
+use Rattle.bitfields.proofs.FieldCalls.{refusals-none}
 use Rattle.bitfields.proofs.laws.packing_is_a_write_run.Goals as goal
 
-pub returns-clause-words : goal.returns-clause-words
-returns-clause-words c = λ o fields vs at i h. write_run-packed o fields vs at (recursion_from_All IsField fields i) h
-
 pub returns-clause-accepted : goal.returns-clause-accepted
-returns-clause-accepted c = λ o fields vs at i h. All-from_recursion (λ r. r ≡ None) (write_refusals (field_writes o fields vs) at) (write_refusals-none o fields vs at (recursion_from_All IsField fields i) h)
+returns-clause-accepted c = λ o fields vs at i h.
+    All-from_recursion (λ r. r ≡ None) (write_refusals (field_writes o fields vs ++ align ∷ []) at) (refusals-none o fields vs at (recursion_from_All IsField fields i) h)

@@ -1,4 +1,4 @@
-use Rattle.std.proofs.Common.{◌∷◌, ◌∙◌, sym, ap}
+use Rattle.std.proofs.Common.{◌∷◌, ◌∙◌, sym, ap, refl}
 use Rattle.bitstream_stream.specs.Writer.{WriterState, writer_state}
 use Rattle.bitstream_stream.proofs.ReadsLemmas.{heads}
 use Rattle.bitfields.proofs.PackingLemmas.{PackedBytes-from}
@@ -7,8 +7,8 @@ use Rattle.bitfields.proofs.packing.pack.Goals as goal
 pub returns-in-Ok : goal.returns-in-Ok
 returns-in-Ok g c =
     let w = c.pack_to.new.writer in
-    let added = c.in-Ok.ensures in
     let fresh = c.new-writer.ensures in
+    let added = c.in-Ok.ensures.adds (ap (λ (s : WriterState). s.failed) fresh) refl in
     let read = c.in_ok-values.ensures.values in
     let place = heads c.new.result.at.ghost_name w.port.stream.at.ghost_name _ _ (added.places ∙ ap (λ (s : WriterState). s.port.places) fresh) in
     let tied = c.output-1.given.1 (sym c.new.ensures.name ∙ sym place) in

@@ -1,8 +1,8 @@
-use Rattle.std.proofs.Common.{rules, ◌≡◌, ◌++◌, ◌<◌, length, string_bytes, arith, inr, ap, ◌∙◌, ◌+◌}
+use Rattle.std.proofs.Common.{rules, ◌≡◌, ◌++◌, ◌<◌, length, string_bytes, arith, ap, ◌∙◌, ◌+◌}
 use Rattle.bitfields.specs.Fault.{fault}
 use Rattle.bitfields.specs.Value.{value_list, printed_lines}
-use Rattle.bitfields.proofs.FieldReads.{misled_after}
-use Rattle.bitfields.proofs.UnpackingLemmas.{Unpacking-start, Unpacking-more, UnpackedAll-from, Stopped-from}
+use Rattle.bitfields.proofs.UnpackedBytes.{misled_after}
+use Rattle.bitfields.proofs.UnpackingLemmas.{Unpacking-start, Unpacking-more, Unpacking-err, UnpackedAll-from}
 use Rattle.bitfields.proofs.unpacking.unpack_fields.Goals as goal
 
 pub loop-index-init : goal.loop-index-init
@@ -19,7 +19,7 @@ pub returns-in-Err-clause-unpacks : goal.returns-in-Err-clause-unpacks
 returns-in-Err-clause-unpacks g c =
     let i = c.loop-index.index in
     let h : i < length c.args.fields.now = omega arith in
-    inr (Stopped-from g.E.Endianness.order c.args.fields.now i _ _ _ _ _ c.in-Err.error _ h c.loop-index.invariant c.in-Err.ensures.reads (c.new-in-Err.ensures ∙ ap (fault (i + 1)) c.read_reason.ensures))
+    Unpacking-err g.E.Endianness.order c.args.fields.now i _ _ _ _ _ c.in-Err.error _ h c.loop-index.invariant c.in-Err.ensures.reads (c.new-in-Err.ensures ∙ ap (fault (i + 1)) c.read_reason.ensures)
 
 pub returns-in-Err-clause-misled : goal.returns-in-Err-clause-misled
 returns-in-Err-clause-misled g c =
