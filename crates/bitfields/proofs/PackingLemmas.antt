@@ -1,26 +1,34 @@
 -- Packing, call by call.
-use Rattle.std.specs.Prelude.{false, Bool, IsErr, ◌*◌, ◌%◌}
+use Rattle.std.specs.Prelude.{false, Bool, IsErr, IsErrAnd, ◌*◌, ◌%◌}
 use Rattle.std.specs.List.{AllByRecursion}
 use Rattle.std.specs.Borrow.{GName}
-use Rattle.std.proofs.Common.{◌≡◌, ℕ, ◌+◌, ◌<◌, ◌≤◌, List, [], ◌∷◌, ◌++◌, length, drop, get_or, Option, None, Result, Ok, Err, refl, sym, ap, subst, ◌∙◌, arith, inl, inr, add-one, drop-cons, append-nil, length-append}
+use Rattle.std.specs.declared.io.ErrorKind.{ErrorKind}
+use Rattle.std.proofs.Common.{◌≡◌, ℕ, ◌+◌, ◌<◌, ◌≤◌, List, [], ◌∷◌, ◌++◌, length, drop, get_or, Option, None, Result, Ok, Err, refl, sym, ap, subst, ◌∙◌, arith, inl, inr, ◌⊎◌, add-one, drop-cons, append-nil, length-append}
 use Rattle.std.proofs.lemmas.List.{drop_all, length-replicate}
 use Rattle.std.proofs.lemmas.List.Elements.{recursion_from_All}
-use Rattle.bitstream_number.specs.Word.{Order, word, High, Low, bits, digits}
+use Rattle.bitstream_number.specs.Word.{Order, word, bits}
 use Rattle.bitstream_number.proofs.WordLemmas.{length-word, length-bits}
 use Rattle.bitstream_count.specs.declared.error.Error.{Error}
 use Rattle.bitstream_count.specs.Entry.{WriteEntry}
+use Rattle.bitstream_order.specs.Refusal.{Refusal, MayReject}
+use Rattle.bitstream_order.proofs.DrawLemmas.{word-none}
 use Rattle.bitstream_stream.specs.Alignment.{to_boundary}
 use Rattle.bitstream_stream.specs.Run.{accepted, refusal, write_run, write_refusals}
 use Rattle.bitstream_stream.specs.Sink.{Sink, IsBeyond, Appended, Faulted, Writes, WritesAll, was_failed, was_refused, passed_limit, had_fault, did_write}
 use Rattle.bitstream_stream.specs.WriteTable.{align}
-use Rattle.bitstream_stream.specs.Writer.{WriterState, fresh_writer, Carries}
+use Rattle.bitstream_stream.specs.Carries.{WriterState, Carries}
+use Rattle.bitstream_stream.specs.Writer.{fresh_writer}
+use Rattle.bitstream_stream.proofs.SinkParts.{Faulted-behind, Faulted-longer}
 use Rattle.bitstream_stream.proofs.WriteParts.{all_none, all_err, all_more}
+use Rattle.bitfields.specs.declared.fault.Fault.{Fault}
+use Rattle.bitfields.specs.declared.fault.Reason.TheVariants.{OutOfMemory}
 use Rattle.bitfields.specs.declared.field.Field.{Field}
 use Rattle.bitfields.specs.declared.field.Field.TheVariants.{Unsigned}
 use Rattle.bitfields.specs.declared.field_value.FieldValue.{FieldValue}
 use Rattle.bitfields.specs.declared.field_value.FieldValue.TheVariants as Value
+use Rattle.bitfields.specs.Fault.{fault}
 use Rattle.bitfields.specs.Layout.{IsField, IsLayout}
-use Rattle.bitfields.specs.Packing.{Adds, PackedBytes, field_write, field_writes, packed}
+use Rattle.bitfields.specs.Packing.{Adds, PackedBytes, RefusedBytes, Packs, write_reason, field_write, field_writes, packed}
 use Rattle.bitfields.specs.Value.{value_count, FitsField, Fit}
 use Rattle.bitfields.proofs.FieldCalls.{refusals-none, write_run-append}
 
@@ -30,41 +38,34 @@ use Rattle.bitfields.proofs.FieldCalls.{refusals-none, write_run-append}
 Adds-from : {S : Type 0} (K : Sink S) (entry : WriteEntry) (x : List Bool) (old : S) (r : Result (Unit {0}) Error) (new : S) → K.failed old ≡ false → K.limit ≡ None → entry (K.len old) ≡ Ok x → Writes K entry old r new → Adds K x old r new
 Adds-from K entry x old r new sound unlimited is (was_failed p q k) = absurd (cc)
 Adds-from K entry x old r new sound unlimited is (was_refused error p q e k) = absurd (cc)
-Adds-from K entry x old r new sound unlimited is (passed_limit w u v p q beyond e s t a) = absurd (subst (λ (m : Option ℕ). IsBeyond m (K.len old + length w)) unlimited beyond)
-Adds-from K entry x old r new sound unlimited is (had_fault w error p q many e f) = subst (λ (a : Result (Unit {0}) Error). Adds K x old a new) (sym e) f
+Adds-from K entry x old r new sound unlimited is (passed_limit w p q beyond e k) = absurd (subst (λ (m : Option ℕ). IsBeyond m (K.len old + length w)) unlimited beyond)
+Adds-from K entry x old r new sound unlimited is (had_fault w error p q within e f) =
+    let same : w ≡ x = cc in
+    subst (λ (a : Result (Unit {0}) Error). Adds K x old a new) (sym e) (subst (λ (y : List Bool). Faulted K old y error new) same f)
 Adds-from K entry x old r new sound unlimited is (did_write w done p q within e a) =
     let same : w ≡ x = cc in
     subst (λ (b : Result (Unit {0}) Error). Adds K x old b new) (sym e) (subst (λ (y : List Bool). Appended K old y new) same a)
 
 Appended-nil : {S : Type 0} (K : Sink S) (s : S) → K.failed s ≡ false → Appended K s [] s
-Appended-nil K s sound = record { grown = K.appends_nil s; sound = sound; refused = refl; places = refl }
+Appended-nil K s sound = record { grown = K.appends_nil s; sound = sound; refusals = refl; places = refl }
 
 Appended-trans : {S : Type 0} (K : Sink S) (s t z : S) (x y : List Bool) → Appended K s x t → Appended K t y z → Appended K s (x ++ y) z
 Appended-trans K s t z x y h k = record {
   grown = K.appends_trans s t z x y h.grown k.grown;
   sound = k.sound;
-  refused = k.refused ∙ h.refused;
-  places = k.places ∙ h.places;
-}
-
-Faulted-later : {S : Type 0} (K : Sink S) (s t z : S) (x : List Bool) (error : Error) → Appended K s x t → Faulted K t error z → Faulted K s error z
-Faulted-later K s t z x error h k = record {
-  kind = k.kind;
-  by_kind = k.by_kind;
-  refused = k.refused ∙ ap (λ (n : ℕ). n + 1) h.refused;
-  broken = k.broken;
+  refusals = k.refusals ∙ h.refusals;
   places = k.places ∙ h.places;
 }
 
 -- what follows bits that were added
 Adds-later : {S : Type 0} (K : Sink S) (x y : List Bool) (old mid : S) (r : Result (Unit {0}) Error) (new : S) → Appended K old x mid → Adds K y mid r new → Adds K (x ++ y) old r new
 Adds-later K x y old mid (Ok done) new h k = Appended-trans K old mid new x y h k
-Adds-later K x y old mid (Err e) new h k = Faulted-later K old mid new x e h k
+Adds-later K x y old mid (Err e) new h k = Faulted-behind K old mid new e x y (x ++ y) h k (omega (arith, length-append x y))
 
 -- a refusal of the first bits is one of all
 Adds-first : {S : Type 0} (K : Sink S) (x y : List Bool) (old : S) (r : Result (Unit {0}) Error) (new : S) → IsErr r → Adds K x old r new → Adds K (x ++ y) old r new
 Adds-first K x y old (Ok done) new h k = absurd (cc)
-Adds-first K x y old (Err e) new h k = k
+Adds-first K x y old (Err e) new h k = Faulted-longer K old new e x (x ++ y) k (omega (arith, length-append x y))
 
 accepted-word : (r : Result (List Bool) Error) → refusal r ≡ None → r ≡ Ok (accepted r)
 accepted-word (Ok w) h = refl
@@ -95,6 +96,10 @@ Adds-packed K fields vs old r new layout fit w sound unlimited =
     Adds-all K (field_writes K.order fields vs ++ align ∷ []) old r new sound unlimited (refusals-none K.order fields vs (K.len old) each fit) w
 
 -- ---- the fields' calls, one behind the other
+
+pub result_err : {B : Type 0} {x : Error} (r : Result B Error) → IsErrAnd r (λ y. y ≡ x) → r ≡ Err x
+result_err (Ok b) h = absurd h
+result_err (Err y) h = ap Err h
 
 -- what is made of the calls that are left is made of them all
 abbrev pub Remains : {S : Type 0} → Sink S → List WriteEntry → S → List WriteEntry → S → Type 0
@@ -157,10 +162,9 @@ Packing-end K fields vs i old rest now end known =
 
 -- ---- a new writer of a stream
 
-word-none : (o : Order) (n v : ℕ) → n ≡ 0 → word o n v ≡ []
-unfolding digits
-word-none High n v e = rw e refl
-word-none Low n v e = rw e refl
+-- the first of the names
+pub heads : (n m : GName) (k l : List GName) → m ∷ l ≡ n ∷ k → m ≡ n
+heads n m k l e = cc
 
 length-packed : (o : Order) (fields : List Field) (vs : List FieldValue) → length (packed o fields vs 0) % 8 ≡ 0
 length-packed o fields vs =
@@ -176,10 +180,37 @@ pub PackedBytes-from : (o : Order) (fields : List Field) (vs : List FieldValue) 
 PackedBytes-from o fields vs held places s t few fresh was =
     let c : Carries o (fresh_writer held places) (packed o fields vs 0) t = subst (λ (u : WriterState). Carries o u (packed o fields vs (8 * u.port.sent + u.queued)) t) fresh was in
     let x = packed o fields vs 0 in
-    let whole : x ≡ bits o c.bytes ++ word o t.queued t.queue = ap (λ (u : List Bool). u ++ x) (sym (word-none o 0 0 refl)) ∙ c.word in
+    let whole : x ≡ bits o c.bytes ++ word o t.queued t.queue = ap (λ (u : List Bool). u ++ x) (sym (word-none o 0)) ∙ c.word in
     let rest : t.queued ≡ 0 = omega (arith, few, length-packed o fields vs, ap length whole, length-append (bits o c.bytes) (word o t.queued t.queue), length-bits o c.bytes, length-word o t.queued t.queue) in
     record {
       bytes = c.bytes;
       grows = c.grows;
-      says = sym (whole ∙ ap (λ (u : List Bool). bits o c.bytes ++ u) (word-none o t.queued t.queue rest) ∙ append-nil (bits o c.bytes));
+      says = sym (whole ∙ ap (λ (u : List Bool). bits o c.bytes ++ u) (ap (λ (n : ℕ). word o n t.queue) rest ∙ word-none o t.queue) ∙ append-nil (bits o c.bytes));
     }
+
+-- ---- refusals
+
+-- an input whose values were refused is answered so, and the stream is as it was
+pub Packs-refused : {W : Type 0} (contents : W → Option (List ℕ)) (may : Refusal → Type 0) (o : Order) (fields : List Field) (values : Result (List FieldValue) Fault) (output : W) (r : Result (Unit {0}) Fault) (f : Fault)
+    → IsErrAnd r (λ e. e ≡ f) → (f ≡ fault 0 OutOfMemory) ⊎ (values ≡ Err f) → Packs contents may o fields values output r output
+Packs-refused contents may o fields values output (Ok done) f h why = absurd h
+Packs-refused contents may o fields (Ok vs) output (Err e) f h (inl memory) = inl (h ∙ memory, refl)
+Packs-refused contents may o fields (Ok vs) output (Err e) f h (inr is) = absurd (cc)
+Packs-refused contents may o fields (Err x) output (Err e) f h (inl memory) = (refl, inr (h ∙ memory))
+Packs-refused contents may o fields (Err x) output (Err e) f h (inr is) = (let same : x ≡ f = cc in (refl, inl (h ∙ sym same)))
+
+-- a refused request of a writer, as one of its stream
+pub RefusedBytes-from : {S : Type 0} (K : Sink S) (may : Refusal → Type 0) (fields : List Field) (vs : List FieldValue) (old new : S) (error : Error) (f : Fault) → ((x : Refusal) → K.may x → may x) → K.len old ≡ 0
+    → Faulted K old (packed K.order fields vs (K.len old)) error new → f ≡ fault 0 (write_reason error) → RefusedBytes may K.order fields vs f
+RefusedBytes-from K may fields vs old new error f is none h why = record {
+  refusal = h.refusal;
+  allowed = is h.refusal h.allowed;
+  reason = why ∙ ap (λ (e : Error). fault 0 (write_reason e)) h.answer;
+  some =
+      (let size : length (packed K.order fields vs (K.len old)) ≡ length (packed K.order fields vs 0) = ap (λ (n : ℕ). length (packed K.order fields vs n)) none in
+      omega (arith, h.full, size, none));
+}
+
+-- a refusal of a target that is seen through another state is one of that target
+pub MayReject-seen : {T S : Type 0} (f : S → T) (refuses : T → ℕ → ErrorKind → T → Type 0) (x : Refusal) → MayReject (λ s n kind t. refuses (f s) n kind (f t)) x → MayReject refuses x
+MayReject-seen f refuses x h = record { before = f h.before; after = f h.after; left = h.left; refused = h.refused }

@@ -1,92 +1,101 @@
 -- Unpacking from the first byte of a stream on.
-use Rattle.std.specs.Prelude.{Bool, Option, Some, option_map, IsErrAnd}
-use Rattle.std.proofs.Common.{◌≡◌, ℕ, List, ◌++◌, Result, Ok, Err, refl, sym, ap, ◌∙◌, arith, subst, ◌⊎◌, inl, inr}
-use Rattle.bitstream_number.specs.Word.{Order, bits}
-use Rattle.bitfields.specs.declared.field.Field.{Field}
-use Rattle.bitfields.specs.declared.fault.Reason.TheVariants.{BitsEnded, StreamFault, OutOfMemory}
-use Rattle.bitfields.specs.Fault.{fault}
-use Rattle.bitstream_count.specs.declared.error.Error.{Error}
-use Rattle.bitstream_order.specs.Draw.{seen}
-use Rattle.bitstream_stream.specs.Reads.{ReaderState, Reads, stays, answers, faults, Loses, Holds, Demands}
-use Rattle.bitstream_stream.specs.ReadTable.{align_entry}
+use Rattle.std.specs.Prelude.{Bool, false, IsErrAnd}
 use Rattle.std.specs.Borrow.{GName}
-use Rattle.bitstream_count.specs.declared.error.Error.TheVariants as errors
+use Rattle.std.specs.Io.KnownBytes.{Consumes}
 use Rattle.std.specs.declared.io.ErrorKind.{ErrorKind}
+use Rattle.std.proofs.Common.{◌≡◌, ℕ, ◌+◌, List, [], ◌∷◌, ◌++◌, length, Option, Result, Ok, Err, refl, sym, ap, ◌∙◌, subst, arith, append_assoc, append-nil, ◌⊎◌, inl, inr}
+use Rattle.bitstream_number.specs.Word.{Order, bits}
+use Rattle.bitstream_order.specs.Draw.{seen}
 use Rattle.bitstream_order.specs.Fault.{read_refusal_of}
-use Rattle.bitstream_order.specs.Mislead.{Misleads, MisledOnlyBy}
+use Rattle.bitstream_order.specs.Refusal.{Refusal, MayRefuse}
 use Rattle.bitstream_stream.specs.Reader.{new_reader_state}
+use Rattle.bitstream_stream.specs.Reads.{ReaderState, BitSource, Demands}
 use Rattle.bitfields.specs.declared.fault.Fault.{Fault}
-use Rattle.bitfields.specs.Unpacking.{Stops, unpacked, read_reason, UnpackedAll, Starved, Told, Stopped, UnpackedBytes, Refused, UnpacksBytes}
-use Rattle.bitstream_stream.proofs.TakenLemmas.{front_bytes}
+use Rattle.bitfields.specs.declared.field.Field.{Field}
+use Rattle.bitfields.specs.declared.field_value.FieldValue.{FieldValue}
+use Rattle.bitfields.specs.Fault.{fault}
+use Rattle.bitfields.specs.Unpacking.{Unpacks, Stops, unpacked, read_reason, in_lines, ReadsLines, TakesBits, UnpackedBytes, ToldBytes, StarvedBytes, StoppedBytes, UnpacksBytes}
+use Rattle.bitfields.specs.Value.{printed_lines}
+use Rattle.bitfields.proofs.UnpackingLemmas.{ComesTo, ComesTo-calls, ComesTo-places}
 
--- the bytes that the fields' bits reach into are gone from the stream
-pub UnpackedBytes-from : (o : Order) (fields : List Field) (known : Option (List ℕ)) (places : List GName) (old t : ReaderState) (text : List ℕ) → Holds o t → Demands t → old ≡ new_reader_state o known places → UnpackedAll o fields old text t → UnpackedBytes o fields known text t.bytes
-UnpackedBytes-from o fields known places old t text holds demands new h0 =
-    let h = subst (λ (s : ReaderState). UnpackedAll o fields s text t) new h0 in
-    let gone = h.took.drains.gone in
-    record {
-      gone = gone;
-      loses = h.took.drains.loses;
-      values = h.values;
-      len = t.taken;
-      least = (let fetched = h.took.drains.fetched in (omega (arith, demands), omega (arith, demands)));
-      says = λ xs is.
-          (let losing : Loses (option_map (λ bs. bits o bs) known) (option_map (λ bs. holds.0 ++ bits o bs) t.bytes) h.word = subst (λ z. Loses (option_map (λ bs. bits o bs) known) z h.word) holds.2 h.took.loses in
-          ap (λ (bs : List Bool). unpacked o 1 fields 0 bs) (front_bytes o known t.bytes gone h.word holds.0 h.took.drains.loses losing xs is)
-          ∙ h.says holds.0);
-      prints = h.prints;
-    }
-
-reason_cases : (e : Error) → (read_reason e ≡ BitsEnded) ⊎ (read_reason e ≡ StreamFault) ⊎ (read_reason e ≡ OutOfMemory)
-reason_cases errors.EndOfInput = inl refl
-reason_cases errors.OutOfMemory = inr (inr refl)
-reason_cases e = inr (inl refl)
-
-reason_of : (why : Fault) (field : ℕ) (e : Error) → why ≡ fault field (read_reason e) → (why ≡ fault field BitsEnded) ⊎ (why ≡ fault field StreamFault) ⊎ (why ≡ fault field OutOfMemory)
-reason_of why field e h = elim (reason_cases e) [
-  | inl x ↦ inl (h ∙ ap (fault field) x)
-  | inr (inl x) ↦ inr (inl (h ∙ ap (fault field) x))
-  | inr (inr x) ↦ inr (inr (h ∙ ap (fault field) x))
-]
-
--- a stream that is seen through another state misleads where that does
-seen_misleads : {R S : Type 0} (f : S → R) (known : R → Option (List ℕ)) (refuses : R → ℕ → ErrorKind → R → Type 0) → Misleads (λ s. known (f s)) (λ s n kind t. refuses (f s) n kind (f t)) → Misleads known refuses
-seen_misleads f known refuses h = record { before = f h.before; after = f h.after; wanted = h.wanted; kind = h.kind; bytes = h.bytes; tells = h.tells; refused = h.refused; untrue = h.untrue }
-
-stops_or_misleads : {R S : Type 0} (f : S → R) (known : R → Option (List ℕ)) (refuses : R → ℕ → ErrorKind → R → Type 0) (o : Order) (fields : List Field) (first : Option (List ℕ)) (places : List GName) (old new : ReaderState) (why : Fault)
-    → old ≡ new_reader_state o first places → Stopped o fields old why new → MisledOnlyBy (λ s. known (f s)) (λ s n kind t. refuses (f s) n kind (f t)) old.misled new.misled
-    → (xs : List ℕ) → first ≡ Some xs → (unpacked o 1 fields 0 (bits o xs) ≡ Stops why) ⊎ Misleads known refuses
-stops_or_misleads f known refuses o fields first places old new why fresh h (inl same) xs told =
-    inl (ap (λ (p : ℕ). unpacked o 1 fields p (bits o xs)) (sym (ap (λ (s : ReaderState). s.taken) fresh)) ∙ h.ended (bits o xs) (ap (λ (s : ReaderState). s.bits) fresh ∙ ap (option_map (λ bs. bits o bs)) told) same)
-stops_or_misleads f known refuses o fields first places old new why fresh h (inr misled) xs told = inr (seen_misleads f known refuses misled)
-
-pub Refused-from : {R S : Type 0} (f : S → R) (known : R → Option (List ℕ)) (refuses : R → ℕ → ErrorKind → R → Type 0) (o : Order) (fields : List Field) (input : R) (places : List GName) (old new : ReaderState) (why : Fault)
-    → old ≡ new_reader_state o (known input) places → Starved old why new ⊎ Told o fields old why new ⊎ Stopped o fields old why new → MisledOnlyBy (λ s. known (f s)) (λ s n kind t. refuses (f s) n kind (f t)) old.misled new.misled
-    → Refused known refuses o fields input why
-Refused-from f known refuses o fields input places old new why fresh (inl h) faithful = record { field = h.field; reason = inr (inr h.reason); cause = inl h.reason }
-Refused-from f known refuses o fields input places old new why fresh (inr (inl h)) faithful = record {
-  field = h.field;
-  reason = reason_of why h.field h.error h.reason;
-  cause = inr (λ xs told. inl (ap (λ (p : ℕ). unpacked o 1 fields p (bits o xs)) (sym (ap (λ (s : ReaderState). s.taken) fresh)) ∙ h.says (bits o xs) (ap (λ (s : ReaderState). s.bits) fresh ∙ ap (option_map (λ bs. bits o bs)) told)));
-}
-Refused-from f known refuses o fields input places old new why fresh (inr (inr h)) faithful = record {
-  field = h.field;
-  reason = reason_of why h.field (read_refusal_of h.kind) h.reason;
-  cause = inr (stops_or_misleads f known refuses o fields (known input) places old new why fresh h faithful);
+-- a new reader fetched the bytes that the bits taken reach into
+bytes_taken : (known : Option (List ℕ)) (places : List GName) (n : ℕ) (gone : List ℕ) (t : ReaderState) → Demands t → Consumes known t.bytes gone → t.fetched ≡ 0 + length gone → t.taken ≡ 0 + n → TakesBits known gone t.taken t.bytes
+bytes_taken known places n gone t demands loses fetched taken = record {
+  loses = loses;
+  least = (omega (arith, demands, fetched), omega (arith, demands, fetched));
 }
 
-pub UnpacksBytes-exit : {R V : Type 0} (known : R → Option (List ℕ)) (refuses : R → ℕ → ErrorKind → R → Type 0) (o : Order) (fields : List Field) (old new : R) (view : V → List ℕ) (r : Result V Fault) (f : Fault)
-    → IsErrAnd r (λ e. e ≡ f) → Refused known refuses o fields old f → UnpacksBytes known refuses o fields old (seen view r) new
-UnpacksBytes-exit known refuses o fields old new view (Ok v) f h k = absurd h
-UnpacksBytes-exit known refuses o fields old new view (Err e) f h k = subst (Refused known refuses o fields old) (sym h) k
+-- what is said whatever follows a word, is said by the bytes that hold it
+told_by : {A : Type 0} (o : Order) (f : List Bool → A) (gone : List ℕ) (w rest : List Bool) (a : A) → [] ++ bits o gone ≡ w ++ rest → ((more : List Bool) → f (w ++ more) ≡ a) → f (bits o gone) ≡ a
+told_by o f gone w rest a parts says = ap f parts ∙ says rest
 
--- an alignment asks the stream for nothing
-pub align_misled : (old new : ReaderState) → Reads align_entry old (Ok tt) new → new.misled ≡ old.misled
-align_misled old new (stays h) = ap (λ (s : ReaderState). s.misled) h.same
-align_misled old new (answers h) = h.misled
-align_misled old new (faults h) = absurd (let a = h.answer in cc)
+-- and by these, whatever follows them
+told_whatever : {A : Type 0} (o : Order) (f : List Bool → A) (gone : List ℕ) (w rest : List Bool) (a : A) → [] ++ bits o gone ≡ w ++ rest → ((more : List Bool) → f (w ++ more) ≡ a)
+    → (more : List Bool) → f (bits o gone ++ more) ≡ a
+told_whatever o f gone w rest a parts says more = ap (λ (b : List Bool). f (b ++ more)) parts ∙ ap f (append_assoc w rest more) ∙ says (rest ++ more)
 
--- what the last of some calls may have misled, behind calls that did not
-pub misled_after : {R : Type 0} (known : R → Option (List ℕ)) (refuses : R → ℕ → ErrorKind → R → Type 0) (first before after : ℕ) → before ≡ first → MisledOnlyBy known refuses before after → MisledOnlyBy known refuses first after
-misled_after known refuses first before after same (inl e) = inl (e ∙ same)
-misled_after known refuses first before after same (inr misled) = inr misled
+-- the lines and faults of a new reader's calls, by the bytes of its stream
+abbrev pub UnpacksKnown : (Refusal → Type 0) → Order → List Field → Option (List ℕ) → Result (List ℕ) Fault → Option (List ℕ) → Type 0
+UnpacksKnown may o fields old result new = UnpacksBytes {R = Option (List ℕ)} (λ b. b) may o fields old result new
+
+UnpacksKnown-from : (o : Order) (may allowed : Refusal → Type 0) (fields : List Field) (known : Option (List ℕ)) (places : List GName) (r : Result (List FieldValue) Fault) (t : ReaderState)
+    → ((x : Refusal) → may x → allowed x) → Demands t → ComesTo o may 1 fields (new_reader_state known places) r t → UnpacksKnown allowed o fields known (in_lines r) t.bytes
+UnpacksKnown-from o may allowed fields known places (Ok vs) t is demands h = record {
+  gone = h.took.gone;
+  len = t.taken;
+  taken = bytes_taken known places (length h.word) h.took.gone t demands h.took.loses h.took.fetched h.took.taken;
+  values = vs;
+  says = told_by o (unpacked o 1 fields 0) h.took.gone h.word t.held (Unpacks vs t.taken) h.took.parts h.says;
+  prints = refl;
+}
+UnpacksKnown-from o may allowed fields known places (Err f) t is demands (inl h) = inl (record {
+  gone = h.gone;
+  len = t.taken;
+  taken = bytes_taken known places (length h.word) h.gone t demands h.loses h.fetched h.taken;
+  says = told_whatever o (unpacked o 1 fields 0) h.gone h.word h.rest (Stops f) h.parts h.says;
+})
+UnpacksKnown-from o may allowed fields known places (Err f) t is demands (inr (inl h)) = inr (inl (record {
+  front = h.front;
+  here = h.here;
+  back = h.back;
+  parts = h.parts;
+  reason = h.reason;
+  gone = h.took.gone;
+  len = t.taken;
+  taken = bytes_taken known places (length h.word) h.took.gone t demands h.took.loses h.took.fetched h.took.taken;
+  values = h.values;
+  at = h.at;
+  before = told_by o (unpacked o 1 h.front 0) h.took.gone h.word t.held (Unpacks h.values h.at) h.took.parts h.before;
+  value = h.value;
+  says = told_by o (unpacked o 1 (h.front ++ h.here ∷ []) 0) h.took.gone h.word t.held (Unpacks (h.values ++ h.value ∷ []) t.taken) h.took.parts h.says;
+}))
+UnpacksKnown-from o may allowed fields known places (Err f) t is demands (inr (inr h)) = inr (inr (record {
+  field = h.field;
+  refusal = h.refusal;
+  allowed = is h.refusal h.allowed;
+  reason = h.reason;
+  gone = h.gone;
+  stops = h.stops;
+  ended = λ end xs told.
+      h.ended end xs told ∙ ap Stops (sym (h.reason ∙ ap (λ (kind : ErrorKind). fault h.field (read_reason (read_refusal_of kind))) end.kind));
+}))
+
+-- a refusal of a stream that is seen through another state is one of that stream
+pub MayRefuse-seen : {R S : Type 0} (f : S → R) (known : R → Option (List ℕ)) (refuses : R → ℕ → ErrorKind → R → Type 0) (x : Refusal) → MayRefuse (λ s. known (f s)) (λ s n kind t. refuses (f s) n kind (f t)) x → MayRefuse known refuses x
+MayRefuse-seen f known refuses x h = record { before = f h.before; after = f h.after; left = h.left; refused = h.refused }
+
+-- what the calls of a new reader come to
+pub Unpacks-from : {R : Type 0} (K : BitSource R) (allowed : Refusal → Type 0) (fields : List Field) (known : Option (List ℕ)) (places : List GName) (old new : R) (result : Result (List ℕ) Fault) → ((x : Refusal) → K.may x → allowed x)
+    → K.state old ≡ new_reader_state known places → ReadsLines K fields old result new → UnpacksKnown allowed K.order fields known result (K.state new).bytes × ((K.state new).places ≡ places)
+Unpacks-from K allowed fields known places old new result is fresh h =
+    let fine : (K.state old).failed ≡ false = ap (λ (s : ReaderState). s.failed) fresh in
+    let comes = ComesTo-calls K 1 fields old h.answer new fine h.reads in
+    let anew = subst (λ (s : ReaderState). ComesTo K.order K.may 1 fields s h.answer (K.state new)) fresh comes in (
+      subst (λ (r : Result (List ℕ) Fault). UnpacksKnown allowed K.order fields known r (K.state new).bytes) (sym h.prints) (UnpacksKnown-from K.order K.may allowed fields known places h.answer (K.state new) is (K.demands new) anew),
+      ComesTo-places K.order K.may 1 fields (new_reader_state known places) h.answer (K.state new) anew,
+    )
+
+pub UnpacksBytes-exit : {R V : Type 0} (known : R → Option (List ℕ)) (may : Refusal → Type 0) (o : Order) (fields : List Field) (old new : R) (view : V → List ℕ) (r : Result V Fault) (f : Fault)
+    → IsErrAnd r (λ e. e ≡ f) → UnpacksBytes known may o fields old (Err f) new → UnpacksBytes known may o fields old (seen view r) new
+UnpacksBytes-exit known may o fields old new view (Ok v) f h k = absurd h
+UnpacksBytes-exit known may o fields old new view (Err e) f h k = subst (λ (x : Fault). UnpacksBytes known may o fields old (Err x) new) (sym h) k

@@ -1,165 +1,335 @@
--- Unpacking, field by field.
-use Rattle.std.specs.Prelude.{Bool, false}
-use Rattle.std.proofs.Common.{◌≡◌, ℕ, ◌+◌, ◌<◌, ◌≤◌, List, [], ◌∷◌, ◌++◌, length, drop, get_or, Option, Ok, Err, refl, sym, ap, ◌∙◌, inl, inr, arith, append_assoc, add-one, drop-cons, length-append, append-nil}
+-- Unpacking from a reader, field by field.
+use Rattle.std.specs.Prelude.{Bool, true, false, IsSome}
+use Rattle.std.proofs.Common.{◌≡◌, ℕ, ◌+◌, ◌<◌, ◌≤◌, List, [], ◌∷◌, ◌++◌, length, drop, get_or, Option, Some, None, Result, Ok, Err, refl, sym, ap, ◌∙◌, subst, inl, inr, ◌⊎◌, arith, append_assoc, add-one, drop-cons, length-append, append-nil}
+use Rattle.std.proofs.KnownBytes.{Consumes-trans}
 use Rattle.std.proofs.lemmas.List.{drop_all}
 use Rattle.std.proofs.lemmas.List.Concat.{flat_map-append}
-use Rattle.bitstream_number.specs.Word.{Order}
+use Rattle.std.specs.Borrow.{GName}
+use Rattle.std.specs.Io.KnownBytes.{Consumes}
+use Rattle.bitstream_number.specs.Word.{Order, bits}
+use Rattle.bitstream_number.proofs.WordLemmas.{bits-append}
 use Rattle.bitstream_count.specs.declared.error.Error.{Error}
 use Rattle.bitstream_count.specs.Entry.{ReadEntry}
-use Rattle.bitstream_stream.specs.Reads.{ReaderState, Reads, Answers, Faults, stays, answers, faults}
-use Rattle.bitstream_stream.proofs.ReadsLemmas.{Loses-nil, Loses-trans, Loses-known, Drains-nil, Drains-trans}
+use Rattle.bitstream_order.specs.Fault.{read_refusal_of}
+use Rattle.bitstream_order.specs.Refusal.{Refusal, IsTrueEnd}
+use Rattle.bitstream_stream.specs.Reads.{ReaderState, BitSource, Reads, Answers, Faults, stays, answers, faults, starves}
+use Rattle.bitstream_stream.proofs.ReadsLemmas.{Took, Took-nil, Took-trans, Took-left, took}
 use Rattle.bitfields.specs.declared.fault.Fault.{Fault}
-use Rattle.bitfields.specs.declared.fault.Reason.TheVariants.{OutOfMemory}
+use Rattle.bitfields.specs.declared.fault.Reason.TheVariants.{BitsEnded, OutOfMemory}
 use Rattle.bitfields.specs.declared.field.Field.{Field}
 use Rattle.bitfields.specs.declared.field_value.FieldValue.{FieldValue}
 use Rattle.bitfields.specs.Fault.{fault}
-use Rattle.bitfields.specs.Unpacking.{Unpacked, Unpacks, Stops, unpacked, values_and, field_read, read_reason, Took, UnpackedAll, Starved, Told, Stopped, UnpacksFrom}
+use Rattle.bitfields.specs.Unpacking.{Unpacked, Unpacks, Stops, unpacked, values_and, field_read, read_reason, behind, Starved, Refused, ReadsFields, ReadsLines, in_lines}
 use Rattle.bitfields.specs.Value.{printed_line, printed_lines, value_list}
-use Rattle.bitfields.proofs.FieldCalls.{unpacked-first, unpacked-refused, unpacked-short, values_and-nil}
+use Rattle.bitfields.proofs.FieldCalls.{unpacked-first, unpacked-refused, unpacked-short}
 
-values_and-append : (us vs : List FieldValue) (r : Unpacked) → values_and us (values_and vs r) ≡ values_and (us ++ vs) r
-values_and-append us vs (Unpacks ws at) = ap (λ (xs : List FieldValue). Unpacks xs at) (sym (append_assoc us vs ws))
-values_and-append us vs (Stops f) = refl
+-- ---- the fields' calls, one behind the other
 
-printed_lines-append : (us vs : List FieldValue) → printed_lines (us ++ vs) ≡ printed_lines us ++ printed_lines vs
-printed_lines-append us vs = flat_map-append printed_line us vs
+behind-append : (us vs : List FieldValue) (r : Result (List FieldValue) Fault) → behind us (behind vs r) ≡ behind (us ++ vs) r
+behind-append us vs (Ok ws) = ap Ok (sym (append_assoc us vs ws))
+behind-append us vs (Err f) = refl
 
-Took-nil : (s : ReaderState) → s.failed ≡ false → Took s [] s
-Took-nil s fine = record {
-  fine = fine;
-  loses = Loses-nil s.bits;
-  taken = omega arith;
-  drains = Drains-nil s;
-  refused = refl;
-  misled = refl;
-  places = refl;
-}
+behind-nil : (r : Result (List FieldValue) Fault) → behind [] r ≡ r
+behind-nil (Ok ws) = refl
+behind-nil (Err f) = refl
 
-Took-trans : (s t z : ReaderState) (u v : List Bool) → Took s u t → Took t v z → Took s (u ++ v) z
-Took-trans s t z u v h k = record {
-  fine = k.fine;
-  loses = Loses-trans s.bits t.bits z.bits u v h.loses k.loses;
-  taken = omega (arith, h.taken, k.taken, length-append u v);
-  drains = Drains-trans s t z h.drains k.drains;
-  refused = k.refused ∙ h.refused;
-  misled = k.misled ∙ h.misled;
-  places = k.places ∙ h.places;
-}
-
-Took-answers : {A : Type 0} (e : ReadEntry A) (a : A) (s t : ReaderState) (h : Answers e s (Ok a) t) → Took s h.word t
-Took-answers e a s t h = record { fine = h.failed; loses = h.loses; taken = h.taken; drains = h.drains; refused = h.refused; misled = h.misled; places = h.places }
-
--- the first i fields were taken, and these lines printed
-pub record Unpacking (o : Order) (fields : List Field) (i : ℕ) (old : ReaderState) (text : List ℕ) (now : ReaderState) : Type 0 where
-  pub word : List Bool
+-- what is made of the calls that are left is made of them all, behind the values that were read
+pub record Unpacking {R : Type 0} (K : BitSource R) (fields : List Field) (i : ℕ) (old : R) (text : List ℕ) (now : R) : Type 0 where
   pub values : List FieldValue
-  pub took : Took old word now
-  pub says : (more : List Bool) → unpacked o 1 fields old.taken (word ++ more) ≡ values_and values (unpacked o (i + 1) (drop i fields) now.taken more)
   pub prints : text ≡ printed_lines values
+  pub remains : (r : Result (List FieldValue) Fault) (new : R) → ReadsFields K (i + 1) (drop i fields) now r new → ReadsFields K 1 fields old (behind values r) new
 
-pub Unpacking-start : (o : Order) (fields : List Field) (s : ReaderState) (text : List ℕ) → s.failed ≡ false → text ≡ [] → Unpacking o fields 0 s text s
-Unpacking-start o fields s text fine none = record {
-  word = [];
+pub Unpacking-start : {R : Type 0} (K : BitSource R) (fields : List Field) (s : R) (text : List ℕ) → text ≡ [] → Unpacking K fields 0 s text s
+Unpacking-start K fields s text none = record {
   values = [];
-  took = Took-nil s fine;
-  says = λ more. sym (values_and-nil (unpacked o 1 fields s.taken more));
   prints = none;
+  remains = λ r new h. subst (λ (x : Result (List FieldValue) Fault). ReadsFields K 1 fields s x new) (sym (behind-nil r)) h;
 }
 
--- what the fields behind the first i say, by the next of them
-next_field : (o : Order) (fields : List Field) (i : ℕ) (d : Field) (old now : ReaderState) (text : List ℕ) → i < length fields → (known : Unpacking o fields i old text now) → (more : List Bool)
-    → unpacked o 1 fields old.taken (known.word ++ more) ≡ values_and known.values (unpacked o (i + 1) (get_or fields i d ∷ drop (i + 1) fields) now.taken more)
-next_field o fields i d old now text h known more =
+-- the calls of the fields that are left, by the next of them
+remaining : {R : Type 0} (K : BitSource R) (fields : List Field) (i : ℕ) (d : Field) (old : R) (text : List ℕ) (now : R) → i < length fields → (known : Unpacking K fields i old text now)
+    → (r : Result (List FieldValue) Fault) (new : R) → ReadsFields K (i + 1) (get_or fields i d ∷ drop (i + 1) fields) now r new → ReadsFields K 1 fields old (behind known.values r) new
+remaining K fields i d old text now h known r new calls =
     let cut : drop i fields ≡ get_or fields i d ∷ drop (i + 1) fields = rw add-one (drop-cons fields i d h) in
-    known.says more ∙ ap (λ (fs : List Field). values_and known.values (unpacked o (i + 1) fs now.taken more)) cut
+    known.remains r new (subst (λ (fs : List Field). ReadsFields K (i + 1) fs now r new) (sym cut) calls)
 
--- one more field answered, and its lines were printed
-Unpacking-answers : (o : Order) (fields : List Field) (i : ℕ) (d : Field) (old now new : ReaderState) (text more : List ℕ) (v : Option FieldValue) → i < length fields → Unpacking o fields i old text now
-    → Answers (field_read o (get_or fields i d)) now (Ok v) new → more ≡ text ++ printed_lines (value_list v) → Unpacking o fields (i + 1) old more new
-Unpacking-answers o fields i d old now new text more v h known t printed =
-    let f = get_or fields i d in
-    let others = unpacked o (i + 1 + 1) (drop (i + 1) fields) in
-    record {
-      word = known.word ++ t.word;
-      values = known.values ++ value_list v;
-      took = Took-trans old now new known.word t.word known.took (Took-answers (field_read o f) v now new t);
-      says = λ rest.
-          ap (λ (bs : List Bool). unpacked o 1 fields old.taken bs) (append_assoc known.word t.word rest)
-          ∙ next_field o fields i d old now text h known (t.word ++ rest)
-          ∙ ap (values_and known.values) (unpacked-first o (i + 1) f (drop (i + 1) fields) now.taken t.word rest v (t.decides rest))
-          ∙ values_and-append known.values (value_list v) (others (now.taken + length t.word) rest)
-          ∙ ap (λ (p : ℕ). values_and (known.values ++ value_list v) (others p rest)) (sym t.taken);
-      prints = printed ∙ ap (λ (bs : List ℕ). bs ++ printed_lines (value_list v)) known.prints ∙ sym (printed_lines-append known.values (value_list v));
-    }
-
-pub Unpacking-more : (o : Order) (fields : List Field) (i : ℕ) (d : Field) (old now new : ReaderState) (text more : List ℕ) (v : Option FieldValue) → i < length fields → Unpacking o fields i old text now
-    → Reads (field_read o (get_or fields i d)) now (Ok v) new → more ≡ text ++ printed_lines (value_list v) → Unpacking o fields (i + 1) old more new
-Unpacking-more o fields i d old now new text more v h known (stays k) printed = absurd (let fine = known.took.fine in let failed = k.failed in cc)
-Unpacking-more o fields i d old now new text more v h known (answers k) printed = Unpacking-answers o fields i d old now new text more v h known k printed
-Unpacking-more o fields i d old now new text more v h known (faults k) printed = absurd (let a = k.answer in cc)
-
-pub UnpackedAll-from : (o : Order) (fields : List Field) (i : ℕ) (old now : ReaderState) (text : List ℕ) → length fields ≤ i → Unpacking o fields i old text now → UnpackedAll o fields old text now
-UnpackedAll-from o fields i old now text end known = record {
-  word = known.word;
-  values = known.values;
-  took = known.took;
-  says = λ more.
-      known.says more
-      ∙ ap (λ (fs : List Field). values_and known.values (unpacked o (i + 1) fs now.taken more)) (drop_all i fields end)
-      ∙ ap (λ (vs : List FieldValue). Unpacks vs now.taken) (append-nil known.values);
-  prints = known.prints;
+pub Unpacking-more : {R : Type 0} (K : BitSource R) (fields : List Field) (i : ℕ) (d : Field) (old now new : R) (text more : List ℕ) (v : Option FieldValue) → i < length fields → Unpacking K fields i old text now
+    → Reads K (field_read K.order (get_or fields i d)) now (Ok v) new → more ≡ text ++ printed_lines (value_list v) → Unpacking K fields (i + 1) old more new
+unfolding ReadsFields
+Unpacking-more K fields i d old now new text more v h known reads printed = record {
+  values = known.values ++ value_list v;
+  prints = printed ∙ ap (λ (bs : List ℕ). bs ++ printed_lines (value_list v)) known.prints ∙ sym (flat_map-append printed_line known.values (value_list v));
+  remains = λ r z rest.
+      subst (λ (x : Result (List FieldValue) Fault). ReadsFields K 1 fields old x z) (behind-append known.values (value_list v) r)
+      (remaining K fields i d old text now h known (behind (value_list v) r) z (inr (inr (v, new, r, reads, rest, refl))));
 }
 
--- no memory for the lines of a field that answered
-pub Starved-from : (o : Order) (fields : List Field) (i k : ℕ) (e : ReadEntry (Option FieldValue)) (old now new : ReaderState) (text : List ℕ) (v : Option FieldValue) (f : Fault) → Unpacking o fields i old text now
-    → Reads e now (Ok v) new → f ≡ fault k OutOfMemory → Starved old f new
-Starved-from o fields i k e old now new text v f known (stays h) is = record { field = k; reason = is; refused = ap (λ (s : ReaderState). s.refused) h.same ∙ known.took.refused }
-Starved-from o fields i k e old now new text v f known (answers h) is = record { field = k; reason = is; refused = h.refused ∙ known.took.refused }
-Starved-from o fields i k e old now new text v f known (faults h) is = absurd (let a = h.answer in cc)
-
--- the next field answered a refusal
-Told-from : (o : Order) (fields : List Field) (i : ℕ) (d : Field) (old now new : ReaderState) (text : List ℕ) (x : Error) (f : Fault) → i < length fields → Unpacking o fields i old text now
-    → Answers (field_read o (get_or fields i d)) now (Err x) new → f ≡ fault (i + 1) (read_reason x) → Told o fields old f new
-Told-from o fields i d old now new text x f h known t is = record {
-  field = i + 1;
-  error = x;
-  reason = is;
-  refused = t.refused ∙ known.took.refused;
-  says = λ b there.
-      (let q = Loses-known old.bits now.bits known.word b known.took.loses there in
-      let p = Loses-known now.bits new.bits t.word q.0 t.loses q.1 in
-      ap (λ (bs : List Bool). unpacked o 1 fields old.taken bs) q.2
-      ∙ next_field o fields i d old now text h known q.0
-      ∙ ap (λ (bs : List Bool). values_and known.values (unpacked o (i + 1) (get_or fields i d ∷ drop (i + 1) fields) now.taken bs)) p.2
-      ∙ ap (values_and known.values) (unpacked-refused o (i + 1) (get_or fields i d) (drop (i + 1) fields) now.taken (length t.word) (t.word ++ p.0) x (t.decides p.0))
-      ∙ ap Stops (sym is));
-}
-
--- a request was refused at the next field
-Stopped-from : (o : Order) (fields : List Field) (i : ℕ) (d : Field) (old now new : ReaderState) (text : List ℕ) (x : Error) (f : Fault) → i < length fields → Unpacking o fields i old text now
-    → Faults (field_read o (get_or fields i d)) now (Err x) new → f ≡ fault (i + 1) (read_reason x) → Stopped o fields old f new
-Stopped-from o fields i d old now new text x f h known t is =
-    let same : x ≡ t.fault = (let a = t.answer in cc) in
+pub Unpacking-end : {R : Type 0} (K : BitSource R) (fields : List Field) (i : ℕ) (old now : R) (text : List ℕ) → length fields ≤ i → Unpacking K fields i old text now → ReadsLines K fields old (Ok text) now
+unfolding ReadsFields
+Unpacking-end {R} K fields i old now text end known =
+    let none : ReadsFields K (i + 1) [] now (Ok []) now = (refl, refl) in
     record {
-      field = i + 1;
-      kind = t.kind;
-      reason = is ∙ ap (λ (e : Error). fault (i + 1) (read_reason e)) (same ∙ t.by_kind);
-      failed = t.failed;
-      refused = omega (arith, t.refused, known.took.refused);
-      misled = omega (arith, t.misled, known.took.misled);
-      places = t.places ∙ known.took.places;
-      ended = λ b there honest.
-          (let q = Loses-known old.bits now.bits known.word b known.took.loses there in
-          let e = t.ended q.0 q.1 (honest ∙ sym known.took.misled) in
-          ap (λ (bs : List Bool). unpacked o 1 fields old.taken bs) q.2
-          ∙ next_field o fields i d old now text h known q.0
-          ∙ ap (values_and known.values) (unpacked-short o (i + 1) (get_or fields i d) (drop (i + 1) fields) now.taken q.0 e.1)
-          ∙ ap (λ (y : Error). Stops (fault (i + 1) (read_reason y))) (sym e.0 ∙ sym same)
-          ∙ ap Stops (sym is));
+      answer = behind known.values (Ok []);
+      reads = known.remains (Ok []) now (subst (λ (fs : List Field). ReadsFields K (i + 1) fs now (Ok []) now) (sym (drop_all i fields end)) none);
+      prints = ap Ok (known.prints ∙ ap printed_lines (sym (append-nil known.values)));
     }
 
-pub Unpacking-err : (o : Order) (fields : List Field) (i : ℕ) (d : Field) (old now new : ReaderState) (text : List ℕ) (x : Error) (f : Fault) → i < length fields → Unpacking o fields i old text now
-    → Reads (field_read o (get_or fields i d)) now (Err x) new → f ≡ fault (i + 1) (read_reason x) → UnpacksFrom o fields old (Err f) new
-Unpacking-err o fields i d old now new text x f h known (stays k) is = absurd (let fine = known.took.fine in let failed = k.failed in cc)
-Unpacking-err o fields i d old now new text x f h known (answers k) is = inr (inl (Told-from o fields i d old now new text x f h known k is))
-Unpacking-err o fields i d old now new text x f h known (faults k) is = inr (inr (Stopped-from o fields i d old now new text x f h known k is))
+pub Unpacking-err : {R : Type 0} (K : BitSource R) (fields : List Field) (i : ℕ) (d : Field) (old now new : R) (text : List ℕ) (x : Error) (f : Fault) → i < length fields → Unpacking K fields i old text now
+    → Reads K (field_read K.order (get_or fields i d)) now (Err x) new → f ≡ fault (i + 1) (read_reason x) → ReadsLines K fields old (Err f) new
+unfolding ReadsFields
+Unpacking-err K fields i d old now new text x f h known reads is = record {
+  answer = Err f;
+  reads = remaining K fields i d old text now h known (Err f) new (inr (inl (record { error = x; reads = reads; answer = ap Err is })));
+  prints = refl;
+}
+
+some_of : (v : Option FieldValue) → IsSome v → (u : FieldValue) × (v ≡ Some u)
+some_of (Some u) h = (u, refl)
+some_of None h = absurd (cc)
+
+pub Unpacking-starved : {R : Type 0} (K : BitSource R) (fields : List Field) (i : ℕ) (d : Field) (old now new : R) (text : List ℕ) (v : Option FieldValue) (f : Fault) → i < length fields → Unpacking K fields i old text now
+    → Reads K (field_read K.order (get_or fields i d)) now (Ok v) new → IsSome v → f ≡ fault (i + 1) OutOfMemory → ReadsLines K fields old (Err f) new
+unfolding ReadsFields
+Unpacking-starved K fields i d old now new text v f h known reads some is =
+    let u = some_of v some in
+    record {
+      answer = Err f;
+      reads = remaining K fields i d old text now h known (Err f) new (inl (record {
+        value = u.0;
+        reads = subst (λ (u : Option FieldValue). Reads K (field_read K.order (get_or fields i d)) now (Ok u) new) u.1 reads;
+        answer = ap Err is;
+      }));
+      prints = refl;
+    }
+
+-- ---- what the calls come to
+
+-- the bits held before and those of the bytes fetched, by a word and the bits held behind it
+held_parts : (o : Order) (a b u : List Bool) (g h : List ℕ) → a ++ bits o g ≡ u ++ b → a ++ bits o (g ++ h) ≡ u ++ (b ++ bits o h)
+held_parts o a b u g h p =
+    ap (λ (w : List Bool). a ++ w) (bits-append o g h) ∙ sym (append_assoc a (bits o g) (bits o h)) ∙ ap (λ (w : List Bool). w ++ bits o h) p ∙ append_assoc u b (bits o h)
+
+first_parts : {A : Type 0} (o : Order) (e : ReadEntry A) (v : A) (s t : ReaderState) (h : Answers o e s (Ok v) t) → s.held ++ bits o h.gone ≡ h.word ++ t.held
+first_parts o e v s t h = h.parts ∙ ap (λ (w : List Bool). h.word ++ w) (sym h.held)
+
+-- the calls of all fields answered, and took this word
+pub record TookFields (o : Order) (k : ℕ) (fields : List Field) (old : ReaderState) (vs : List FieldValue) (new : ReaderState) : Type 0 where
+  pub word : List Bool
+  pub took : Took o old word new
+  pub says : (more : List Bool) → unpacked o k fields old.taken (word ++ more) ≡ Unpacks vs new.taken
+
+-- a call answered an error, and this word was taken until then
+pub record ToldFields (o : Order) (k : ℕ) (fields : List Field) (old : ReaderState) (f : Fault) (new : ReaderState) : Type 0 where
+  pub word : List Bool
+  pub gone : List ℕ
+  pub loses : Consumes old.bytes new.bytes gone
+  pub rest : List Bool
+  pub parts : old.held ++ bits o gone ≡ word ++ rest
+  pub fetched : new.fetched ≡ old.fetched + length gone
+  pub taken : new.taken ≡ old.taken + length word
+  pub places : new.places ≡ old.places
+  pub says : (more : List Bool) → unpacked o k fields old.taken (word ++ more) ≡ Stops f
+
+-- the calls of the first fields answered, and no memory was left for the line of the last of them
+pub record StarvedFields (o : Order) (k : ℕ) (fields : List Field) (old : ReaderState) (f : Fault) (new : ReaderState) : Type 0 where
+  pub front : List Field
+  pub here : Field
+  pub back : List Field
+  pub parts : fields ≡ front ++ here ∷ back
+  pub reason : f ≡ fault (k + length front) OutOfMemory
+  pub word : List Bool
+  pub took : Took o old word new
+  pub values : List FieldValue
+  pub at : ℕ
+  pub before : (more : List Bool) → unpacked o k front old.taken (word ++ more) ≡ Unpacks values at
+  pub value : FieldValue
+  pub says : (more : List Bool) → unpacked o k (front ++ here ∷ []) old.taken (word ++ more) ≡ Unpacks (values ++ value ∷ []) new.taken
+
+-- a request was refused for a field
+pub record StoppedFields (o : Order) (may : Refusal → Type 0) (k : ℕ) (fields : List Field) (old : ReaderState) (f : Fault) (new : ReaderState) : Type 0 where
+  pub field : ℕ
+  pub refusal : Refusal
+  pub allowed : may refusal
+  pub reason : f ≡ fault field (read_reason (read_refusal_of refusal.kind))
+  pub gone : List ℕ
+  pub fetched : new.fetched ≡ old.fetched + length gone
+  pub places : new.places ≡ old.places
+  pub stops : unpacked o k fields old.taken (old.held ++ bits o gone) ≡ Stops (fault field BitsEnded)
+  pub ended : IsTrueEnd refusal → (xs : List ℕ) → old.bytes ≡ Some xs → unpacked o k fields old.taken (old.held ++ bits o xs) ≡ Stops (fault field BitsEnded)
+
+abbrev pub ComesTo : Order → (Refusal → Type 0) → ℕ → List Field → ReaderState → Result (List FieldValue) Fault → ReaderState → Type 0
+ComesTo o may k fields old (Ok vs) new = TookFields o k fields old vs new
+ComesTo o may k fields old (Err f) new = ToldFields o k fields old f new ⊎ StarvedFields o k fields old f new ⊎ StoppedFields o may k fields old f new
+
+pub ComesTo-places : (o : Order) (may : Refusal → Type 0) (k : ℕ) (fields : List Field) (old : ReaderState) (r : Result (List FieldValue) Fault) (new : ReaderState) → ComesTo o may k fields old r new → new.places ≡ old.places
+ComesTo-places o may k fields old (Ok vs) new h = h.took.places
+ComesTo-places o may k fields old (Err f) new (inl h) = h.places
+ComesTo-places o may k fields old (Err f) new (inr (inl h)) = h.took.places
+ComesTo-places o may k fields old (Err f) new (inr (inr h)) = h.places
+
+-- the first field's word, and what follows it
+first_then : (o : Order) (k : ℕ) (f : Field) (fs : List Field) (v : Option FieldValue) (s t : ReaderState) (h : Answers o (field_read o f) s (Ok v) t) (more : List Bool)
+    → unpacked o k (f ∷ fs) s.taken (h.word ++ more) ≡ values_and (value_list v) (unpacked o (k + 1) fs t.taken more)
+first_then o k f fs v s t h more =
+    unpacked-first o k f fs s.taken h.word more v (h.decides more) ∙ ap (λ (p : ℕ). values_and (value_list v) (unpacked o (k + 1) fs p more)) (sym h.taken)
+
+-- and what follows behind another word
+word_then : (o : Order) (k : ℕ) (f : Field) (fs : List Field) (v : Option FieldValue) (s t : ReaderState) (h : Answers o (field_read o f) s (Ok v) t) (w : List Bool) (r : Unpacked)
+    → ((more : List Bool) → unpacked o (k + 1) fs t.taken (w ++ more) ≡ r) → (more : List Bool) → unpacked o k (f ∷ fs) s.taken ((h.word ++ w) ++ more) ≡ values_and (value_list v) r
+word_then o k f fs v s t h w r says more =
+    ap (unpacked o k (f ∷ fs) s.taken) (append_assoc h.word w more) ∙ first_then o k f fs v s t h (w ++ more) ∙ ap (values_and (value_list v)) (says more)
+
+ToldFields-later : (o : Order) (k : ℕ) (f : Field) (fs : List Field) (v : Option FieldValue) (why : Fault) (s t z : ReaderState) → Answers o (field_read o f) s (Ok v) t → ToldFields o (k + 1) fs t why z → ToldFields o k (f ∷ fs) s why z
+ToldFields-later o k f fs v why s t z h x =
+    record {
+      word = h.word ++ x.word;
+      gone = h.gone ++ x.gone;
+      loses = Consumes-trans s.bytes t.bytes z.bytes h.gone x.gone h.loses x.loses;
+      rest = x.rest;
+      parts = held_parts o s.held t.held h.word h.gone x.gone (first_parts o (field_read o f) v s t h) ∙ ap (λ (w : List Bool). h.word ++ w) x.parts ∙ sym (append_assoc h.word x.word x.rest);
+      fetched = omega (arith, h.fetched, x.fetched, length-append h.gone x.gone);
+      taken = omega (arith, h.taken, x.taken, length-append h.word x.word);
+      places = x.places ∙ h.places;
+      says = word_then o k f fs v s t h x.word (Stops why) x.says;
+    }
+
+StarvedFields-later : (o : Order) (k : ℕ) (f : Field) (fs : List Field) (v : Option FieldValue) (why : Fault) (s t z : ReaderState) → Answers o (field_read o f) s (Ok v) t → StarvedFields o (k + 1) fs t why z → StarvedFields o k (f ∷ fs) s why z
+StarvedFields-later o k f fs v why s t z h x =
+    let place : k + 1 + length x.front ≡ k + length (f ∷ x.front) = omega arith in
+    record {
+      front = f ∷ x.front;
+      here = x.here;
+      back = x.back;
+      parts = ap (λ (gs : List Field). f ∷ gs) x.parts;
+      reason = x.reason ∙ ap (λ (n : ℕ). fault n OutOfMemory) place;
+      word = h.word ++ x.word;
+      took = Took-trans o h.word x.word s t z (took o (field_read o f) v s t h) x.took;
+      values = value_list v ++ x.values;
+      at = x.at;
+      before = word_then o k f x.front v s t h x.word (Unpacks x.values x.at) x.before;
+      value = x.value;
+      says = λ more.
+          word_then o k f (x.front ++ x.here ∷ []) v s t h x.word (Unpacks (x.values ++ x.value ∷ []) z.taken) x.says more
+          ∙ ap (λ (us : List FieldValue). Unpacks us z.taken) (sym (append_assoc (value_list v) x.values (x.value ∷ [])));
+    }
+
+StoppedFields-later : (o : Order) (may : Refusal → Type 0) (k : ℕ) (f : Field) (fs : List Field) (v : Option FieldValue) (why : Fault) (s t z : ReaderState) → Answers o (field_read o f) s (Ok v) t
+    → StoppedFields o may (k + 1) fs t why z → StoppedFields o may k (f ∷ fs) s why z
+StoppedFields-later o may k f fs v why s t z h x =
+    let first = took o (field_read o f) v s t h in
+    let whole = held_parts o s.held t.held h.word h.gone x.gone (first_parts o (field_read o f) v s t h) in
+    record {
+      field = x.field;
+      refusal = x.refusal;
+      allowed = x.allowed;
+      reason = x.reason;
+      gone = h.gone ++ x.gone;
+      fetched = omega (arith, h.fetched, x.fetched, length-append h.gone x.gone);
+      places = x.places ∙ h.places;
+      stops = ap (unpacked o k (f ∷ fs) s.taken) whole ∙ first_then o k f fs v s t h (t.held ++ bits o x.gone) ∙ ap (values_and (value_list v)) x.stops;
+      ended = λ end xs known.
+          let left = Took-left o h.word s t first xs known in
+          ap (unpacked o k (f ∷ fs) s.taken) left.2 ∙ first_then o k f fs v s t h (t.held ++ bits o left.0) ∙ ap (values_and (value_list v)) (x.ended end left.0 left.1);
+    }
+
+-- what follows a field that answered
+ComesTo-later : (o : Order) (may : Refusal → Type 0) (k : ℕ) (f : Field) (fs : List Field) (v : Option FieldValue) (r : Result (List FieldValue) Fault) (s t z : ReaderState) → Answers o (field_read o f) s (Ok v) t
+    → ComesTo o may (k + 1) fs t r z → ComesTo o may k (f ∷ fs) s (behind (value_list v) r) z
+ComesTo-later o may k f fs v (Ok ws) s t z h x = record {
+  word = h.word ++ x.word;
+  took = Took-trans o h.word x.word s t z (took o (field_read o f) v s t h) x.took;
+  says = word_then o k f fs v s t h x.word (Unpacks ws z.taken) x.says;
+}
+ComesTo-later o may k f fs v (Err why) s t z h (inl x) = inl (ToldFields-later o k f fs v why s t z h x)
+ComesTo-later o may k f fs v (Err why) s t z h (inr (inl x)) = inr (inl (StarvedFields-later o k f fs v why s t z h x))
+ComesTo-later o may k f fs v (Err why) s t z h (inr (inr x)) = inr (inr (StoppedFields-later o may k f fs v why s t z h x))
+
+-- a field answered an error
+ToldFields-here : (o : Order) (k : ℕ) (f : Field) (fs : List Field) (x : Error) (s t : ReaderState) → Answers o (field_read o f) s (Err x) t → ToldFields o k (f ∷ fs) s (fault k (read_reason x)) t
+ToldFields-here o k f fs x s t h = record {
+  word = h.word;
+  gone = h.gone;
+  loses = h.loses;
+  rest = h.rest;
+  parts = h.parts;
+  fetched = h.fetched;
+  taken = h.taken;
+  places = h.places;
+  says = λ more. unpacked-refused o k f fs s.taken (length h.word) (h.word ++ more) x (h.decides more);
+}
+
+-- a field's call faulted
+StoppedFields-here : (o : Order) (may : Refusal → Type 0) (k : ℕ) (f : Field) (fs : List Field) (x : Error) (s t : ReaderState) → Faults o may (field_read o f) s (Err x) t → StoppedFields o may k (f ∷ fs) s (fault k (read_reason x)) t
+StoppedFields-here o may k f fs x s t h =
+    let same : x ≡ read_refusal_of h.refusal.kind = (let a = h.answer in cc) in
+    record {
+      field = k;
+      refusal = h.refusal;
+      allowed = h.allowed;
+      reason = ap (λ (e : Error). fault k (read_reason e)) same;
+      gone = h.gone;
+      fetched = h.fetched;
+      places = h.places;
+      stops = unpacked-short o k f fs s.taken (s.held ++ bits o h.gone) h.few;
+      ended = λ end xs known. unpacked-short o k f fs s.taken (s.held ++ bits o xs) (h.ended end xs known);
+    }
+
+-- no memory was left for a field's line
+StarvedFields-here : (o : Order) (k : ℕ) (f : Field) (fs : List Field) (v : FieldValue) (s t : ReaderState) → Answers o (field_read o f) s (Ok (Some v)) t → StarvedFields o k (f ∷ fs) s (fault k OutOfMemory) t
+StarvedFields-here o k f fs v s t h =
+    let place : k ≡ k + 0 = omega arith in
+    record {
+      front = [];
+      here = f;
+      back = fs;
+      parts = refl;
+      reason = ap (λ (n : ℕ). fault n OutOfMemory) place;
+      word = h.word;
+      took = took o (field_read o f) (Some v) s t h;
+      values = [];
+      at = s.taken;
+      before = λ more. refl;
+      value = v;
+      says = first_then o k f [] (Some v) s t h;
+    }
+
+ComesTo-none : (o : Order) (may : Refusal → Type 0) (k : ℕ) (s : ReaderState) → s.failed ≡ false → ComesTo o may k [] s (Ok []) s
+ComesTo-none o may k s fine = record { word = []; took = Took-nil o s fine; says = λ more. refl }
+
+-- one call, and what the others come to
+starved_here : {R : Type 0} (K : BitSource R) (k : ℕ) (f : Field) (fs : List Field) (v : FieldValue) (old new : R) → (K.state old).failed ≡ false → Reads K (field_read K.order f) old (Ok (Some v)) new
+    → ComesTo K.order K.may k (f ∷ fs) (K.state old) (Err (fault k OutOfMemory)) (K.state new)
+starved_here K k f fs v old new fine (stays x) = absurd (let failed = x.failed in cc)
+starved_here K k f fs v old new fine (answers x) = inr (inl (StarvedFields-here K.order k f fs v (K.state old) (K.state new) x))
+starved_here K k f fs v old new fine (faults x) = absurd (let a = x.answer in cc)
+starved_here K k f fs v old new fine (starves grows x) = absurd (cc)
+
+refused_here : {R : Type 0} (K : BitSource R) (k : ℕ) (f : Field) (fs : List Field) (e : Error) (old new : R) → (K.state old).failed ≡ false → Reads K (field_read K.order f) old (Err e) new
+    → ComesTo K.order K.may k (f ∷ fs) (K.state old) (Err (fault k (read_reason e))) (K.state new)
+refused_here K k f fs e old new fine (stays x) = absurd (let failed = x.failed in cc)
+refused_here K k f fs e old new fine (answers x) = inl (ToldFields-here K.order k f fs e (K.state old) (K.state new) x)
+refused_here K k f fs e old new fine (faults x) = inr (inr (StoppedFields-here K.order K.may k f fs e (K.state old) (K.state new) x))
+refused_here K k f fs e old new fine (starves grows x) = absurd (cc)
+
+answered_here : {R : Type 0} (K : BitSource R) (k : ℕ) (f : Field) (fs : List Field) (v : Option FieldValue) (rest : Result (List FieldValue) Fault) (old mid new : R) → (K.state old).failed ≡ false
+    → Reads K (field_read K.order f) old (Ok v) mid → ((K.state mid).failed ≡ false → ComesTo K.order K.may (k + 1) fs (K.state mid) rest (K.state new))
+    → ComesTo K.order K.may k (f ∷ fs) (K.state old) (behind (value_list v) rest) (K.state new)
+answered_here K k f fs v rest old mid new fine (stays x) others = absurd (let failed = x.failed in cc)
+answered_here K k f fs v rest old mid new fine (answers x) others = ComesTo-later K.order K.may k f fs v rest (K.state old) (K.state mid) (K.state new) x (others x.failed)
+answered_here K k f fs v rest old mid new fine (faults x) others = absurd (let a = x.answer in cc)
+answered_here K k f fs v rest old mid new fine (starves grows x) others = absurd (cc)
+
+-- what the calls of fields come to, made by a reader that has not failed
+pub ComesTo-calls : {R : Type 0} (K : BitSource R) (k : ℕ) (fields : List Field) (old : R) (r : Result (List FieldValue) Fault) (new : R) → (K.state old).failed ≡ false → ReadsFields K k fields old r new
+    → ComesTo K.order K.may k fields (K.state old) r (K.state new)
+unfolding ReadsFields
+ComesTo-calls {R} K k [] old r new fine h =
+    subst (λ (x : Result (List FieldValue) Fault). ComesTo K.order K.may k [] (K.state old) x (K.state new)) (sym h.0)
+    (subst (λ (z : R). ComesTo K.order K.may k [] (K.state old) (Ok []) (K.state z)) (sym h.1) (ComesTo-none K.order K.may k (K.state old) fine))
+ComesTo-calls K k (f ∷ fs) old r new fine (inl h) =
+    subst (λ (x : Result (List FieldValue) Fault). ComesTo K.order K.may k (f ∷ fs) (K.state old) x (K.state new)) (sym h.answer) (starved_here K k f fs h.value old new fine h.reads)
+ComesTo-calls K k (f ∷ fs) old r new fine (inr (inl h)) =
+    subst (λ (x : Result (List FieldValue) Fault). ComesTo K.order K.may k (f ∷ fs) (K.state old) x (K.state new)) (sym h.answer) (refused_here K k f fs h.error old new fine h.reads)
+ComesTo-calls K k (f ∷ fs) old r new fine (inr (inr (v, mid, rest, reads, others, is))) =
+    subst (λ (x : Result (List FieldValue) Fault). ComesTo K.order K.may k (f ∷ fs) (K.state old) x (K.state new)) (sym is)
+    (answered_here K k f fs v rest old mid new fine reads (λ sound. ComesTo-calls K (k + 1) fs mid rest new sound others))

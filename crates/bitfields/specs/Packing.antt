@@ -1,10 +1,12 @@
 -- Packing: the words of fields, and a last alignment.
-use Rattle.std.specs.Prelude.{◌≡◌, ◌⊎◌, Result, Ok, Err, ℕ, Bool, List, [], ◌∷◌, ◌++◌, drop, Option}
+use Rattle.std.specs.Prelude.{◌≡◌, ◌⊎◌, ◌≤◌, Result, Ok, Err, ℕ, Bool, List, [], ◌∷◌, ◌++◌, length, drop, Option}
 use Rattle.std.specs.Io.KnownBytes.{Appends}
 use Rattle.bitstream_number.specs.Word.{Order, bits}
 use Rattle.bitstream_count.specs.declared.error.Error.{Error}
 use Rattle.bitstream_count.specs.declared.error.Error.TheVariants as errors
 use Rattle.bitstream_count.specs.Entry.{WriteEntry}
+use Rattle.bitstream_order.specs.Fault.{refusal_of}
+use Rattle.bitstream_order.specs.Refusal.{Refusal}
 use Rattle.bitstream_stream.specs.Run.{write_run}
 use Rattle.bitstream_stream.specs.Sink.{Sink, Appended, Faulted}
 use Rattle.bitstream_stream.specs.WriteTable.{plain, unsigned, align}
@@ -43,11 +45,7 @@ write_reason error = StreamFault
 -- these bits were written, or a request was refused and the sink has failed
 abbrev pub Adds : {S : Type 0} → Sink S → List Bool → S → Result (Unit {0}) Error → S → Type 0
 Adds K x old (Ok done) new = Appended K old x new
-Adds K x old (Err error) new = Faulted K old error new
-
--- the fault is the stream's or the memory's
-abbrev pub IsOutside : Fault → Type 0
-IsOutside f = (f ≡ fault 0 StreamFault) ⊎ (f ≡ fault 0 OutOfMemory)
+Adds K x old (Err error) new = Faulted K old x error new
 
 -- a stream took the bytes whose bits are the packed values
 pub record PackedBytes (o : Order) (fields : List Field) (vs : List FieldValue) (old new : Option (List ℕ)) : Type 0 where
@@ -55,9 +53,17 @@ pub record PackedBytes (o : Order) (fields : List Field) (vs : List FieldValue) 
   pub grows : Appends old new bytes
   pub says : bits o bytes ≡ packed o fields vs 0
 
--- The values were packed, or the first fault of the input was answered and the stream left as it was; or the stream or memory refused.
-abbrev pub Packs : {W : Type 0} → (W → Option (List ℕ)) → Order → List Field → Result (List FieldValue) Fault → W → Result (Unit {0}) Fault → W → Type 0
-Packs contents o fields (Ok vs) old (Ok done) new = PackedBytes o fields vs (contents old) (contents new)
-Packs contents o fields (Ok vs) old (Err f) new = IsOutside f
-Packs contents o fields (Err f) old (Ok done) new = ⊥
-Packs contents o fields (Err f) old (Err g) new = (new ≡ old) × ((g ≡ f) ⊎ (g ≡ fault 0 OutOfMemory))
+-- the stream refused a request to hand on bytes, as it may refuse, and there were bytes to hand on
+pub record RefusedBytes (may : Refusal → Type 0) (o : Order) (fields : List Field) (vs : List FieldValue) (f : Fault) : Type 0 where
+  pub refusal : Refusal
+  pub allowed : may refusal
+  pub reason : f ≡ fault 0 (write_reason (refusal_of refusal.kind))
+  pub some : 8 ≤ length (packed o fields vs 0)
+
+-- The values were packed, or the first fault of the input was answered and the stream left as it was. Else memory was refused, and the
+-- stream left as it was, or the stream refused a request.
+abbrev pub Packs : {W : Type 0} → (W → Option (List ℕ)) → (Refusal → Type 0) → Order → List Field → Result (List FieldValue) Fault → W → Result (Unit {0}) Fault → W → Type 0
+Packs contents may o fields (Ok vs) old (Ok done) new = PackedBytes o fields vs (contents old) (contents new)
+Packs contents may o fields (Ok vs) old (Err f) new = ((f ≡ fault 0 OutOfMemory) × (new ≡ old)) ⊎ RefusedBytes may o fields vs f
+Packs contents may o fields (Err f) old (Ok done) new = ⊥
+Packs contents may o fields (Err f) old (Err g) new = (new ≡ old) × ((g ≡ f) ⊎ (g ≡ fault 0 OutOfMemory))

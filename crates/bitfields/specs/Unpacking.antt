@@ -1,7 +1,6 @@
 -- Unpacking: the values that bits hold for fields.
 use Rattle.std.specs.Prelude.{◌≡◌, ◌⊎◌, ◌<◌, ◌≤◌, ◌*◌, Result, Ok, Err, Option, Some, None, ℕ, ◌+◌, Bool, true, false, List, [], ◌∷◌, ◌++◌, length, map}
 use Rattle.std.specs.Io.KnownBytes.{Consumes}
-use Rattle.std.specs.declared.io.ErrorKind.{ErrorKind}
 use Rattle.bitstream_number.specs.Word.{Order, bits}
 use Rattle.bitstream_count.specs.declared.error.Error.{Error}
 use Rattle.bitstream_count.specs.declared.error.Error.TheVariants as errors
@@ -9,8 +8,8 @@ use Rattle.bitstream_count.specs.Entry.{ReadEntry, chain, gives}
 use Rattle.bitstream_stream.specs.ReadTable.{unsigned_entry, align_entry}
 use Rattle.bitstream_stream.specs.Run.{read_run}
 use Rattle.bitstream_order.specs.Fault.{read_refusal_of}
-use Rattle.bitstream_order.specs.Mislead.{Misleads}
-use Rattle.bitstream_stream.specs.Reads.{ReaderState, Loses, Drains}
+use Rattle.bitstream_order.specs.Refusal.{Refusal, IsTrueEnd}
+use Rattle.bitstream_stream.specs.Reads.{BitSource, Reads}
 use Rattle.bitfields.specs.declared.fault.Reason.{Reason}
 use Rattle.bitfields.specs.declared.fault.Reason.TheVariants.{BitsEnded, StreamFault, OutOfMemory}
 use Rattle.bitfields.specs.declared.fault.Fault.{Fault}
@@ -55,74 +54,94 @@ unpacked o k fields at bits = answered k fields at (read_run (map (field_read o)
 
 -- ---- from a reader
 
--- from a reader these bits were taken, and no request was refused
-pub record Took (old : ReaderState) (word : List Bool) (new : ReaderState) : Type 0 where
-  pub fine : new.failed ≡ false
-  pub loses : Loses old.bits new.bits word
-  pub taken : new.taken ≡ old.taken + length word
-  pub drains : Drains old new
-  pub refused : new.refused ≡ old.refused
-  pub misled : new.misled ≡ old.misled
-  pub places : new.places ≡ old.places
+-- values before those that were read behind them, or the fault
+abbrev pub behind : List FieldValue → Result (List FieldValue) Fault → Result (List FieldValue) Fault
+behind vs (Ok ws) = Ok (vs ++ ws)
+behind vs (Err f) = Err f
 
--- the bits of all fields were taken, whatever follows them, and these lines printed of their values
-pub record UnpackedAll (o : Order) (fields : List Field) (old : ReaderState) (text : List ℕ) (new : ReaderState) : Type 0 where
-  pub word : List Bool
-  pub values : List FieldValue
-  pub took : Took old word new
-  pub says : (more : List Bool) → unpacked o 1 fields old.taken (word ++ more) ≡ Unpacks values new.taken
-  pub prints : text ≡ printed_lines values
+-- A field's value was read, and no memory was left for its line.
+pub record Starved {R : Type 0} (K : BitSource R) (k : ℕ) (field : Field) (old : R) (result : Result (List FieldValue) Fault) (new : R) : Type 0 where
+  pub value : FieldValue
+  pub reads : Reads K (field_read K.order field) old (Ok (Some value)) new
+  pub answer : result ≡ Err (fault k OutOfMemory)
 
--- memory was refused at some field
-pub record Starved (old : ReaderState) (f : Fault) (new : ReaderState) : Type 0 where
-  pub field : ℕ
-  pub reason : f ≡ fault field OutOfMemory
-  pub refused : new.refused ≡ old.refused
-
--- the bits, where they are told, stop with this fault
-pub record Told (o : Order) (fields : List Field) (old : ReaderState) (f : Fault) (new : ReaderState) : Type 0 where
-  pub field : ℕ
+-- a field's read call answered an error
+pub record Refused {R : Type 0} (K : BitSource R) (k : ℕ) (field : Field) (old : R) (result : Result (List FieldValue) Fault) (new : R) : Type 0 where
   pub error : Error
-  pub reason : f ≡ fault field (read_reason error)
-  pub refused : new.refused ≡ old.refused
-  pub says : (b : List Bool) → old.bits ≡ Some b → unpacked o 1 fields old.taken b ≡ Stops f
+  pub reads : Reads K (field_read K.order field) old (Err error) new
+  pub answer : result ≡ Err (fault k (read_reason error))
 
--- The stream refused a request at some field. Of a stream that did not mislead, the bits stop with this fault.
-pub record Stopped (o : Order) (fields : List Field) (old : ReaderState) (f : Fault) (new : ReaderState) : Type 0 where
-  pub field : ℕ
-  pub kind : ErrorKind
-  pub reason : f ≡ fault field (read_reason (read_refusal_of kind))
-  pub failed : new.failed ≡ true
-  pub refused : new.refused ≡ old.refused + 1
-  pub misled : old.misled ≤ new.misled
-  pub places : new.places ≡ old.places
-  pub ended : (b : List Bool) → old.bits ≡ Some b → new.misled ≡ old.misled → unpacked o 1 fields old.taken b ≡ Stops f
+-- The read calls of fields, which are numbered from k on, in order: the values that they answer, up to the first that answers an
+-- error or for whose line no memory was left. Of no fields, nothing at all.
+unfoldable pub ReadsFields : {R : Type 0} → BitSource R → ℕ → List Field → R → Result (List FieldValue) Fault → R → Type 0
+ReadsFields K k [] old result new = (result ≡ Ok []) × (new ≡ old)
+ReadsFields {R} K k (field ∷ fields) old result new =
+    Starved K k field old result new ⊎ Refused K k field old result new
+    ⊎ ((v : Option FieldValue) × (mid : R) × (rest : Result (List FieldValue) Fault) × Reads K (field_read K.order field) old (Ok v) mid × ReadsFields K (k + 1) fields mid rest new × (result ≡ behind (value_list v) rest))
 
--- fields, read by a reader that has not failed: the lines of their values, or the fault
-abbrev pub UnpacksFrom : Order → List Field → ReaderState → Result (List ℕ) Fault → ReaderState → Type 0
-UnpacksFrom o fields old (Ok text) new = UnpackedAll o fields old text new
-UnpacksFrom o fields old (Err f) new = Starved old f new ⊎ Told o fields old f new ⊎ Stopped o fields old f new
+-- the lines of values, or the fault
+abbrev pub in_lines : Result (List FieldValue) Fault → Result (List ℕ) Fault
+in_lines (Ok vs) = Ok (printed_lines vs)
+in_lines (Err f) = Err f
+
+-- the read calls of fields, and the lines of their values
+pub record ReadsLines {R : Type 0} (K : BitSource R) (fields : List Field) (old : R) (result : Result (List ℕ) Fault) (new : R) : Type 0 where
+  pub answer : Result (List FieldValue) Fault
+  pub reads : ReadsFields K 1 fields old answer new
+  pub prints : result ≡ in_lines answer
 
 -- ---- from a stream
+
+-- these bytes were taken from a stream, of which a number of bits reaches into the last
+pub record TakesBits (known : Option (List ℕ)) (gone : List ℕ) (len : ℕ) (after : Option (List ℕ)) : Type 0 where
+  pub loses : Consumes known after gone
+  pub least : (8 * length gone < len + 8) × (len ≤ 8 * length gone)
 
 -- A stream lost as many bytes as the fields' bits reach into; these say the values whose lines are printed.
 pub record UnpackedBytes (o : Order) (fields : List Field) (old : Option (List ℕ)) (text : List ℕ) (new : Option (List ℕ)) : Type 0 where
   pub gone : List ℕ
-  pub loses : Consumes old new gone
-  pub values : List FieldValue
   pub len : ℕ
-  pub least : (8 * length gone < len + 8) × (len ≤ 8 * length gone)
-  pub says : (xs : List ℕ) → old ≡ Some xs → unpacked o 1 fields 0 (bits o gone) ≡ Unpacks values len
+  pub taken : TakesBits old gone len new
+  pub values : List FieldValue
+  pub says : unpacked o 1 fields 0 (bits o gone) ≡ Unpacks values len
   pub prints : text ≡ printed_lines values
 
--- The bits ended at a field, or the stream or memory refused at it. If it was not memory, and the stream told its bytes, then these
--- stop with this fault, or the stream misled.
-pub record Refused {R : Type 0} (known : R → Option (List ℕ)) (refuses : R → ℕ → ErrorKind → R → Type 0) (o : Order) (fields : List Field) (old : R) (f : Fault) : Type 0 where
+-- The bytes taken say the fault.
+pub record ToldBytes (o : Order) (fields : List Field) (old : Option (List ℕ)) (f : Fault) (new : Option (List ℕ)) : Type 0 where
+  pub gone : List ℕ
+  pub len : ℕ
+  pub taken : TakesBits old gone len new
+  pub says : (more : List Bool) → unpacked o 1 fields 0 (bits o gone ++ more) ≡ Stops f
+
+-- No memory was left for the line of a field. The bytes taken hold that field's bits and those of the fields before it, and no more.
+pub record StarvedBytes (o : Order) (fields : List Field) (old : Option (List ℕ)) (f : Fault) (new : Option (List ℕ)) : Type 0 where
+  pub front : List Field
+  pub here : Field
+  pub back : List Field
+  pub parts : fields ≡ front ++ here ∷ back
+  pub reason : f ≡ fault (1 + length front) OutOfMemory
+  pub gone : List ℕ
+  pub len : ℕ
+  pub taken : TakesBits old gone len new
+  pub values : List FieldValue
+  pub at : ℕ
+  pub before : unpacked o 1 front 0 (bits o gone) ≡ Unpacks values at
+  pub value : FieldValue
+  pub says : unpacked o 1 (front ++ here ∷ []) 0 (bits o gone) ≡ Unpacks (values ++ value ∷ []) len
+
+-- The stream refused a request for a field, as it may refuse. The bytes fetched until then end within that field; and where the
+-- refusal was a true end, so do all bytes of the stream.
+pub record StoppedBytes (may : Refusal → Type 0) (o : Order) (fields : List Field) (old : Option (List ℕ)) (f : Fault) : Type 0 where
   pub field : ℕ
-  pub reason : (f ≡ fault field BitsEnded) ⊎ (f ≡ fault field StreamFault) ⊎ (f ≡ fault field OutOfMemory)
-  pub cause : (f ≡ fault field OutOfMemory) ⊎ ((xs : List ℕ) → known old ≡ Some xs → (unpacked o 1 fields 0 (bits o xs) ≡ Stops f) ⊎ Misleads known refuses)
+  pub refusal : Refusal
+  pub allowed : may refusal
+  pub reason : f ≡ fault field (read_reason (read_refusal_of refusal.kind))
+  pub gone : List ℕ
+  pub stops : unpacked o 1 fields 0 (bits o gone) ≡ Stops (fault field BitsEnded)
+  pub ended : IsTrueEnd refusal → (xs : List ℕ) → old ≡ Some xs → unpacked o 1 fields 0 (bits o xs) ≡ Stops f
 
 -- fields, read from a stream's bytes: the lines of their values, or the fault
-abbrev pub UnpacksBytes : {R : Type 0} → (R → Option (List ℕ)) → (R → ℕ → ErrorKind → R → Type 0) → Order → List Field → R → Result (List ℕ) Fault → R → Type 0
-UnpacksBytes known refuses o fields old (Ok text) new = UnpackedBytes o fields (known old) text (known new)
-UnpacksBytes known refuses o fields old (Err f) new = Refused known refuses o fields old f
+abbrev pub UnpacksBytes : {R : Type 0} → (R → Option (List ℕ)) → (Refusal → Type 0) → Order → List Field → R → Result (List ℕ) Fault → R → Type 0
+UnpacksBytes known may o fields old (Ok text) new = UnpackedBytes o fields (known old) text (known new)
+UnpacksBytes known may o fields old (Err f) new =
+    ToldBytes o fields (known old) f (known new) ⊎ StarvedBytes o fields (known old) f (known new) ⊎ StoppedBytes may o fields (known old) f

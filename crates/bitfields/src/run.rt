@@ -1,8 +1,9 @@
 //! A whole call of the program, over three streams.
 
 ghost use Rattle.std.specs.Prelude.{◌≡◌, map, string_bytes};
-ghost use Rattle.bitfields.specs.Call.{command_of, order_of, request_of};
-ghost use Rattle.bitfields.specs.Run.{Calls, PacksInput, Performs, Runs, UnpacksInput};
+ghost use Rattle.bitfields.specs.Call.{bit_order, command_of, order_of, request_of};
+ghost use Rattle.bitfields.specs.Layout.{layout_of};
+ghost use Rattle.bitfields.specs.Run.{Calls, Follows, PacksInput, Performs, Reports, Runs, UnpacksInput};
 
 use crate::fault::{Fault, Reason};
 use crate::layout::{Layout, parse_layout};
@@ -31,7 +32,8 @@ pub enum NamedOrder {
 /// Runs the program on its arguments, without the program's name, and answers the status that it ends with: 0, or that of a fault,
 /// whose line is then printed on `faults`. A line that can't be printed leaves the status as it is.
 ///
-/// The output is written and flushed only where the whole layout succeeded: at a status of 2, 3 or 4 nothing was written.
+/// The output is written and flushed only where the whole layout succeeded: at a status of 2, 3 or 4 nothing was written, and at a
+/// status of 5 only where it was the output that refused. Nothing is printed on `faults` at a status of 0.
 pub fn run<R: Read, W: Write, X: Write>(
     alloc: Global,
     words: &[String],
@@ -39,7 +41,8 @@ pub fn run<R: Read, W: Write, X: Write>(
     output: &mut W,
     faults: &mut X,
 ) -> u8
-    ensures { Runs R.remaining W.contents (request_of (map string_bytes words.now)) input.old output.old result input.new output.new }
+    ensures { Runs R.remaining W.contents X.contents (request_of (map string_bytes words.now))
+        input.old output.old faults.old result input.new output.new faults.new }
 {
     match call(alloc, words, input, output) {
         Ok(()) => 0,
@@ -47,9 +50,10 @@ pub fn run<R: Read, W: Write, X: Write>(
     }
 }
 
-/// Prints the line of a fault, and answers its status.
+/// Prints the line of a fault, and answers its status. A line that can't be printed is passed over.
 pub fn report<X: Write>(fault: Fault, faults: &mut X) -> u8
-    ensures { result ≡ fault.status }
+    ensures status { result ≡ fault.status }
+    ensures line { Reports X.contents fault faults.old faults.new }
 {
     let _ = writeln!(faults, "{fault}");
     fault.status
@@ -72,11 +76,7 @@ fn call<R: Read, W: Write>(
     let Some(order) = parse_order(order.as_str()) else {
         return Err(Fault::new(0, Reason::BadArguments));
     };
-    let layout = parse_layout(alloc, text.as_str())?;
-    match order {
-        NamedOrder::Big => perform::<BigEndian, R, W>(alloc, command, &layout, input, output),
-        NamedOrder::Little => perform::<LittleEndian, R, W>(alloc, command, &layout, input, output),
-    }
+    follow(alloc, command, order, text.as_str(), input, output)
 }
 
 fn parse_command(word: &str) -> Option<Command>
@@ -96,6 +96,24 @@ fn parse_order(word: &str) -> Option<NamedOrder>
         "be" => Some(NamedOrder::Big),
         "le" => Some(NamedOrder::Little),
         _ => None,
+    }
+}
+
+fn follow<R: Read, W: Write>(
+    alloc: Global,
+    command: Command,
+    order: NamedOrder,
+    text: &str,
+    input: &mut R,
+    output: &mut W,
+) -> Result<(), Fault>
+    ensures { Follows R.remaining W.contents command (bit_order order) (layout_of text.now)
+        input.old output.old result input.new output.new }
+{
+    let layout = parse_layout(alloc, text)?;
+    match order {
+        NamedOrder::Big => perform::<BigEndian, R, W>(alloc, command, &layout, input, output),
+        NamedOrder::Little => perform::<LittleEndian, R, W>(alloc, command, &layout, input, output),
     }
 }
 

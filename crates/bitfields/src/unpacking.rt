@@ -1,60 +1,56 @@
 //! Unpacking: the lines of the values that bits hold for the fields of a layout.
 
-ghost use Rattle.std.specs.Prelude.{◌≡◌, ◌++◌, false, string_bytes, OnOk};
+ghost use Rattle.std.specs.Prelude.{◌≡◌, ◌++◌, string_bytes, IsErr, IsSome, OnOk};
 ghost use Rattle.bitstream_order.specs.Draw.{seen};
-ghost use Rattle.bitstream_order.specs.Mislead.{MisledOnlyBy};
+ghost use Rattle.bitstream_order.specs.Refusal.{MayRefuse};
 ghost use Rattle.bitstream_stream.specs.Reads.{Reads};
-ghost use Rattle.bitfields.specs.Unpacking.{field_read, read_reason as read_reason_of, UnpacksFrom, UnpacksBytes};
+ghost use Rattle.bitfields.specs.Unpacking.{field_read, read_reason as read_reason_of, ReadsLines, UnpacksBytes};
 ghost use Rattle.bitfields.specs.Value.{value_list, printed_lines};
 
 use crate::fault::{Fault, Reason};
 use crate::field::Field;
 use crate::field_value::{FieldValue, print_value};
 use crate::layout::Layout;
-use bitstream_io::{BitCount, BitRead, BitReader, Endianness, Error, Lent, Source};
+use bitstream_io::{BitRead, BitReader, Endianness, Error, Lent, Source};
 use std::alloc::{AllocError, Global};
 
 /// Unpacks the fields of a layout from the first byte of a stream on: the line of each value, ended by LF. No byte after the last
 /// field's is asked for.
 ///
-/// Refused as `BitsEnded` at the first field whose bits are not all there, and as `StreamFault` or `OutOfMemory` at the field where the
-/// stream or memory refused. Where the stream tells its bytes, and refuses a request only as an end and only where fewer bytes are left
-/// than were asked for, the refusals are exactly those of the bits; memory aside.
+/// Refused as `BitsEnded` at the first field whose bits are not all there, as `StreamFault` or `OutOfMemory` at the field for which the
+/// stream refused a request, and as `OutOfMemory` at the field for whose line no memory was left. Where each refusal of the stream is an
+/// end with fewer bytes left than were asked for, as a `Slice` refuses, the refusals are exactly those of the bits; memory aside.
 pub fn unpack<E: Endianness, R: Source>(
     alloc: Global,
     layout: &Layout,
     input: &mut R,
 ) -> Result<Vec<u8>, Fault>
-    ensures { UnpacksBytes R.known R.refuses E.order layout.now input.old (seen (λ v. v.items) result) input.new }
+    ensures { UnpacksBytes R.known (MayRefuse R.known R.refuses) E.order layout.now input.old (seen (λ v. v.items) result) input.new }
 {
     let mut reader = BitReader::<Lent<R>, E>::new(Lent::new(input));
     let lines = unpack_from(alloc, layout, &mut reader)?;
     Ok(lines.into_bytes())
 }
 
-/// Unpacks the fields of a layout from a reader: the line of each value, ended by LF.
+/// Unpacks the fields of a layout from a reader: makes their read calls in order, and answers the line of each value, ended by LF.
 ///
-/// Refused as [`unpack`] says.
-pub fn unpack_from<R: Source, E: Endianness>(
+/// Refused at the first field whose call answers an error, or for whose line no memory is left; no call is made after that.
+pub fn unpack_from<R: BitRead>(
     alloc: Global,
     layout: &Layout,
-    reader: &mut BitReader<R, E>,
+    reader: &mut R,
 ) -> Result<String, Fault>
-    requires { (⟦<BitReader<R, E> as BitRead>⟧.state reader.old).failed ≡ false }
-    ensures unpacks { UnpacksFrom E.order layout.now (⟦<BitReader<R, E> as BitRead>⟧.state reader.old) (seen (λ s. string_bytes s) result) (⟦<BitReader<R, E> as BitRead>⟧.state reader.new) }
-    ensures misled { MisledOnlyBy R.known R.refuses (⟦<BitReader<R, E> as BitRead>⟧.state reader.old).misled (⟦<BitReader<R, E> as BitRead>⟧.state reader.new).misled }
+    ensures { ReadsLines R.source layout.now reader.old (seen (λ s. string_bytes s) result) reader.new }
 {
     unpack_fields(alloc, layout.fields(), reader)
 }
 
-fn unpack_fields<R: Source, E: Endianness>(
+fn unpack_fields<R: BitRead>(
     alloc: Global,
     fields: &[Field],
-    reader: &mut BitReader<R, E>,
+    reader: &mut R,
 ) -> Result<String, Fault>
-    requires fine { (⟦<BitReader<R, E> as BitRead>⟧.state reader.old).failed ≡ false }
-    ensures unpacks { UnpacksFrom E.order fields.now (⟦<BitReader<R, E> as BitRead>⟧.state reader.old) (seen (λ s. string_bytes s) result) (⟦<BitReader<R, E> as BitRead>⟧.state reader.new) }
-    ensures misled { MisledOnlyBy R.known R.refuses (⟦<BitReader<R, E> as BitRead>⟧.state reader.old).misled (⟦<BitReader<R, E> as BitRead>⟧.state reader.new).misled }
+    ensures { ReadsLines R.source fields.now reader.old (seen (λ s. string_bytes s) result) reader.new }
 {
     let mut lines = String::new(alloc);
     for (index, field) in fields.iter().enumerate() {
@@ -71,17 +67,12 @@ fn unpack_fields<R: Source, E: Endianness>(
 }
 
 /// Reads a field: its value, if it has one.
-fn unpack_field<R: Source, E: Endianness>(
-    field: Field,
-    reader: &mut BitReader<R, E>,
-) -> Result<Option<FieldValue>, Error>
-    ensures reads { Reads (field_read E.order field) (⟦<BitReader<R, E> as BitRead>⟧.state reader.old) result (⟦<BitReader<R, E> as BitRead>⟧.state reader.new) }
-    ensures misled { MisledOnlyBy R.known R.refuses (⟦<BitReader<R, E> as BitRead>⟧.state reader.old).misled (⟦<BitReader<R, E> as BitRead>⟧.state reader.new).misled }
+fn unpack_field<R: BitRead>(field: Field, reader: &mut R) -> Result<Option<FieldValue>, Error>
+    ensures { Reads R.source (field_read R.source.order field) reader.old result reader.new }
 {
     match field {
         Field::Unsigned(width) => {
-            let count = BitCount::unknown(width);
-            let value = reader.read_unsigned_counted::<_, u128>(count)?;
+            let value = reader.read_unsigned_var::<u128>(width)?;
             Ok(Some(FieldValue::Unsigned(value)))
         }
         Field::Align => {
@@ -104,7 +95,8 @@ fn read_reason(error: Error) -> Reason
 
 /// Appends the line of a field's value, if it has one.
 fn print_field(lines: &mut String, value: Option<FieldValue>) -> Result<(), AllocError>
-    ensures { OnOk result (string_bytes lines.new ≡ string_bytes lines.old ++ printed_lines (value_list value)) }
+    ensures line { OnOk result (string_bytes lines.new ≡ string_bytes lines.old ++ printed_lines (value_list value)) }
+    ensures some { IsErr result → IsSome value }
 {
     match value {
         Some(value) => print_value(lines, value),

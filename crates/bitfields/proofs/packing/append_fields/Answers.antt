@@ -1,6 +1,5 @@
 use Rattle.std.proofs.Common.{◌<◌, length, arith}
-use Rattle.bitstream_stream.proofs.ReadsLemmas.{result_err}
-use Rattle.bitfields.proofs.PackingLemmas.{Packing-more, Packing-fault, Packing-end}
+use Rattle.bitfields.proofs.PackingLemmas.{result_err, Packing-more, Packing-fault, Packing-end}
 use Rattle.bitfields.proofs.packing.append_fields.Goals as goal
 
 pub loop-field-preserved : goal.loop-field-preserved

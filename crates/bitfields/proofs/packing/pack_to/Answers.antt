@@ -1,10 +1,9 @@
 use Rattle.std.proofs.Common.{◌∷◌, [], ◌++◌}
 use Rattle.bitstream_stream.specs.Sink.{WritesAll}
 use Rattle.bitstream_stream.specs.WriteTable.{align}
-use Rattle.bitstream_stream.proofs.ReadsLemmas.{result_err}
 use Rattle.bitstream_stream.proofs.WriteParts.{all_append, all_one, all_stop}
 use Rattle.bitfields.specs.Packing.{field_writes}
-use Rattle.bitfields.proofs.PackingLemmas.{Adds-packed}
+use Rattle.bitfields.proofs.PackingLemmas.{result_err, Adds-packed}
 use Rattle.bitfields.proofs.packing.pack_to.Goals as goal
 
 pub returns-in_err-append_fields : goal.returns-in_err-append_fields
