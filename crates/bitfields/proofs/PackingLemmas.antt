@@ -10,15 +10,15 @@ use Rattle.bitstream_number.specs.Word.{Order, word, bits}
 use Rattle.bitstream_number.proofs.WordLemmas.{length-word, length-bits}
 use Rattle.bitstream_count.specs.declared.error.Error.{Error}
 use Rattle.bitstream_count.specs.Entry.{WriteEntry}
-use Rattle.bitstream_order.specs.Refusal.{Refusal, MayReject}
-use Rattle.bitstream_order.proofs.DrawLemmas.{word-none}
+use Rattle.bitstream_order.specs.Refusal.{Refusal, MayRefuseSend}
+use Rattle.bitstream_order.proofs.TakeLemmas.{word-none}
 use Rattle.bitstream_stream.specs.Alignment.{to_boundary}
-use Rattle.bitstream_stream.specs.Run.{accepted, refusal, write_run, write_refusals}
-use Rattle.bitstream_stream.specs.Sink.{Sink, IsBeyond, Appended, Faulted, Writes, WritesAll, was_failed, was_refused, passed_limit, had_fault, did_write}
+use Rattle.bitstream_stream.specs.Run.{accepted, refusal_if_any, write_run, write_refusals}
+use Rattle.bitstream_stream.specs.Sink.{Sink, IsBeyond, Appended, WriteFault, Writes, WritesAll, was_failed, was_refused, passed_limit, had_fault, did_write}
 use Rattle.bitstream_stream.specs.WriteTable.{align}
 use Rattle.bitstream_stream.specs.Carries.{WriterState, Carries}
 use Rattle.bitstream_stream.specs.Writer.{fresh_writer}
-use Rattle.bitstream_stream.proofs.SinkParts.{Faulted-behind, Faulted-longer}
+use Rattle.bitstream_stream.proofs.SinkParts.{WriteFault-behind, WriteFault-longer}
 use Rattle.bitstream_stream.proofs.WriteParts.{all_none, all_err, all_more}
 use Rattle.bitfields.specs.declared.fault.Fault.{Fault}
 use Rattle.bitfields.specs.declared.fault.Reason.TheVariants.{OutOfMemory}
@@ -41,31 +41,31 @@ Adds-from K entry x old r new sound unlimited is (was_refused error p q e k) = a
 Adds-from K entry x old r new sound unlimited is (passed_limit w p q beyond e k) = absurd (subst (λ (m : Option ℕ). IsBeyond m (K.len old + length w)) unlimited beyond)
 Adds-from K entry x old r new sound unlimited is (had_fault w error p q within e f) =
     let same : w ≡ x = cc in
-    subst (λ (a : Result (Unit {0}) Error). Adds K x old a new) (sym e) (subst (λ (y : List Bool). Faulted K old y error new) same f)
+    subst (λ (a : Result (Unit {0}) Error). Adds K x old a new) (sym e) (subst (λ (y : List Bool). WriteFault K old y error new) same f)
 Adds-from K entry x old r new sound unlimited is (did_write w done p q within e a) =
     let same : w ≡ x = cc in
     subst (λ (b : Result (Unit {0}) Error). Adds K x old b new) (sym e) (subst (λ (y : List Bool). Appended K old y new) same a)
 
 Appended-nil : {S : Type 0} (K : Sink S) (s : S) → K.failed s ≡ false → Appended K s [] s
-Appended-nil K s sound = record { grown = K.appends_nil s; sound = sound; refusals = refl; places = refl }
+Appended-nil K s sound = record { grown = K.appends_nil s; sound = sound; refusals = refl; reference_names = refl }
 
 Appended-trans : {S : Type 0} (K : Sink S) (s t z : S) (x y : List Bool) → Appended K s x t → Appended K t y z → Appended K s (x ++ y) z
 Appended-trans K s t z x y h k = record {
   grown = K.appends_trans s t z x y h.grown k.grown;
   sound = k.sound;
   refusals = k.refusals ∙ h.refusals;
-  places = k.places ∙ h.places;
+  reference_names = k.reference_names ∙ h.reference_names;
 }
 
 -- what follows bits that were added
 Adds-later : {S : Type 0} (K : Sink S) (x y : List Bool) (old mid : S) (r : Result (Unit {0}) Error) (new : S) → Appended K old x mid → Adds K y mid r new → Adds K (x ++ y) old r new
 Adds-later K x y old mid (Ok done) new h k = Appended-trans K old mid new x y h k
-Adds-later K x y old mid (Err e) new h k = Faulted-behind K old mid new e x y (x ++ y) h k (omega (arith, length-append x y))
+Adds-later K x y old mid (Err e) new h k = WriteFault-behind K old mid new e x y (x ++ y) h k (omega (arith, length-append x y))
 
 -- a refusal of the first bits is one of all
 Adds-first : {S : Type 0} (K : Sink S) (x y : List Bool) (old : S) (r : Result (Unit {0}) Error) (new : S) → IsErr r → Adds K x old r new → Adds K (x ++ y) old r new
 Adds-first K x y old (Ok done) new h k = absurd (cc)
-Adds-first K x y old (Err e) new h k = Faulted-longer K old new e x (x ++ y) k (omega (arith, length-append x y))
+Adds-first K x y old (Err e) new h k = WriteFault-longer K old new e x (x ++ y) k (omega (arith, length-append x y))
 
 accepted-word : (r : Result (List Bool) Error) → refusal r ≡ None → r ≡ Ok (accepted r)
 accepted-word (Ok w) h = refl
@@ -175,10 +175,10 @@ length-packed o fields vs =
     omega (arith, parts, rest)
 
 -- the bytes of the packed values were handed on
-pub PackedBytes-from : (o : Order) (fields : List Field) (vs : List FieldValue) (held : Option (List ℕ)) (places : List GName) (s t : WriterState) → t.queued < 8 → s ≡ fresh_writer held places
+pub PackedBytes-from : (o : Order) (fields : List Field) (vs : List FieldValue) (held : Option (List ℕ)) (reference_names : List GName) (s t : WriterState) → t.queued < 8 → s ≡ fresh_writer held reference_names
     → Carries o s (packed o fields vs (8 * s.port.sent + s.queued)) t → PackedBytes o fields vs held t.port.bytes
-PackedBytes-from o fields vs held places s t few fresh was =
-    let c : Carries o (fresh_writer held places) (packed o fields vs 0) t = subst (λ (u : WriterState). Carries o u (packed o fields vs (8 * u.port.sent + u.queued)) t) fresh was in
+PackedBytes-from o fields vs held reference_names s t few fresh was =
+    let c : Carries o (fresh_writer held reference_names) (packed o fields vs 0) t = subst (λ (u : WriterState). Carries o u (packed o fields vs (8 * u.port.sent + u.queued)) t) fresh was in
     let x = packed o fields vs 0 in
     let whole : x ≡ bits o c.bytes ++ word o t.queued t.queue = ap (λ (u : List Bool). u ++ x) (sym (word-none o 0)) ∙ c.word in
     let rest : t.queued ≡ 0 = omega (arith, few, length-packed o fields vs, ap length whole, length-append (bits o c.bytes) (word o t.queued t.queue), length-bits o c.bytes, length-word o t.queued t.queue) in
@@ -201,7 +201,7 @@ Packs-refused contents may o fields (Err x) output (Err e) f h (inr is) = (let s
 
 -- a refused request of a writer, as one of its stream
 pub RefusedBytes-from : {S : Type 0} (K : Sink S) (may : Refusal → Type 0) (fields : List Field) (vs : List FieldValue) (old new : S) (error : Error) (f : Fault) → ((x : Refusal) → K.may x → may x) → K.len old ≡ 0
-    → Faulted K old (packed K.order fields vs (K.len old)) error new → f ≡ fault 0 (write_reason error) → RefusedBytes may K.order fields vs f
+    → WriteFault K old (packed K.order fields vs (K.len old)) error new → f ≡ fault 0 (write_reason error) → RefusedBytes may K.order fields vs f
 RefusedBytes-from K may fields vs old new error f is none h why = record {
   refusal = h.refusal;
   allowed = is h.refusal h.allowed;
@@ -212,5 +212,5 @@ RefusedBytes-from K may fields vs old new error f is none h why = record {
 }
 
 -- a refusal of a target that is seen through another state is one of that target
-pub MayReject-seen : {T S : Type 0} (f : S → T) (refuses : T → ℕ → ErrorKind → T → Type 0) (x : Refusal) → MayReject (λ s n kind t. refuses (f s) n kind (f t)) x → MayReject refuses x
-MayReject-seen f refuses x h = record { before = f h.before; after = f h.after; left = h.left; refused = h.refused }
+pub MayRefuseSend-seen : {T S : Type 0} (f : S → T) (refuses : T → ℕ → ErrorKind → T → Type 0) (x : Refusal) → MayRefuseSend (λ s n kind t. refuses (f s) n kind (f t)) x → MayRefuseSend refuses x
+MayRefuseSend-seen f refuses x h = record { before = f h.before; after = f h.after; left = h.left; refused = h.refused }

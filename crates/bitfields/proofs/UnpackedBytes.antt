@@ -5,7 +5,7 @@ use Rattle.std.specs.Io.KnownBytes.{Consumes}
 use Rattle.std.specs.declared.io.ErrorKind.{ErrorKind}
 use Rattle.std.proofs.Common.{◌≡◌, ℕ, ◌+◌, List, [], ◌∷◌, ◌++◌, length, Option, Result, Ok, Err, refl, sym, ap, ◌∙◌, subst, arith, append_assoc, append-nil, ◌⊎◌, inl, inr}
 use Rattle.bitstream_number.specs.Word.{Order, bits}
-use Rattle.bitstream_order.specs.Draw.{seen}
+use Rattle.bitstream_order.specs.TakeBits.{seen}
 use Rattle.bitstream_order.specs.Fault.{read_refusal_of}
 use Rattle.bitstream_order.specs.Refusal.{Refusal, MayRefuse}
 use Rattle.bitstream_stream.specs.Reader.{new_reader_state}
@@ -16,11 +16,11 @@ use Rattle.bitfields.specs.declared.field_value.FieldValue.{FieldValue}
 use Rattle.bitfields.specs.Fault.{fault}
 use Rattle.bitfields.specs.Unpacking.{Unpacks, Stops, unpacked, read_reason, in_lines, ReadsLines, TakesBits, UnpackedBytes, ToldBytes, StarvedBytes, StoppedBytes, UnpacksBytes}
 use Rattle.bitfields.specs.Value.{printed_lines}
-use Rattle.bitfields.proofs.UnpackingLemmas.{ComesTo, ComesTo-calls, ComesTo-places}
+use Rattle.bitfields.proofs.UnpackingLemmas.{ComesTo, ComesTo-calls, ComesTo-reference_names}
 
 -- a new reader fetched the bytes that the bits taken reach into
-bytes_taken : (known : Option (List ℕ)) (places : List GName) (n : ℕ) (gone : List ℕ) (t : ReaderState) → Demands t → Consumes known t.bytes gone → t.fetched ≡ 0 + length gone → t.taken ≡ 0 + n → TakesBits known gone t.taken t.bytes
-bytes_taken known places n gone t demands loses fetched taken = record {
+bytes_taken : (known : Option (List ℕ)) (reference_names : List GName) (n : ℕ) (gone : List ℕ) (t : ReaderState) → Demands t → Consumes known t.bytes gone → t.fetched ≡ 0 + length gone → t.taken ≡ 0 + n → TakesBits known gone t.taken t.bytes
+bytes_taken known reference_names n gone t demands loses fetched taken = record {
   loses = loses;
   least = (omega (arith, demands, fetched), omega (arith, demands, fetched));
 }
@@ -38,23 +38,23 @@ told_whatever o f gone w rest a parts says more = ap (λ (b : List Bool). f (b +
 abbrev pub UnpacksKnown : (Refusal → Type 0) → Order → List Field → Option (List ℕ) → Result (List ℕ) Fault → Option (List ℕ) → Type 0
 UnpacksKnown may o fields old result new = UnpacksBytes {R = Option (List ℕ)} (λ b. b) may o fields old result new
 
-UnpacksKnown-from : (o : Order) (may allowed : Refusal → Type 0) (fields : List Field) (known : Option (List ℕ)) (places : List GName) (r : Result (List FieldValue) Fault) (t : ReaderState)
-    → ((x : Refusal) → may x → allowed x) → Demands t → ComesTo o may 1 fields (new_reader_state known places) r t → UnpacksKnown allowed o fields known (in_lines r) t.bytes
-UnpacksKnown-from o may allowed fields known places (Ok vs) t is demands h = record {
+UnpacksKnown-from : (o : Order) (may allowed : Refusal → Type 0) (fields : List Field) (known : Option (List ℕ)) (reference_names : List GName) (r : Result (List FieldValue) Fault) (t : ReaderState)
+    → ((x : Refusal) → may x → allowed x) → Demands t → ComesTo o may 1 fields (new_reader_state known reference_names) r t → UnpacksKnown allowed o fields known (in_lines r) t.bytes
+UnpacksKnown-from o may allowed fields known reference_names (Ok vs) t is demands h = record {
   gone = h.took.gone;
   len = t.taken;
-  taken = bytes_taken known places (length h.word) h.took.gone t demands h.took.loses h.took.fetched h.took.taken;
+  taken = bytes_taken known reference_names (length h.word) h.took.gone t demands h.took.loses h.took.fetched h.took.taken;
   values = vs;
   says = told_by o (unpacked o 1 fields 0) h.took.gone h.word t.held (Unpacks vs t.taken) h.took.parts h.says;
   prints = refl;
 }
-UnpacksKnown-from o may allowed fields known places (Err f) t is demands (inl h) = inl (record {
+UnpacksKnown-from o may allowed fields known reference_names (Err f) t is demands (inl h) = inl (record {
   gone = h.gone;
   len = t.taken;
-  taken = bytes_taken known places (length h.word) h.gone t demands h.loses h.fetched h.taken;
+  taken = bytes_taken known reference_names (length h.word) h.gone t demands h.loses h.fetched h.taken;
   says = told_whatever o (unpacked o 1 fields 0) h.gone h.word h.rest (Stops f) h.parts h.says;
 })
-UnpacksKnown-from o may allowed fields known places (Err f) t is demands (inr (inl h)) = inr (inl (record {
+UnpacksKnown-from o may allowed fields known reference_names (Err f) t is demands (inr (inl h)) = inr (inl (record {
   front = h.front;
   here = h.here;
   back = h.back;
@@ -62,14 +62,14 @@ UnpacksKnown-from o may allowed fields known places (Err f) t is demands (inr (i
   reason = h.reason;
   gone = h.took.gone;
   len = t.taken;
-  taken = bytes_taken known places (length h.word) h.took.gone t demands h.took.loses h.took.fetched h.took.taken;
+  taken = bytes_taken known reference_names (length h.word) h.took.gone t demands h.took.loses h.took.fetched h.took.taken;
   values = h.values;
   at = h.at;
   before = told_by o (unpacked o 1 h.front 0) h.took.gone h.word t.held (Unpacks h.values h.at) h.took.parts h.before;
   value = h.value;
   says = told_by o (unpacked o 1 (h.front ++ h.here ∷ []) 0) h.took.gone h.word t.held (Unpacks (h.values ++ h.value ∷ []) t.taken) h.took.parts h.says;
 }))
-UnpacksKnown-from o may allowed fields known places (Err f) t is demands (inr (inr h)) = inr (inr (record {
+UnpacksKnown-from o may allowed fields known reference_names (Err f) t is demands (inr (inr h)) = inr (inr (record {
   field = h.field;
   refusal = h.refusal;
   allowed = is h.refusal h.allowed;
@@ -85,14 +85,14 @@ pub MayRefuse-seen : {R S : Type 0} (f : S → R) (known : R → Option (List �
 MayRefuse-seen f known refuses x h = record { before = f h.before; after = f h.after; left = h.left; refused = h.refused }
 
 -- what the calls of a new reader come to
-pub Unpacks-from : {R : Type 0} (K : BitSource R) (allowed : Refusal → Type 0) (fields : List Field) (known : Option (List ℕ)) (places : List GName) (old new : R) (result : Result (List ℕ) Fault) → ((x : Refusal) → K.may x → allowed x)
-    → K.state old ≡ new_reader_state known places → ReadsLines K fields old result new → UnpacksKnown allowed K.order fields known result (K.state new).bytes × ((K.state new).places ≡ places)
-Unpacks-from K allowed fields known places old new result is fresh h =
+pub Unpacks-from : {R : Type 0} (K : BitSource R) (allowed : Refusal → Type 0) (fields : List Field) (known : Option (List ℕ)) (reference_names : List GName) (old new : R) (result : Result (List ℕ) Fault) → ((x : Refusal) → K.may x → allowed x)
+    → K.state old ≡ new_reader_state known reference_names → ReadsLines K fields old result new → UnpacksKnown allowed K.order fields known result (K.state new).bytes × ((K.state new).reference_names ≡ reference_names)
+Unpacks-from K allowed fields known reference_names old new result is fresh h =
     let fine : (K.state old).failed ≡ false = ap (λ (s : ReaderState). s.failed) fresh in
     let comes = ComesTo-calls K 1 fields old h.answer new fine h.reads in
     let anew = subst (λ (s : ReaderState). ComesTo K.order K.may 1 fields s h.answer (K.state new)) fresh comes in (
-      subst (λ (r : Result (List ℕ) Fault). UnpacksKnown allowed K.order fields known r (K.state new).bytes) (sym h.prints) (UnpacksKnown-from K.order K.may allowed fields known places h.answer (K.state new) is (K.demands new) anew),
-      ComesTo-places K.order K.may 1 fields (new_reader_state known places) h.answer (K.state new) anew,
+      subst (λ (r : Result (List ℕ) Fault). UnpacksKnown allowed K.order fields known r (K.state new).bytes) (sym h.prints) (UnpacksKnown-from K.order K.may allowed fields known reference_names h.answer (K.state new) is (K.demands new) anew),
+      ComesTo-reference_names K.order K.may 1 fields (new_reader_state known reference_names) h.answer (K.state new) anew,
     )
 
 pub UnpacksBytes-exit : {R V : Type 0} (known : R → Option (List ℕ)) (may : Refusal → Type 0) (o : Order) (fields : List Field) (old new : R) (view : V → List ℕ) (r : Result V Fault) (f : Fault)

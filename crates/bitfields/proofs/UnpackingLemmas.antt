@@ -12,7 +12,7 @@ use Rattle.bitstream_count.specs.declared.error.Error.{Error}
 use Rattle.bitstream_count.specs.Entry.{ReadEntry}
 use Rattle.bitstream_order.specs.Fault.{read_refusal_of}
 use Rattle.bitstream_order.specs.Refusal.{Refusal, IsTrueEnd}
-use Rattle.bitstream_stream.specs.Reads.{ReaderState, BitSource, Reads, Answers, Faults, stays, answers, faults, starves}
+use Rattle.bitstream_stream.specs.Reads.{ReaderState, BitSource, Reads, TakesFront, ReadFault, stays_failed, takes_front, meets_fault, lacks_memory}
 use Rattle.bitstream_stream.proofs.ReadsLemmas.{Took, Took-nil, Took-trans, Took-left, took}
 use Rattle.bitfields.specs.declared.fault.Fault.{Fault}
 use Rattle.bitfields.specs.declared.fault.Reason.TheVariants.{BitsEnded, OutOfMemory}
@@ -109,7 +109,7 @@ held_parts : (o : Order) (a b u : List Bool) (g h : List ℕ) → a ++ bits o g 
 held_parts o a b u g h p =
     ap (λ (w : List Bool). a ++ w) (bits-append o g h) ∙ sym (append_assoc a (bits o g) (bits o h)) ∙ ap (λ (w : List Bool). w ++ bits o h) p ∙ append_assoc u b (bits o h)
 
-first_parts : {A : Type 0} (o : Order) (e : ReadEntry A) (v : A) (s t : ReaderState) (h : Answers o e s (Ok v) t) → s.held ++ bits o h.gone ≡ h.word ++ t.held
+first_parts : {A : Type 0} (o : Order) (e : ReadEntry A) (v : A) (s t : ReaderState) (h : TakesFront o e s (Ok v) t) → s.held ++ bits o h.gone ≡ h.word ++ t.held
 first_parts o e v s t h = h.parts ∙ ap (λ (w : List Bool). h.word ++ w) (sym h.held)
 
 -- the calls of all fields answered, and took this word
@@ -127,7 +127,7 @@ pub record ToldFields (o : Order) (k : ℕ) (fields : List Field) (old : ReaderS
   pub parts : old.held ++ bits o gone ≡ word ++ rest
   pub fetched : new.fetched ≡ old.fetched + length gone
   pub taken : new.taken ≡ old.taken + length word
-  pub places : new.places ≡ old.places
+  pub reference_names : new.reference_names ≡ old.reference_names
   pub says : (more : List Bool) → unpacked o k fields old.taken (word ++ more) ≡ Stops f
 
 -- the calls of the first fields answered, and no memory was left for the line of the last of them
@@ -153,7 +153,7 @@ pub record StoppedFields (o : Order) (may : Refusal → Type 0) (k : ℕ) (field
   pub reason : f ≡ fault field (read_reason (read_refusal_of refusal.kind))
   pub gone : List ℕ
   pub fetched : new.fetched ≡ old.fetched + length gone
-  pub places : new.places ≡ old.places
+  pub reference_names : new.reference_names ≡ old.reference_names
   pub stops : unpacked o k fields old.taken (old.held ++ bits o gone) ≡ Stops (fault field BitsEnded)
   pub ended : IsTrueEnd refusal → (xs : List ℕ) → old.bytes ≡ Some xs → unpacked o k fields old.taken (old.held ++ bits o xs) ≡ Stops (fault field BitsEnded)
 
@@ -161,25 +161,25 @@ abbrev pub ComesTo : Order → (Refusal → Type 0) → ℕ → List Field → R
 ComesTo o may k fields old (Ok vs) new = TookFields o k fields old vs new
 ComesTo o may k fields old (Err f) new = ToldFields o k fields old f new ⊎ StarvedFields o k fields old f new ⊎ StoppedFields o may k fields old f new
 
-pub ComesTo-places : (o : Order) (may : Refusal → Type 0) (k : ℕ) (fields : List Field) (old : ReaderState) (r : Result (List FieldValue) Fault) (new : ReaderState) → ComesTo o may k fields old r new → new.places ≡ old.places
-ComesTo-places o may k fields old (Ok vs) new h = h.took.places
-ComesTo-places o may k fields old (Err f) new (inl h) = h.places
-ComesTo-places o may k fields old (Err f) new (inr (inl h)) = h.took.places
-ComesTo-places o may k fields old (Err f) new (inr (inr h)) = h.places
+pub ComesTo-reference_names : (o : Order) (may : Refusal → Type 0) (k : ℕ) (fields : List Field) (old : ReaderState) (r : Result (List FieldValue) Fault) (new : ReaderState) → ComesTo o may k fields old r new → new.reference_names ≡ old.reference_names
+ComesTo-reference_names o may k fields old (Ok vs) new h = h.took.reference_names
+ComesTo-reference_names o may k fields old (Err f) new (inl h) = h.reference_names
+ComesTo-reference_names o may k fields old (Err f) new (inr (inl h)) = h.took.reference_names
+ComesTo-reference_names o may k fields old (Err f) new (inr (inr h)) = h.reference_names
 
 -- the first field's word, and what follows it
-first_then : (o : Order) (k : ℕ) (f : Field) (fs : List Field) (v : Option FieldValue) (s t : ReaderState) (h : Answers o (field_read o f) s (Ok v) t) (more : List Bool)
+first_then : (o : Order) (k : ℕ) (f : Field) (fs : List Field) (v : Option FieldValue) (s t : ReaderState) (h : TakesFront o (field_read o f) s (Ok v) t) (more : List Bool)
     → unpacked o k (f ∷ fs) s.taken (h.word ++ more) ≡ values_and (value_list v) (unpacked o (k + 1) fs t.taken more)
 first_then o k f fs v s t h more =
     unpacked-first o k f fs s.taken h.word more v (h.decides more) ∙ ap (λ (p : ℕ). values_and (value_list v) (unpacked o (k + 1) fs p more)) (sym h.taken)
 
 -- and what follows behind another word
-word_then : (o : Order) (k : ℕ) (f : Field) (fs : List Field) (v : Option FieldValue) (s t : ReaderState) (h : Answers o (field_read o f) s (Ok v) t) (w : List Bool) (r : Unpacked)
+word_then : (o : Order) (k : ℕ) (f : Field) (fs : List Field) (v : Option FieldValue) (s t : ReaderState) (h : TakesFront o (field_read o f) s (Ok v) t) (w : List Bool) (r : Unpacked)
     → ((more : List Bool) → unpacked o (k + 1) fs t.taken (w ++ more) ≡ r) → (more : List Bool) → unpacked o k (f ∷ fs) s.taken ((h.word ++ w) ++ more) ≡ values_and (value_list v) r
 word_then o k f fs v s t h w r says more =
     ap (unpacked o k (f ∷ fs) s.taken) (append_assoc h.word w more) ∙ first_then o k f fs v s t h (w ++ more) ∙ ap (values_and (value_list v)) (says more)
 
-ToldFields-later : (o : Order) (k : ℕ) (f : Field) (fs : List Field) (v : Option FieldValue) (why : Fault) (s t z : ReaderState) → Answers o (field_read o f) s (Ok v) t → ToldFields o (k + 1) fs t why z → ToldFields o k (f ∷ fs) s why z
+ToldFields-later : (o : Order) (k : ℕ) (f : Field) (fs : List Field) (v : Option FieldValue) (why : Fault) (s t z : ReaderState) → TakesFront o (field_read o f) s (Ok v) t → ToldFields o (k + 1) fs t why z → ToldFields o k (f ∷ fs) s why z
 ToldFields-later o k f fs v why s t z h x =
     record {
       word = h.word ++ x.word;
@@ -189,11 +189,11 @@ ToldFields-later o k f fs v why s t z h x =
       parts = held_parts o s.held t.held h.word h.gone x.gone (first_parts o (field_read o f) v s t h) ∙ ap (λ (w : List Bool). h.word ++ w) x.parts ∙ sym (append_assoc h.word x.word x.rest);
       fetched = omega (arith, h.fetched, x.fetched, length-append h.gone x.gone);
       taken = omega (arith, h.taken, x.taken, length-append h.word x.word);
-      places = x.places ∙ h.places;
+      reference_names = x.reference_names ∙ h.reference_names;
       says = word_then o k f fs v s t h x.word (Stops why) x.says;
     }
 
-StarvedFields-later : (o : Order) (k : ℕ) (f : Field) (fs : List Field) (v : Option FieldValue) (why : Fault) (s t z : ReaderState) → Answers o (field_read o f) s (Ok v) t → StarvedFields o (k + 1) fs t why z → StarvedFields o k (f ∷ fs) s why z
+StarvedFields-later : (o : Order) (k : ℕ) (f : Field) (fs : List Field) (v : Option FieldValue) (why : Fault) (s t z : ReaderState) → TakesFront o (field_read o f) s (Ok v) t → StarvedFields o (k + 1) fs t why z → StarvedFields o k (f ∷ fs) s why z
 StarvedFields-later o k f fs v why s t z h x =
     let place : k + 1 + length x.front ≡ k + length (f ∷ x.front) = omega arith in
     record {
@@ -213,7 +213,7 @@ StarvedFields-later o k f fs v why s t z h x =
           ∙ ap (λ (us : List FieldValue). Unpacks us z.taken) (sym (append_assoc (value_list v) x.values (x.value ∷ [])));
     }
 
-StoppedFields-later : (o : Order) (may : Refusal → Type 0) (k : ℕ) (f : Field) (fs : List Field) (v : Option FieldValue) (why : Fault) (s t z : ReaderState) → Answers o (field_read o f) s (Ok v) t
+StoppedFields-later : (o : Order) (may : Refusal → Type 0) (k : ℕ) (f : Field) (fs : List Field) (v : Option FieldValue) (why : Fault) (s t z : ReaderState) → TakesFront o (field_read o f) s (Ok v) t
     → StoppedFields o may (k + 1) fs t why z → StoppedFields o may k (f ∷ fs) s why z
 StoppedFields-later o may k f fs v why s t z h x =
     let first = took o (field_read o f) v s t h in
@@ -225,7 +225,7 @@ StoppedFields-later o may k f fs v why s t z h x =
       reason = x.reason;
       gone = h.gone ++ x.gone;
       fetched = omega (arith, h.fetched, x.fetched, length-append h.gone x.gone);
-      places = x.places ∙ h.places;
+      reference_names = x.reference_names ∙ h.reference_names;
       stops = ap (unpacked o k (f ∷ fs) s.taken) whole ∙ first_then o k f fs v s t h (t.held ++ bits o x.gone) ∙ ap (values_and (value_list v)) x.stops;
       ended = λ end xs known.
           let left = Took-left o h.word s t first xs known in
@@ -233,7 +233,7 @@ StoppedFields-later o may k f fs v why s t z h x =
     }
 
 -- what follows a field that answered
-ComesTo-later : (o : Order) (may : Refusal → Type 0) (k : ℕ) (f : Field) (fs : List Field) (v : Option FieldValue) (r : Result (List FieldValue) Fault) (s t z : ReaderState) → Answers o (field_read o f) s (Ok v) t
+ComesTo-later : (o : Order) (may : Refusal → Type 0) (k : ℕ) (f : Field) (fs : List Field) (v : Option FieldValue) (r : Result (List FieldValue) Fault) (s t z : ReaderState) → TakesFront o (field_read o f) s (Ok v) t
     → ComesTo o may (k + 1) fs t r z → ComesTo o may k (f ∷ fs) s (behind (value_list v) r) z
 ComesTo-later o may k f fs v (Ok ws) s t z h x = record {
   word = h.word ++ x.word;
@@ -245,7 +245,7 @@ ComesTo-later o may k f fs v (Err why) s t z h (inr (inl x)) = inr (inl (Starved
 ComesTo-later o may k f fs v (Err why) s t z h (inr (inr x)) = inr (inr (StoppedFields-later o may k f fs v why s t z h x))
 
 -- a field answered an error
-ToldFields-here : (o : Order) (k : ℕ) (f : Field) (fs : List Field) (x : Error) (s t : ReaderState) → Answers o (field_read o f) s (Err x) t → ToldFields o k (f ∷ fs) s (fault k (read_reason x)) t
+ToldFields-here : (o : Order) (k : ℕ) (f : Field) (fs : List Field) (x : Error) (s t : ReaderState) → TakesFront o (field_read o f) s (Err x) t → ToldFields o k (f ∷ fs) s (fault k (read_reason x)) t
 ToldFields-here o k f fs x s t h = record {
   word = h.word;
   gone = h.gone;
@@ -254,12 +254,12 @@ ToldFields-here o k f fs x s t h = record {
   parts = h.parts;
   fetched = h.fetched;
   taken = h.taken;
-  places = h.places;
+  reference_names = h.reference_names;
   says = λ more. unpacked-refused o k f fs s.taken (length h.word) (h.word ++ more) x (h.decides more);
 }
 
 -- a field's call faulted
-StoppedFields-here : (o : Order) (may : Refusal → Type 0) (k : ℕ) (f : Field) (fs : List Field) (x : Error) (s t : ReaderState) → Faults o may (field_read o f) s (Err x) t → StoppedFields o may k (f ∷ fs) s (fault k (read_reason x)) t
+StoppedFields-here : (o : Order) (may : Refusal → Type 0) (k : ℕ) (f : Field) (fs : List Field) (x : Error) (s t : ReaderState) → ReadFault o may (field_read o f) s (Err x) t → StoppedFields o may k (f ∷ fs) s (fault k (read_reason x)) t
 StoppedFields-here o may k f fs x s t h =
     let same : x ≡ read_refusal_of h.refusal.kind = (let a = h.answer in cc) in
     record {
@@ -269,13 +269,13 @@ StoppedFields-here o may k f fs x s t h =
       reason = ap (λ (e : Error). fault k (read_reason e)) same;
       gone = h.gone;
       fetched = h.fetched;
-      places = h.places;
+      reference_names = h.reference_names;
       stops = unpacked-short o k f fs s.taken (s.held ++ bits o h.gone) h.few;
       ended = λ end xs known. unpacked-short o k f fs s.taken (s.held ++ bits o xs) (h.ended end xs known);
     }
 
 -- no memory was left for a field's line
-StarvedFields-here : (o : Order) (k : ℕ) (f : Field) (fs : List Field) (v : FieldValue) (s t : ReaderState) → Answers o (field_read o f) s (Ok (Some v)) t → StarvedFields o k (f ∷ fs) s (fault k OutOfMemory) t
+StarvedFields-here : (o : Order) (k : ℕ) (f : Field) (fs : List Field) (v : FieldValue) (s t : ReaderState) → TakesFront o (field_read o f) s (Ok (Some v)) t → StarvedFields o k (f ∷ fs) s (fault k OutOfMemory) t
 StarvedFields-here o k f fs v s t h =
     let place : k ≡ k + 0 = omega arith in
     record {
@@ -299,25 +299,25 @@ ComesTo-none o may k s fine = record { word = []; took = Took-nil o s fine; says
 -- one call, and what the others come to
 starved_here : {R : Type 0} (K : BitSource R) (k : ℕ) (f : Field) (fs : List Field) (v : FieldValue) (old new : R) → (K.state old).failed ≡ false → Reads K (field_read K.order f) old (Ok (Some v)) new
     → ComesTo K.order K.may k (f ∷ fs) (K.state old) (Err (fault k OutOfMemory)) (K.state new)
-starved_here K k f fs v old new fine (stays x) = absurd (let failed = x.failed in cc)
-starved_here K k f fs v old new fine (answers x) = inr (inl (StarvedFields-here K.order k f fs v (K.state old) (K.state new) x))
-starved_here K k f fs v old new fine (faults x) = absurd (let a = x.answer in cc)
-starved_here K k f fs v old new fine (starves grows x) = absurd (cc)
+starved_here K k f fs v old new fine (stays_failed x) = absurd (let failed = x.failed in cc)
+starved_here K k f fs v old new fine (takes_front x) = inr (inl (StarvedFields-here K.order k f fs v (K.state old) (K.state new) x))
+starved_here K k f fs v old new fine (meets_fault x) = absurd (let a = x.answer in cc)
+starved_here K k f fs v old new fine (lacks_memory grows x) = absurd (cc)
 
 refused_here : {R : Type 0} (K : BitSource R) (k : ℕ) (f : Field) (fs : List Field) (e : Error) (old new : R) → (K.state old).failed ≡ false → Reads K (field_read K.order f) old (Err e) new
     → ComesTo K.order K.may k (f ∷ fs) (K.state old) (Err (fault k (read_reason e))) (K.state new)
-refused_here K k f fs e old new fine (stays x) = absurd (let failed = x.failed in cc)
-refused_here K k f fs e old new fine (answers x) = inl (ToldFields-here K.order k f fs e (K.state old) (K.state new) x)
-refused_here K k f fs e old new fine (faults x) = inr (inr (StoppedFields-here K.order K.may k f fs e (K.state old) (K.state new) x))
-refused_here K k f fs e old new fine (starves grows x) = absurd (cc)
+refused_here K k f fs e old new fine (stays_failed x) = absurd (let failed = x.failed in cc)
+refused_here K k f fs e old new fine (takes_front x) = inl (ToldFields-here K.order k f fs e (K.state old) (K.state new) x)
+refused_here K k f fs e old new fine (meets_fault x) = inr (inr (StoppedFields-here K.order K.may k f fs e (K.state old) (K.state new) x))
+refused_here K k f fs e old new fine (lacks_memory grows x) = absurd (cc)
 
 answered_here : {R : Type 0} (K : BitSource R) (k : ℕ) (f : Field) (fs : List Field) (v : Option FieldValue) (rest : Result (List FieldValue) Fault) (old mid new : R) → (K.state old).failed ≡ false
     → Reads K (field_read K.order f) old (Ok v) mid → ((K.state mid).failed ≡ false → ComesTo K.order K.may (k + 1) fs (K.state mid) rest (K.state new))
     → ComesTo K.order K.may k (f ∷ fs) (K.state old) (behind (value_list v) rest) (K.state new)
-answered_here K k f fs v rest old mid new fine (stays x) others = absurd (let failed = x.failed in cc)
-answered_here K k f fs v rest old mid new fine (answers x) others = ComesTo-later K.order K.may k f fs v rest (K.state old) (K.state mid) (K.state new) x (others x.failed)
-answered_here K k f fs v rest old mid new fine (faults x) others = absurd (let a = x.answer in cc)
-answered_here K k f fs v rest old mid new fine (starves grows x) others = absurd (cc)
+answered_here K k f fs v rest old mid new fine (stays_failed x) others = absurd (let failed = x.failed in cc)
+answered_here K k f fs v rest old mid new fine (takes_front x) others = ComesTo-later K.order K.may k f fs v rest (K.state old) (K.state mid) (K.state new) x (others x.failed)
+answered_here K k f fs v rest old mid new fine (meets_fault x) others = absurd (let a = x.answer in cc)
+answered_here K k f fs v rest old mid new fine (lacks_memory grows x) others = absurd (cc)
 
 -- what the calls of fields come to, made by a reader that has not failed
 pub ComesTo-calls : {R : Type 0} (K : BitSource R) (k : ℕ) (fields : List Field) (old : R) (r : Result (List FieldValue) Fault) (new : R) → (K.state old).failed ≡ false → ReadsFields K k fields old r new

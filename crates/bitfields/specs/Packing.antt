@@ -8,7 +8,7 @@ use Rattle.bitstream_count.specs.Entry.{WriteEntry}
 use Rattle.bitstream_order.specs.Fault.{refusal_of}
 use Rattle.bitstream_order.specs.Refusal.{Refusal}
 use Rattle.bitstream_stream.specs.Run.{write_run}
-use Rattle.bitstream_stream.specs.Sink.{Sink, Appended, Faulted}
+use Rattle.bitstream_stream.specs.Sink.{Sink, Appended, WriteFault}
 use Rattle.bitstream_stream.specs.WriteTable.{plain, unsigned, align}
 use Rattle.bitfields.specs.declared.fault.Reason.{Reason}
 use Rattle.bitfields.specs.declared.fault.Reason.TheVariants.{OutOfMemory, StreamFault}
@@ -45,7 +45,7 @@ write_reason error = StreamFault
 -- these bits were written, or a request was refused and the sink has failed
 abbrev pub Adds : {S : Type 0} → Sink S → List Bool → S → Result (Unit {0}) Error → S → Type 0
 Adds K x old (Ok done) new = Appended K old x new
-Adds K x old (Err error) new = Faulted K old x error new
+Adds K x old (Err error) new = WriteFault K old x error new
 
 -- a stream took the bytes whose bits are the packed values
 pub record PackedBytes (o : Order) (fields : List Field) (vs : List FieldValue) (old new : Option (List ℕ)) : Type 0 where

@@ -112,7 +112,7 @@ status_of (Ok done) = 0
 status_of (Err f) = f.status
 
 -- a fault's line was printed, unless printing it answered an error
-pub record Reports {X : Type 0} (contents : X → Option (List ℕ)) (f : Fault) (faults faults_after : X) : Type 0 where
+pub record Reports {X : Type 0} (contents : X → Option (List ℕ)) (f : Fault) (meets_fault faults_after : X) : Type 0 where
   pub printed : Result (Unit {0}) Error
   pub line : OnOk printed (Appends (contents faults) (contents faults_after) (fault_text f ++ 10 ∷ []))
 
@@ -123,7 +123,7 @@ ReportsAny contents (Err f) faults faults_after = Reports contents f faults faul
 
 -- a call ends with the status of what became of it, which is reported
 pub record Runs {R W X : Type 0} (known : R → Option (List ℕ)) (contents : W → Option (List ℕ)) (told : X → Option (List ℕ)) (request : Option Request)
-    (input : R) (output : W) (faults : X) (status : ℕ) (input_after : R) (output_after : W) (faults_after : X) : Type 0 where
+    (input : R) (output : W) (meets_fault : X) (status : ℕ) (input_after : R) (output_after : W) (faults_after : X) : Type 0 where
   pub outcome : Result (Unit {0}) Fault
   pub calls : Calls known contents request input output outcome input_after output_after
   pub reports : ReportsAny told outcome faults faults_after

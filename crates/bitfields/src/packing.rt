@@ -1,7 +1,7 @@
 //! Packing: the words of an input's values, and a last alignment.
 
 ghost use Rattle.std.specs.Prelude.{◌≡◌, false, None, [], ◌∷◌, ◌++◌};
-ghost use Rattle.bitstream_order.specs.Refusal.{MayReject};
+ghost use Rattle.bitstream_order.specs.Refusal.{MayRefuseSend};
 ghost use Rattle.bitstream_stream.specs.Sink.{Writes, WritesAll};
 ghost use Rattle.bitstream_stream.specs.WriteTable.{align};
 ghost use Rattle.bitfields.specs.Packing.{field_write, field_writes, packed, Adds, write_reason as write_reason_of, Packs};
@@ -25,7 +25,7 @@ pub fn pack<E: Endianness, W: Target>(
     input: &[u8],
     output: &mut W,
 ) -> Result<(), Fault>
-    ensures { Packs W.held (MayReject W.refuses) E.order layout.now (values_of 1 layout.now (lines_of input.now)) output.old result output.new }
+    ensures { Packs W.contents (MayRefuseSend W.refuses) E.order layout.now (values_of 1 layout.now (lines_of input.now)) output.old result output.new }
 {
     let values = values(alloc, layout, input)?;
     let mut writer = BitWriter::<Lent<W>, E>::new(Lent::new(output));

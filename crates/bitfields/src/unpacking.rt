@@ -1,7 +1,7 @@
 //! Unpacking: the lines of the values that bits hold for the fields of a layout.
 
 ghost use Rattle.std.specs.Prelude.{◌≡◌, ◌++◌, string_bytes, IsErr, IsSome, OnOk};
-ghost use Rattle.bitstream_order.specs.Draw.{seen};
+ghost use Rattle.bitstream_order.specs.TakeBits.{seen};
 ghost use Rattle.bitstream_order.specs.Refusal.{MayRefuse};
 ghost use Rattle.bitstream_stream.specs.Reads.{Reads};
 ghost use Rattle.bitfields.specs.Unpacking.{field_read, read_reason as read_reason_of, ReadsLines, UnpacksBytes};
@@ -25,7 +25,7 @@ pub fn unpack<E: Endianness, R: Source>(
     layout: &Layout,
     input: &mut R,
 ) -> Result<Vec<u8>, Fault>
-    ensures { UnpacksBytes R.known (MayRefuse R.known R.refuses) E.order layout.now input.old (seen (λ v. v.items) result) input.new }
+    ensures { UnpacksBytes R.remaining (MayRefuse R.remaining R.refuses) E.order layout.now input.old (seen (λ v. v.items) result) input.new }
 {
     let mut reader = BitReader::<Lent<R>, E>::new(Lent::new(input));
     let lines = unpack_from(alloc, layout, &mut reader)?;
