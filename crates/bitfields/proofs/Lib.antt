@@ -1,6 +1,7 @@
 pub mod DecimalLemmas
 pub mod FieldCalls
 pub mod LayoutLemmas
+pub mod MemoryLemmas
 pub mod PackingLemmas
 pub mod PrintedLines
 pub mod Rows

@@ -28,23 +28,23 @@ use Rattle.bitfields.specs.declared.field_value.FieldValue.{FieldValue}
 use Rattle.bitfields.specs.declared.field_value.FieldValue.TheVariants as Value
 use Rattle.bitfields.specs.Fault.{fault}
 use Rattle.bitfields.specs.Layout.{IsField, IsLayout}
-use Rattle.bitfields.specs.Packing.{Adds, PackedBytes, RefusedBytes, Packs, write_reason, field_write, field_writes, packed}
+use Rattle.bitfields.specs.Packing.{WritesBits, PackedBytes, RefusedBytes, Packs, write_reason, field_write, field_writes, packed}
 use Rattle.bitfields.specs.Value.{value_count, FitsField, Fit}
 use Rattle.bitfields.proofs.FieldCalls.{refusals-none, write_run-append}
 
 -- ---- a list of accepted calls, to a sink without a limit
 
 -- a call whose word is x adds it to a sink that has not failed and has no limit, or a request is refused
-Adds-from : {S : Type 0} (K : Sink S) (entry : WriteEntry) (x : List Bool) (old : S) (r : Result (Unit {0}) Error) (new : S) → K.failed old ≡ false → K.limit ≡ None → entry (K.len old) ≡ Ok x → Writes K entry old r new → Adds K x old r new
-Adds-from K entry x old r new sound unlimited is (was_failed p q k) = absurd (cc)
-Adds-from K entry x old r new sound unlimited is (was_refused error p q e k) = absurd (cc)
-Adds-from K entry x old r new sound unlimited is (passed_limit w p q beyond e k) = absurd (subst (λ (m : Option ℕ). IsBeyond m (K.len old + length w)) unlimited beyond)
-Adds-from K entry x old r new sound unlimited is (had_fault w error p q within e f) =
+WritesBits-from : {S : Type 0} (K : Sink S) (entry : WriteEntry) (x : List Bool) (old : S) (r : Result (Unit {0}) Error) (new : S) → K.failed old ≡ false → K.limit ≡ None → entry (K.len old) ≡ Ok x → Writes K entry old r new → WritesBits K x old r new
+WritesBits-from K entry x old r new sound unlimited is (was_failed p q k) = absurd (cc)
+WritesBits-from K entry x old r new sound unlimited is (was_refused error p q e k) = absurd (cc)
+WritesBits-from K entry x old r new sound unlimited is (passed_limit w p q beyond e k) = absurd (subst (λ (m : Option ℕ). IsBeyond m (K.len old + length w)) unlimited beyond)
+WritesBits-from K entry x old r new sound unlimited is (had_fault w error p q within e f) =
     let same : w ≡ x = cc in
-    subst (λ (a : Result (Unit {0}) Error). Adds K x old a new) (sym e) (subst (λ (y : List Bool). WriteFault K old y error new) same f)
-Adds-from K entry x old r new sound unlimited is (did_write w done p q within e a) =
+    subst (λ (a : Result (Unit {0}) Error). WritesBits K x old a new) (sym e) (subst (λ (y : List Bool). WriteFault K old y error new) same f)
+WritesBits-from K entry x old r new sound unlimited is (did_write w done p q within e a) =
     let same : w ≡ x = cc in
-    subst (λ (b : Result (Unit {0}) Error). Adds K x old b new) (sym e) (subst (λ (y : List Bool). Appended K old y new) same a)
+    subst (λ (b : Result (Unit {0}) Error). WritesBits K x old b new) (sym e) (subst (λ (y : List Bool). Appended K old y new) same a)
 
 Appended-nil : {S : Type 0} (K : Sink S) (s : S) → K.failed s ≡ false → Appended K s [] s
 Appended-nil K s sound = record { grown = K.appends_nil s; sound = sound; refusals = refl; reference_names = refl }
@@ -58,42 +58,42 @@ Appended-trans K s t z x y h k = record {
 }
 
 -- what follows bits that were added
-Adds-later : {S : Type 0} (K : Sink S) (x y : List Bool) (old mid : S) (r : Result (Unit {0}) Error) (new : S) → Appended K old x mid → Adds K y mid r new → Adds K (x ++ y) old r new
-Adds-later K x y old mid (Ok done) new h k = Appended-trans K old mid new x y h k
-Adds-later K x y old mid (Err e) new h k = WriteFault-behind K old mid new e x y (x ++ y) h k (omega (arith, length-append x y))
+WritesBits-later : {S : Type 0} (K : Sink S) (x y : List Bool) (old mid : S) (r : Result (Unit {0}) Error) (new : S) → Appended K old x mid → WritesBits K y mid r new → WritesBits K (x ++ y) old r new
+WritesBits-later K x y old mid (Ok done) new h k = Appended-trans K old mid new x y h k
+WritesBits-later K x y old mid (Err e) new h k = WriteFault-behind K old mid new e x y (x ++ y) h k (omega (arith, length-append x y))
 
 -- a refusal of the first bits is one of all
-Adds-first : {S : Type 0} (K : Sink S) (x y : List Bool) (old : S) (r : Result (Unit {0}) Error) (new : S) → IsErr r → Adds K x old r new → Adds K (x ++ y) old r new
-Adds-first K x y old (Ok done) new h k = absurd (cc)
-Adds-first K x y old (Err e) new h k = WriteFault-longer K old new e x (x ++ y) k (omega (arith, length-append x y))
+WritesBits-first : {S : Type 0} (K : Sink S) (x y : List Bool) (old : S) (r : Result (Unit {0}) Error) (new : S) → IsErr r → WritesBits K x old r new → WritesBits K (x ++ y) old r new
+WritesBits-first K x y old (Ok done) new h k = absurd (cc)
+WritesBits-first K x y old (Err e) new h k = WriteFault-longer K old new e x (x ++ y) k (omega (arith, length-append x y))
 
-accepted-word : (r : Result (List Bool) Error) → refusal r ≡ None → r ≡ Ok (accepted r)
+accepted-word : (r : Result (List Bool) Error) → refusal_if_any r ≡ None → r ≡ Ok (accepted r)
 accepted-word (Ok w) h = refl
 accepted-word (Err e) h = absurd (cc)
 
 -- calls that are all accepted add their write run
-Adds-all : {S : Type 0} (K : Sink S) (es : List WriteEntry) (old : S) (r : Result (Unit {0}) Error) (new : S) → K.failed old ≡ false → K.limit ≡ None
-    → AllByRecursion (λ e. e ≡ None) (write_refusals es (K.len old)) → WritesAll K es old r new → Adds K (write_run es (K.len old)) old r new
+WritesBits-all : {S : Type 0} (K : Sink S) (es : List WriteEntry) (old : S) (r : Result (Unit {0}) Error) (new : S) → K.failed old ≡ false → K.limit ≡ None
+    → AllByRecursion (λ e. e ≡ None) (write_refusals es (K.len old)) → WritesAll K es old r new → WritesBits K (write_run es (K.len old)) old r new
 unfolding WritesAll
-Adds-all K [] old r new sound unlimited fine w =
-    subst (λ (s : Result (Unit {0}) Error). Adds K [] old s new) (sym w.0) (subst (λ (z : _). Appended K old [] z) (sym w.1) (Appended-nil K old sound))
-Adds-all K (e ∷ es) old r new sound unlimited fine (inl h) =
+WritesBits-all K [] old r new sound unlimited fine w =
+    subst (λ (s : Result (Unit {0}) Error). WritesBits K [] old s new) (sym w.0) (subst (λ (z : _). Appended K old [] z) (sym w.1) (Appended-nil K old sound))
+WritesBits-all K (e ∷ es) old r new sound unlimited fine (inl h) =
     let x = accepted (e (K.len old)) in
-    let here = Adds-from K e x old r new sound unlimited (accepted-word (e (K.len old)) fine.0) h.1 in
-    Adds-first K x (write_run es (K.len old + length x)) old r new h.0 here
-Adds-all K (e ∷ es) old r new sound unlimited fine (inr (mid, first, others)) =
+    let here = WritesBits-from K e x old r new sound unlimited (accepted-word (e (K.len old)) fine.0) h.1 in
+    WritesBits-first K x (write_run es (K.len old + length x)) old r new h.0 here
+WritesBits-all K (e ∷ es) old r new sound unlimited fine (inr (mid, first, others)) =
     let x = accepted (e (K.len old)) in
-    let here = Adds-from K e x old (Ok tt) mid sound unlimited (accepted-word (e (K.len old)) fine.0) first in
+    let here = WritesBits-from K e x old (Ok tt) mid sound unlimited (accepted-word (e (K.len old)) fine.0) first in
     let place : K.len mid ≡ K.len old + length x = K.appends_len old mid x here.grown in
-    let rest = Adds-all K es mid r new here.sound unlimited (subst (λ (n : ℕ). AllByRecursion (λ e. e ≡ None) (write_refusals es n)) (sym place) fine.1) others in
-    Adds-later K x (write_run es (K.len old + length x)) old mid r new here (subst (λ (n : ℕ). Adds K (write_run es n) mid r new) place rest)
+    let rest = WritesBits-all K es mid r new here.sound unlimited (subst (λ (n : ℕ). AllByRecursion (λ e. e ≡ None) (write_refusals es n)) (sym place) fine.1) others in
+    WritesBits-later K x (write_run es (K.len old + length x)) old mid r new here (subst (λ (n : ℕ). WritesBits K (write_run es n) mid r new) place rest)
 
 -- values that fit are packed
-pub Adds-packed : {S : Type 0} (K : Sink S) (fields : List Field) (vs : List FieldValue) (old : S) (r : Result (Unit {0}) Error) (new : S) → IsLayout fields → Fit fields vs
-    → WritesAll K (field_writes K.order fields vs ++ align ∷ []) old r new → K.failed old ≡ false → K.limit ≡ None → Adds K (packed K.order fields vs (K.len old)) old r new
-Adds-packed K fields vs old r new layout fit w sound unlimited =
+pub WritesBits-packed : {S : Type 0} (K : Sink S) (fields : List Field) (vs : List FieldValue) (old : S) (r : Result (Unit {0}) Error) (new : S) → IsLayout fields → Fit fields vs
+    → WritesAll K (field_writes K.order fields vs ++ align ∷ []) old r new → K.failed old ≡ false → K.limit ≡ None → WritesBits K (packed K.order fields vs (K.len old)) old r new
+WritesBits-packed K fields vs old r new layout fit w sound unlimited =
     let each = recursion_from_All IsField fields layout.in_range in
-    Adds-all K (field_writes K.order fields vs ++ align ∷ []) old r new sound unlimited (refusals-none K.order fields vs (K.len old) each fit) w
+    WritesBits-all K (field_writes K.order fields vs ++ align ∷ []) old r new sound unlimited (refusals-none K.order fields vs (K.len old) each fit) w
 
 -- ---- the fields' calls, one behind the other
 

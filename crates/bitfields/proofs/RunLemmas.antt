@@ -17,8 +17,9 @@ use Rattle.bitfields.specs.declared.fault.Reason.{Reason}
 use Rattle.bitfields.specs.declared.fault.Reason.TheVariants.{OutOfMemory, StreamFault}
 use Rattle.bitfields.specs.Fault.{fault, refusal_reason}
 use Rattle.bitfields.specs.Layout.{IsUnlessMemory}
+use Rattle.bitfields.proofs.MemoryLemmas.{fault_expected}
 use Rattle.bitfields.specs.Packing.{Packs, write_reason}
-use Rattle.bitfields.specs.Run.{IsOutside, PacksInput, Follows, UnpacksInput, any_refusal}
+use Rattle.bitfields.specs.Run.{IsOfStreamOrMemory, PacksInput, Follows, UnpacksInput, any_refusal}
 use Rattle.bitfields.specs.Unpacking.{UnpacksBytes}
 use Rattle.bitfields.specs.Value.{lines, values}
 
@@ -30,7 +31,7 @@ UnpacksInput-refused known contents o fields input output f (Err e) input_after 
 
 -- ---- packing
 
-outside_of : (f : Fault) (why : Reason) → f ≡ fault 0 why → (why ≡ StreamFault) ⊎ (why ≡ OutOfMemory) → IsOutside f
+outside_of : (f : Fault) (why : Reason) → f ≡ fault 0 why → (why ≡ StreamFault) ⊎ (why ≡ OutOfMemory) → IsOfStreamOrMemory f
 outside_of f why is (inl stream) = inl (is ∙ ap (fault 0) stream)
 outside_of f why is (inr memory) = inr (is ∙ ap (fault 0) memory)
 
@@ -64,7 +65,7 @@ PacksInput-refused known contents may o fields input output bytes (Err e) f inpu
     (PacksInput-err known contents may o fields input output bytes (values 1 fields (lines bytes)) f input_after output_after read end refl packs)
 
 PacksInput-ok : {R W : Type 0} (known : R → Option (List ℕ)) (contents : W → Option (List ℕ)) (may : Refusal → Type 0) (o : Order) (fields : List Field) (input : R) (output : W) (bytes : List ℕ) (spelt : Result (List FieldValue) Fault) (f : Fault) (input_after : R) (mid output_after : W)
-    → Consumes (known input) (known input_after) bytes → IsAtEnd (known input_after) → values 1 fields (lines bytes) ≡ spelt → Packs contents may o fields spelt output (Ok tt) mid → IsOutside f
+    → Consumes (known input) (known input_after) bytes → IsAtEnd (known input_after) → values 1 fields (lines bytes) ≡ spelt → Packs contents may o fields spelt output (Ok tt) mid → IsOfStreamOrMemory f
     → PacksInput known contents o fields input output (Err f) input_after output_after
 PacksInput-ok known contents may o fields input output bytes (Ok vs) f input_after mid output_after read end spells packs outside = inr (inr (record { vs = vs; reads = record { bytes = bytes; read = read; end = end; spells = spells }; outside = outside }))
 PacksInput-ok known contents may o fields input output bytes (Err x) f input_after mid output_after read end spells packs outside = absurd packs
@@ -86,12 +87,9 @@ Follows-err known contents command o (Ok fields) input output e (inr is) = absur
 Follows-err known contents command o (Err f) input output e (inl memory) = (inl (ap Err memory), refl, refl)
 Follows-err known contents command o (Err f) input output e (inr is) = (let same : f ≡ e = cc in (inr (ap Err (sym same)), refl, refl))
 
-memory_or : {A : Type 0} (layout : Result A Fault) (f : Fault) → IsUnlessMemory layout (Err f) → (f ≡ fault 0 OutOfMemory) ⊎ (layout ≡ Err f)
-memory_or layout f (inl memory) = (let same : f ≡ fault 0 OutOfMemory = cc in inl same)
-memory_or layout f (inr is) = inr (sym is)
 
 pub Follows-refused : {R W : Type 0} (known : R → Option (List ℕ)) (contents : W → Option (List ℕ)) (command : Command) (o : Order) (layout : Result (List Field) Fault) (input : R) (output : W) (r : Result (Unit {0}) Fault) (f : Fault)
     → IsErrAnd r (λ e. e ≡ f) → IsUnlessMemory {A = List Field} layout (Err f) → Follows known contents command o layout input output r input output
 Follows-refused known contents command o layout input output (Ok done) f h why = absurd h
 Follows-refused known contents command o layout input output (Err e) f h why =
-    subst (λ (x : Fault). Follows known contents command o layout input output (Err x) input output) (sym h) (Follows-err known contents command o layout input output f (memory_or layout f why))
+    subst (λ (x : Fault). Follows known contents command o layout input output (Err x) input output) (sym h) (Follows-err known contents command o layout input output f (fault_expected why))

@@ -9,8 +9,11 @@ use Rattle.bitfields.specs.declared.field.Field.TheVariants.{Unsigned, Align}
 use Rattle.bitfields.specs.declared.field_value.FieldValue.{FieldValue}
 use Rattle.bitfields.specs.declared.field_value.FieldValue.TheVariants as Value
 use Rattle.bitfields.specs.Decimal.{is_decimal, decimal_value, decimal_below}
-use Rattle.bitfields.specs.Value.{values, value_and, value_in, value_count, some_value, Fit, IsOrMemory}
+use Rattle.bitfields.specs.Value.{values, value_and, value_in, value_count, some_value, Fit}
 use Rattle.bitfields.specs.Fault.{fault}
+use Rattle.bitfields.specs.Layout.{IsUnlessMemory}
+use Rattle.bitfields.proofs.MemoryLemmas.{value_expected}
+use Rattle.bitstream_order.specs.TakeBits.{seen}
 use Rattle.bitfields.specs.declared.fault.Reason.TheVariants.{ValueMisspelt, ValueDoesNotFit, ValueLeftOver}
 
 pub below_parts : (d l : Bool) (v n : ℕ) → (let r : Result ℕ Reason = if d then (if l then Ok v else Err ValueDoesNotFit) else Err ValueMisspelt in r) ≡ Ok n → (d ≡ true) × (l ≡ true) × (v ≡ n)
@@ -57,6 +60,6 @@ values-Fit k [] lines vs h = left_over (length lines == 0) vs h
 values-Fit k (field ∷ fields) lines vs h =
     Fit-first k field fields lines (value_in field lines) (values (k + 1) fields (drop (value_count field) lines)) vs refl (values-Fit (k + 1) fields (drop (value_count field) lines)) h
 
-pub IfOk-Fit : {V : Type 0} (fields : List Field) (lines : List (List ℕ)) (view : V → List FieldValue) (r : Result V Fault) → IsOrMemory (values 1 fields lines) view r → IfOk r (λ v. Fit fields (view v))
-IfOk-Fit fields lines view (Ok v) h = values-Fit 1 fields lines (view v) h
+pub IfOk-Fit : {V : Type 0} (fields : List Field) (lines : List (List ℕ)) (view : V → List FieldValue) (r : Result V Fault) → IsUnlessMemory (values 1 fields lines) (seen view r) → IfOk r (λ v. Fit fields (view v))
+IfOk-Fit fields lines view (Ok v) h = values-Fit 1 fields lines (view v) (value_expected h)
 IfOk-Fit fields lines view (Err e) h = tt

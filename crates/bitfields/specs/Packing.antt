@@ -43,9 +43,9 @@ write_reason errors.OutOfMemory = OutOfMemory
 write_reason error = StreamFault
 
 -- these bits were written, or a request was refused and the sink has failed
-abbrev pub Adds : {S : Type 0} → Sink S → List Bool → S → Result (Unit {0}) Error → S → Type 0
-Adds K x old (Ok done) new = Appended K old x new
-Adds K x old (Err error) new = WriteFault K old x error new
+abbrev pub WritesBits : {S : Type 0} → Sink S → List Bool → S → Result (Unit {0}) Error → S → Type 0
+WritesBits K x old (Ok done) new = Appended K old x new
+WritesBits K x old (Err error) new = WriteFault K old x error new
 
 -- a stream took the bytes whose bits are the packed values
 pub record PackedBytes (o : Order) (fields : List Field) (vs : List FieldValue) (old new : Option (List ℕ)) : Type 0 where

@@ -19,8 +19,8 @@ use Rattle.bitfields.specs.Unpacking.{UnpackedBytes, UnpacksBytes}
 use Rattle.bitfields.specs.Value.{lines, values}
 
 -- the fault is a stream's or the memory's
-abbrev pub IsOutside : Fault → Type 0
-IsOutside f = (f ≡ fault 0 StreamFault) ⊎ (f ≡ fault 0 OutOfMemory)
+abbrev pub IsOfStreamOrMemory : Fault → Type 0
+IsOfStreamOrMemory f = (f ≡ fault 0 StreamFault) ⊎ (f ≡ fault 0 OutOfMemory)
 
 -- ---- packing
 
@@ -41,7 +41,7 @@ pub record PackedInput (o : Order) (fields : List Field) (input output input_aft
 pub record UnfinishedPacking (fields : List Field) (input : Option (List ℕ)) (f : Fault) (input_after : Option (List ℕ)) : Type 0 where
   pub vs : List FieldValue
   pub reads : SpelledInput fields input (Ok vs) input_after
-  pub outside : IsOutside f
+  pub outside : IsOfStreamOrMemory f
 
 -- Packing an input. A fault is that of its lines, or its stream or memory refused: then nothing was written. Else the output's stream
 -- refused, when all lines had been read.
@@ -50,7 +50,7 @@ PacksInput known contents o fields input output (Ok done) input_after output_aft
     PackedInput o fields (known input) (contents output) (known input_after) (contents output_after)
 PacksInput known contents o fields input output (Err f) input_after output_after =
     (SpelledInput fields (known input) (Err f) (known input_after) × (output_after ≡ output))
-    ⊎ (IsOutside f × (output_after ≡ output))
+    ⊎ (IsOfStreamOrMemory f × (output_after ≡ output))
     ⊎ UnfinishedPacking fields (known input) f (known input_after)
 
 -- ---- unpacking
@@ -65,7 +65,7 @@ pub record UnpackedInput (o : Order) (fields : List Field) (input output input_a
 pub record UnfinishedUnpacking (o : Order) (fields : List Field) (input : Option (List ℕ)) (f : Fault) (input_after : Option (List ℕ)) : Type 0 where
   pub text : List ℕ
   pub unpacks : UnpackedBytes o fields input text input_after
-  pub outside : IsOutside f
+  pub outside : IsOfStreamOrMemory f
 
 -- std tells nothing of how a `Read` refuses
 abbrev pub any_refusal : {R : Type 0} → R → ℕ → ErrorKind → R → Type 0
@@ -112,7 +112,7 @@ status_of (Ok done) = 0
 status_of (Err f) = f.status
 
 -- a fault's line was printed, unless printing it answered an error
-pub record Reports {X : Type 0} (contents : X → Option (List ℕ)) (f : Fault) (meets_fault faults_after : X) : Type 0 where
+pub record Reports {X : Type 0} (contents : X → Option (List ℕ)) (f : Fault) (faults faults_after : X) : Type 0 where
   pub printed : Result (Unit {0}) Error
   pub line : OnOk printed (Appends (contents faults) (contents faults_after) (fault_text f ++ 10 ∷ []))
 
@@ -123,7 +123,7 @@ ReportsAny contents (Err f) faults faults_after = Reports contents f faults faul
 
 -- a call ends with the status of what became of it, which is reported
 pub record Runs {R W X : Type 0} (known : R → Option (List ℕ)) (contents : W → Option (List ℕ)) (told : X → Option (List ℕ)) (request : Option Request)
-    (input : R) (output : W) (meets_fault : X) (status : ℕ) (input_after : R) (output_after : W) (faults_after : X) : Type 0 where
+    (input : R) (output : W) (faults : X) (status : ℕ) (input_after : R) (output_after : W) (faults_after : X) : Type 0 where
   pub outcome : Result (Unit {0}) Fault
   pub calls : Calls known contents request input output outcome input_after output_after
   pub reports : ReportsAny told outcome faults faults_after

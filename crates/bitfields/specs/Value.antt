@@ -64,10 +64,6 @@ abbrev pub Fit : List Field → List FieldValue → Type 0
 Fit [] vs = vs ≡ []
 Fit (field ∷ fields) vs = FitsField field vs × Fit fields (drop (value_count field) vs)
 
--- memory was refused, or the answer, seen by a view, is this one
-abbrev pub IsOrMemory : {A B : Type 0} → Result B Fault → (A → B) → Result A Fault → Type 0
-IsOrMemory expected view (Ok x) = expected ≡ Ok (view x)
-IsOrMemory expected view (Err f) = (f ≡ fault 0 OutOfMemory) ⊎ (expected ≡ Err f)
 
 -- a value as it is printed
 abbrev pub value_text : FieldValue → List ℕ

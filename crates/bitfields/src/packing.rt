@@ -4,7 +4,7 @@ ghost use Rattle.std.specs.Prelude.{◌≡◌, false, None, [], ◌∷◌, ◌++
 ghost use Rattle.bitstream_order.specs.Refusal.{MayRefuseSend};
 ghost use Rattle.bitstream_stream.specs.Sink.{Writes, WritesAll};
 ghost use Rattle.bitstream_stream.specs.WriteTable.{align};
-ghost use Rattle.bitfields.specs.Packing.{field_write, field_writes, packed, Adds, write_reason as write_reason_of, Packs};
+ghost use Rattle.bitfields.specs.Packing.{field_write, field_writes, packed, WritesBits, write_reason as write_reason_of, Packs};
 ghost use Rattle.bitfields.specs.Value.{lines as lines_of, values as values_of, FitsField, Fit};
 
 use crate::fault::{Fault, Reason};
@@ -45,7 +45,7 @@ pub fn pack_to<W: BitWrite>(
     requires fit { Fit layout.now values.now }
     ensures calls { WritesAll W.sink (field_writes W.sink.order layout.now values.now ++ align ∷ []) writer.old result writer.new }
     ensures adds { W.sink.failed writer.old ≡ false → W.sink.limit ≡ None →
-        Adds W.sink (packed W.sink.order layout.now values.now (W.sink.len writer.old)) writer.old result writer.new }
+        WritesBits W.sink (packed W.sink.order layout.now values.now (W.sink.len writer.old)) writer.old result writer.new }
 {
     append_fields(layout.fields(), values, writer)?;
     writer.byte_align()

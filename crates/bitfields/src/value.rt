@@ -3,8 +3,9 @@
 ghost use Rattle.std.specs.Prelude.{◌≡◌, ◌+◌, ◌++◌, [], ◌∷◌, ◌^◌, ◌≤◌, length, drop, map, IfOk, OnOk, IsOkUnless};
 ghost use Rattle.std.specs.List.{All};
 ghost use Rattle.bitfields.specs.Fault.{fault};
-ghost use Rattle.bitfields.specs.Layout.{IsField, IsLayout};
-ghost use Rattle.bitfields.specs.Value.{lines as lines_of, values as values_of, value_in as value_in_of, value_count as value_count_of, Fit, value_list, IsOrMemory};
+ghost use Rattle.bitfields.specs.Layout.{IsField, IsLayout, IsUnlessMemory};
+ghost use Rattle.bitstream_order.specs.TakeBits.{seen};
+ghost use Rattle.bitfields.specs.Value.{lines as lines_of, values as values_of, value_in as value_in_of, value_count as value_count_of, Fit, value_list};
 
 use crate::fault::{Fault, Reason};
 use crate::field::Field;
@@ -19,7 +20,7 @@ use std::alloc::Global;
 /// decimal, and as `ValueDoesNotFit` where the number is too great; else as `ValueLeftOver` (field 0) where lines remain.
 /// `OutOfMemory` (field 0) is the only other refusal.
 pub fn values(alloc: Global, layout: &Layout, input: &[u8]) -> Result<Vec<FieldValue>, Fault>
-    ensures values { IsOrMemory (values_of 1 layout.now (lines_of input.now)) (λ v. v.items) result }
+    ensures values { IsUnlessMemory (values_of 1 layout.now (lines_of input.now)) (seen (λ v. v.items) result) }
     ensures fit { IfOk result (λ v. Fit layout.now v.items) }
 {
     let lines = lines(alloc, input)?;
@@ -28,7 +29,7 @@ pub fn values(alloc: Global, layout: &Layout, input: &[u8]) -> Result<Vec<FieldV
 
 fn read_values(alloc: Global, fields: &[Field], lines: &[&[u8]]) -> Result<Vec<FieldValue>, Fault>
     requires { IsLayout fields.now }
-    ensures { IsOrMemory (values_of 1 fields.now (map (λ x. x.now) lines.now)) (λ v. v.items) result }
+    ensures { IsUnlessMemory (values_of 1 fields.now (map (λ x. x.now) lines.now)) (seen (λ v. v.items) result) }
 {
     let mut values = Vec::new(alloc);
     let mut rest = lines;

@@ -3,7 +3,7 @@ use Rattle.bitstream_stream.specs.Sink.{WritesAll}
 use Rattle.bitstream_stream.specs.WriteTable.{align}
 use Rattle.bitstream_stream.proofs.WriteParts.{all_append, all_one, all_stop}
 use Rattle.bitfields.specs.Packing.{field_writes}
-use Rattle.bitfields.proofs.PackingLemmas.{result_err, Adds-packed}
+use Rattle.bitfields.proofs.PackingLemmas.{result_err, WritesBits-packed}
 use Rattle.bitfields.proofs.packing.pack_to.Goals as goal
 
 pub returns-in_err-append_fields : goal.returns-in_err-append_fields
@@ -13,7 +13,7 @@ returns-in_err-append_fields g c =
     let vs = c.args.values.now in
     let calls : WritesAll K (field_writes K.order fields vs ++ align ∷ []) c.args.writer.now c.from_residual.result c.append_fields.new.writer =
     rw (← c.fields.ensures.fields) (all_stop K _ _ _ _ _ _ (result_err c.from_residual.result c.from_residual.ensures.1) c.in_err-append_fields.ensures) in
-    record { calls = calls; adds = Adds-packed K fields vs _ _ _ c.fields.ensures.is_layout c.requires.fit calls }
+    record { calls = calls; adds = WritesBits-packed K fields vs _ _ _ c.fields.ensures.is_layout c.requires.fit calls }
 
 pub returns : goal.returns
 returns g c =
@@ -22,4 +22,4 @@ returns g c =
     let vs = c.args.values.now in
     let calls : WritesAll K (field_writes K.order fields vs ++ align ∷ []) c.args.writer.now c.byte_align.result c.byte_align.new.self =
     rw (← c.fields.ensures.fields) (all_append K _ _ _ _ _ _ c.in_ok-append_fields.ensures (all_one K _ _ _ _ c.byte_align.ensures.writes)) in
-    record { calls = calls; adds = Adds-packed K fields vs _ _ _ c.fields.ensures.is_layout c.requires.fit calls }
+    record { calls = calls; adds = WritesBits-packed K fields vs _ _ _ c.fields.ensures.is_layout c.requires.fit calls }
