@@ -13,14 +13,18 @@ pub fn words_hold_numbers()
     ensures length { (o : Order) (n v : ℕ) → length (word o n v) ≡ n }
     ensures number { (o : Order) (n v : ℕ) → number o (word o n v) ≡ v % 2 ^ n }
     ensures word { (o : Order) (w : List Bool) → word o (length w) (number o w) ≡ w }
-    ensures same { (o : Order) (n u v : ℕ) → u < 2 ^ n → v < 2 ^ n → word o n u ≡ word o n v → u ≡ v }
-    ensures signed { (o : Order) (n : ℕ) (x : ℤ) → 0 < n → FitsSignedBits n x → signed_number o (signed_word o n x) ≡ x }
+    ensures same { (o : Order) (n u v : ℕ) → u < 2 ^ n → v < 2 ^ n
+        → word o n u ≡ word o n v → u ≡ v }
+    ensures signed { (o : Order) (n : ℕ) (x : ℤ) → 0 < n → FitsSignedBits n x
+        → signed_number o (signed_word o n x) ≡ x }
 {}
 
 /// To read some bits as one number is to read them as two.
 pub fn words_split()
-    ensures high { (first second : List Bool) → number High (first ++ second) ≡ number High first * 2 ^ length second + number High second }
-    ensures low { (first second : List Bool) → number Low (first ++ second) ≡ number Low first + number Low second * 2 ^ length first }
+    ensures high { (first second : List Bool) → number High (first ++ second)
+        ≡ number High first * 2 ^ length second + number High second }
+    ensures low { (first second : List Bool) → number Low (first ++ second)
+        ≡ number Low first + number Low second * 2 ^ length first }
 {}
 
 /// A number's bytes have the bits of its word.
@@ -28,7 +32,8 @@ pub fn bytes_are_words()
     ensures { (o : Order) (n v : ℕ) → bits o (bytes o n v) ≡ word o (8 * n) v }
 {}
 
-/// Each number of either sign has a number of its own in the order 0, -1, 1, -2, 2, .., and none is left out.
+/// Each number of either sign has a number of its own in the order 0, -1, 1, -2, 2, .., and none is
+/// left out.
 pub fn zigzags_go_back()
     ensures signed { (x : ℤ) → zag (zig x) ≡ x }
     ensures unsigned { (n : ℕ) → zig (zag n) ≡ n }

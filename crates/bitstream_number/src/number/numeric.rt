@@ -9,7 +9,7 @@ use std::ops::{
     BitAnd, BitOr, BitOrAssign, BitXor, Not, Rem, RemAssign, Shl, ShlAssign, Shr, ShrAssign, Sub,
 };
 
-/// An integer type.
+/// An integer type, of either sign.
 pub trait Numeric: Primitive
     + Copy
     + Default
@@ -27,17 +27,17 @@ pub trait Numeric: Primitive
     + BitXor<Self, Output = Self>
     + Not<Output = Self>
     + Sub<Self, Output = Self> {
-    /// Size of type in bits
+    /// How many bits a value has.
     const BITS_SIZE: u32;
 
     ghost BITS_SIZE: { ℕ };
 
-    /// The value of 0 in this type
+    /// The value 0.
     const ZERO: Self;
 
     ghost ZERO: { Self };
 
-    /// The value of 1 in this type
+    /// The value 1.
     const ONE: Self;
 
     ghost ONE: { Self };
@@ -49,15 +49,16 @@ pub trait Numeric: Primitive
 
     ghost wrap: { ℤ → ℤ };
 
-    /// A value's number is one that the type has.
+    /// Does nothing when the program runs. Its contract says that a value's number is one that the
+    /// type has.
     fn known(self)
         ensures { fits (integer self) };
 
-    /// Returns a `u8` value in this type
+    /// Returns the value of a byte's number. `i8` keeps it modulo 256.
     fn from_u8(u: u8) -> Self
         ensures { integer result ≡ wrap (pos u) };
 
-    /// Assuming 0 <= value < 256, returns this value as a `u8` type
+    /// Returns the byte of this number, which is from 0 to 255.
     fn to_u8(self) -> u8
         requires { (n : ℕ) × (n < 256) × (integer self ≡ pos n) }
         ensures { integer self ≡ pos result };
@@ -74,7 +75,8 @@ pub trait Numeric: Primitive
 
     ghost eq_law: { (a b : Self) → IsTrue (Self.eq a b) ↔ (integer a ≡ integer b) };
 
-    ghost order_law: { (a b : Self) → Self.partial_cmp a b ≡ Some (int_cmp (integer a) (integer b)) };
+    ghost order_law: { (a b : Self)
+        → Self.partial_cmp a b ≡ Some (int_cmp (integer a) (integer b)) };
 
     // The operators on bits may always be used, and a shift below the size.
     ghost can_shl_law: { (a : Self) (k : ℕ) → k < BITS_SIZE → Self.can_shl a k };
@@ -92,21 +94,26 @@ pub trait Numeric: Primitive
     // A difference that fits may be computed, and is exact.
     ghost can_sub_law: { (a b : Self) → fits (integer a -ℤ integer b) → Self.can_sub a b };
 
-    ghost sub_law: { (a b r : Self) → Self.sub_gives a b r → fits (integer a -ℤ integer b) → integer r ≡ integer a -ℤ integer b };
+    ghost sub_law: { (a b r : Self) → Self.sub_gives a b r → fits (integer a -ℤ integer b)
+        → integer r ≡ integer a -ℤ integer b };
 
     // A remainder by a number other than 0 and -1 may be computed.
-    ghost can_rem_law: { (a b : Self) → fits (integer a) → fits (integer b) → integer b ≢ pos 0 → integer b ≢ negsuc 0 → Self.can_rem a b };
+    ghost can_rem_law: { (a b : Self) → fits (integer a) → fits (integer b)
+        → integer b ≢ pos 0 → integer b ≢ negsuc 0 → Self.can_rem a b };
 
-    ghost rem_law: { (a b r : Self) → Self.rem_gives a b r → integer r ≡ int_rem (integer a) (integer b) };
+    ghost rem_law: { (a b r : Self) → Self.rem_gives a b r
+        → integer r ≡ int_rem (integer a) (integer b) };
 
     // An operator with `=` asks and gives what the one without does.
     ghost can_shl_assign_law: { (a : Self) (k : ℕ) → Self.can_shl a k → Self.can_shl_assign a k };
 
-    ghost shl_assign_law: { (a : Self) (k : ℕ) (r : Self) → Self.shl_assign_gives a k r → Self.shl_gives a k r };
+    ghost shl_assign_law: { (a : Self) (k : ℕ) (r : Self) → Self.shl_assign_gives a k r
+        → Self.shl_gives a k r };
 
     ghost can_shr_assign_law: { (a : Self) (k : ℕ) → Self.can_shr a k → Self.can_shr_assign a k };
 
-    ghost shr_assign_law: { (a : Self) (k : ℕ) (r : Self) → Self.shr_assign_gives a k r → Self.shr_gives a k r };
+    ghost shr_assign_law: { (a : Self) (k : ℕ) (r : Self) → Self.shr_assign_gives a k r
+        → Self.shr_gives a k r };
 
     ghost can_rem_assign_law: { (a b : Self) → Self.can_rem a b → Self.can_rem_assign a b };
 
@@ -114,5 +121,6 @@ pub trait Numeric: Primitive
 
     ghost can_bitor_assign_law: { (a b : Self) → Self.can_bitor_assign a b };
 
-    ghost bitor_assign_law: { (a b r : Self) → Self.bitor_assign_gives a b r → Self.bitor_gives a b r };
+    ghost bitor_assign_law: { (a b r : Self) → Self.bitor_assign_gives a b r
+        → Self.bitor_gives a b r };
 }

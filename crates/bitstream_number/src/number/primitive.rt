@@ -10,11 +10,11 @@ pub trait Buffer: Copy {
 
     ghost of: { List ℕ → Self };
 
-    /// The bytes.
+    /// Returns the bytes.
     fn bytes(&self) -> &[u8]
         ensures { result.now ≡ items self.now };
 
-    /// The bytes, to be written.
+    /// Returns the bytes, to be written.
     fn bytes_mut(&mut self) -> &mut [u8]
         ensures value { result.now ≡ items self.old }
         ensures* writes_back { sem 𝓛 (Lends Self.row (Array byte 0) self.entry result of) };
@@ -54,39 +54,40 @@ pub trait Primitive: Sized {
 
     ghost le_bytes: { Self → List ℕ };
 
-    /// A buffer of its size, to be filled.
+    /// Returns a buffer of its size, to be filled.
     fn buffer() -> Self::Bytes
         ensures { length (Self.Bytes.items result) ≡ BYTES };
 
-    /// Its bytes, the highest first.
+    /// Returns its bytes, the highest first.
     fn to_be_bytes(self) -> Self::Bytes
         ensures bytes { Self.Bytes.items result ≡ be_bytes self }
         ensures len { length (Self.Bytes.items result) ≡ BYTES };
 
-    /// Its bytes, the lowest first.
+    /// Returns its bytes, the lowest first.
     fn to_le_bytes(self) -> Self::Bytes
         ensures bytes { Self.Bytes.items result ≡ le_bytes self }
         ensures len { length (Self.Bytes.items result) ≡ BYTES };
 
-    /// The value that has these bytes, the highest first.
+    /// Returns the value that has these bytes, the highest first.
     fn from_be_bytes(bytes: Self::Bytes) -> Self
         ensures { be_bytes result ≡ Self.Bytes.items bytes };
 
-    /// The value that has these bytes, the lowest first.
+    /// Returns the value that has these bytes, the lowest first.
     fn from_le_bytes(bytes: Self::Bytes) -> Self
         ensures { le_bytes result ≡ Self.Bytes.items bytes };
 
-    /// The bytes in a buffer.
+    /// Returns the bytes in a buffer.
     final fn as_bytes(bytes: &Self::Bytes) -> &[u8]
         ensures { result.now ≡ Self.Bytes.items bytes.now }
     {
         bytes.bytes()
     }
 
-    /// The bytes in a buffer, to be written.
+    /// Returns the bytes in a buffer, to be written.
     final fn as_bytes_mut(bytes: &mut Self::Bytes) -> &mut [u8]
         ensures value { result.now ≡ Self.Bytes.items bytes.old }
-        ensures* writes_back { sem 𝓛 (Lends Self.Bytes.row (Array byte 0) bytes.entry result Self.Bytes.of) }
+        ensures* writes_back { sem 𝓛
+            (Lends Self.Bytes.row (Array byte 0) bytes.entry result Self.Bytes.of) }
     {
         bytes.bytes_mut()
     }

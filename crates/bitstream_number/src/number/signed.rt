@@ -8,21 +8,22 @@ use crate::number::numeric::Numeric;
 use crate::number::unsigned::UnsignedInteger;
 use crate::number::width::Width;
 
-/// A signed integer type.
+/// A signed integer type: `i8`, `i16`, `i32`, `i64` or `i128`.
 pub trait SignedInteger: Numeric {
-    /// The unsigned type of this size
+    /// The unsigned type of as many bits.
     type Unsigned: UnsignedInteger<Signed = Self>;
 
-    /// Whether this value is below 0
+    /// Returns whether the number is below 0.
     fn is_negative(self) -> bool
         ensures { IsTrue result ↔ (Self.integer self <ℤ pos 0) };
 
-    /// This value as an unsigned number
+    /// Returns the number, which is not below 0, in the unsigned type.
     fn as_non_negative(self) -> Self::Unsigned
         requires { pos 0 ≤ℤ Self.integer self }
         ensures { pos (Self.Unsigned.value result) ≡ Self.integer self };
 
-    /// This value and 2^(bits - 1)
+    /// Returns the sum of the number, which is below 0, and 2^(bits - 1): its two's complement in
+    /// so many bits without the sign bit.
     fn as_negative(self, bits: u32) -> Self::Unsigned
         requires some { 1 ≤ bits }
         requires within { bits ≤ Self.BITS_SIZE }
@@ -30,7 +31,7 @@ pub trait SignedInteger: Numeric {
         requires above { pos 0 ≤ℤ (Self.integer self +ℤ pos (2 ^ (bits - 1))) }
         ensures { pos (Self.Unsigned.value result) ≡ Self.integer self +ℤ pos (2 ^ (bits - 1)) };
 
-    /// As `as_negative`, at a fixed number of bits
+    /// Returns what [`as_negative`](SignedInteger::as_negative) does at as many bits as B says.
     fn as_negative_fixed<B: Width>(self) -> Self::Unsigned
         requires some { 1 ≤ B.BITS }
         requires within { B.BITS ≤ Self.BITS_SIZE }
@@ -49,13 +50,17 @@ pub trait SignedInteger: Numeric {
 
     ghost fits_law: { (z : ℤ) → Self.fits z ↔ FitsSignedBits Self.BITS_SIZE z };
 
-    ghost wrap_law: { (n : ℕ) → Self.wrap (pos n) ≡ signed_from Self.BITS_SIZE (n % 2 ^ Self.BITS_SIZE) };
+    ghost wrap_law: { (n : ℕ)
+        → Self.wrap (pos n) ≡ signed_from Self.BITS_SIZE (n % 2 ^ Self.BITS_SIZE) };
 
     // A shift to the right rounds down.
-    ghost shr_law: { (a : Self) (k : ℕ) (r : Self) → Self.shr_gives a k r → Self.integer r ≡ int.int_shr (Self.integer a) k };
+    ghost shr_law: { (a : Self) (k : ℕ) (r : Self) → Self.shr_gives a k r
+        → Self.integer r ≡ int.int_shr (Self.integer a) k };
 
     // The bytes are those of the number modulo 2^BITS_SIZE.
-    ghost be_law: { (x : Self) → Self.fits (Self.integer x) → Self.be_bytes x ≡ bytes High Self.BYTES (residue Self.BITS_SIZE (Self.integer x)) };
+    ghost be_law: { (x : Self) → Self.fits (Self.integer x)
+        → Self.be_bytes x ≡ bytes High Self.BYTES (residue Self.BITS_SIZE (Self.integer x)) };
 
-    ghost le_law: { (x : Self) → Self.fits (Self.integer x) → Self.le_bytes x ≡ bytes Low Self.BYTES (residue Self.BITS_SIZE (Self.integer x)) };
+    ghost le_law: { (x : Self) → Self.fits (Self.integer x)
+        → Self.le_bytes x ≡ bytes Low Self.BYTES (residue Self.BITS_SIZE (Self.integer x)) };
 }

@@ -8,32 +8,34 @@ ghost use Rattle.bitstream_number.specs.Word.{High, Low, bytes};
 use crate::number::numeric::Numeric;
 use crate::number::width::Width;
 
-/// An unsigned integer type.
+/// An unsigned integer type: `u8`, `u16`, `u32`, `u64` or `u128`.
 ///
 /// # Examples
 ///
 /// ```
+/// use bitstream_io::UnsignedInteger;
+///
 /// assert_eq!(rt; UnsignedInteger::checked_shl(3u8, 7), Some(128));
 /// assert_eq!(rt; UnsignedInteger::checked_shl(3u8, 8), None);
 /// assert_eq!(rt; UnsignedInteger::shl_default(3u8, 8), 0);
 /// ```
 pub trait UnsignedInteger: Numeric {
-    /// This type's most-significant bit
+    /// The value whose highest bit alone is 1.
     const MSB_BIT: Self;
 
     ghost MSB_BIT: { Self };
 
-    /// This type's least significant bit
+    /// The value whose lowest bit alone is 1.
     const LSB_BIT: Self;
 
     ghost LSB_BIT: { Self };
 
-    /// This type with all bits set
+    /// The value whose bits are all 1, the greatest one.
     const ALL: Self;
 
     ghost ALL: { Self };
 
-    /// The signed type of this size
+    /// The signed type of as many bits.
     type Signed: Copy;
 
     // The number of a value, the value of a number, and the number of a signed value.
@@ -43,19 +45,20 @@ pub trait UnsignedInteger: Numeric {
 
     ghost signed: { Self.Signed → ℤ };
 
-    /// This value as a signed number
+    /// Returns the number, whose highest bit is 0, in the signed type.
     fn as_non_negative(self) -> Self::Signed
         requires { value self < 2 ^ (Self.BITS_SIZE - 1) }
         ensures { signed result ≡ pos (value self) };
 
-    /// This value less 2^(bits - 1)
+    /// Returns the number less 2^(bits - 1), which is below 0: the number whose two's complement in
+    /// so many bits is a sign bit and then these.
     fn as_negative(self, bits: u32) -> Self::Signed
         requires some { 1 ≤ bits }
         requires within { bits ≤ Self.BITS_SIZE }
         requires below { value self < 2 ^ (bits - 1) }
         ensures { signed result ≡ pos (value self) -ℤ pos (2 ^ (bits - 1)) };
 
-    /// As `as_negative`, at a fixed number of bits
+    /// Returns what [`as_negative`](UnsignedInteger::as_negative) does at as many bits as B says.
     fn as_negative_fixed<B: Width>(self) -> Self::Signed
         requires some { 1 ≤ B.BITS }
         requires within { B.BITS ≤ Self.BITS_SIZE }
@@ -65,15 +68,16 @@ pub trait UnsignedInteger: Numeric {
         self.as_negative(B::BITS)
     }
 
-    /// Checked shift left
+    /// Returns the value shifted to the left, or `None` where that is by its size or more.
     fn checked_shl(self, rhs: u32) -> Option<Self>
-        ensures { SomeIff result (rhs < Self.BITS_SIZE) (of ((value self * 2 ^ rhs) % 2 ^ Self.BITS_SIZE)) };
+        ensures { SomeIff result (rhs < Self.BITS_SIZE)
+            (of ((value self * 2 ^ rhs) % 2 ^ Self.BITS_SIZE)) };
 
-    /// Checked shift right
+    /// Returns the value shifted to the right, or `None` where that is by its size or more.
     fn checked_shr(self, rhs: u32) -> Option<Self>
         ensures { SomeIff result (rhs < Self.BITS_SIZE) (of (value self / 2 ^ rhs)) };
 
-    /// Shift left, and 0 from the size on
+    /// Returns the value shifted to the left, which is 0 where that is by its size or more.
     fn shl_default(self, rhs: u32) -> Self
         ensures { value result ≡ (value self * 2 ^ rhs) % 2 ^ Self.BITS_SIZE }
     {
@@ -83,7 +87,7 @@ pub trait UnsignedInteger: Numeric {
         }
     }
 
-    /// Shift right, and 0 from the size on
+    /// Returns the value shifted to the right, which is 0 where that is by its size or more.
     fn shr_default(self, rhs: u32) -> Self
         ensures { value result ≡ value self / 2 ^ rhs }
     {
@@ -102,10 +106,12 @@ pub trait UnsignedInteger: Numeric {
 
     ghost eq_value_law: { (a b : Self) → IsTrue (Self.eq a b) ↔ (value a ≡ value b) };
 
-    ghost order_value_law: { (a b : Self) → Self.partial_cmp a b ≡ Some (nat_cmp (value a) (value b)) };
+    ghost order_value_law: { (a b : Self)
+        → Self.partial_cmp a b ≡ Some (nat_cmp (value a) (value b)) };
 
     // The number of a byte, and that a value is one of the type's.
-    ghost byte_law: { (x : Self) (u : ℕ) → Self.integer x ≡ Self.wrap (pos u) → u < 256 → value x ≡ u };
+    ghost byte_law: { (x : Self) (u : ℕ) → Self.integer x ≡ Self.wrap (pos u) → u < 256
+        → value x ≡ u };
 
     ghost known_law: { (x : Self) → Self.fits (Self.integer x) → value x < 2 ^ Self.BITS_SIZE };
 
@@ -124,21 +130,29 @@ pub trait UnsignedInteger: Numeric {
     ghost ALL_law: { value ALL ≡ 2 ^ Self.BITS_SIZE - 1 };
 
     // The bytes are the number's digits.
-    ghost be_law: { (x : Self) → value x < 2 ^ Self.BITS_SIZE → Self.be_bytes x ≡ bytes High Self.BYTES (value x) };
+    ghost be_law: { (x : Self) → value x < 2 ^ Self.BITS_SIZE
+        → Self.be_bytes x ≡ bytes High Self.BYTES (value x) };
 
-    ghost le_law: { (x : Self) → value x < 2 ^ Self.BITS_SIZE → Self.le_bytes x ≡ bytes Low Self.BYTES (value x) };
+    ghost le_law: { (x : Self) → value x < 2 ^ Self.BITS_SIZE
+        → Self.le_bytes x ≡ bytes Low Self.BYTES (value x) };
 
-    ghost shl_law: { (a : Self) (k : ℕ) (r : Self) → Self.shl_gives a k r → value r ≡ (value a * 2 ^ k) % 2 ^ Self.BITS_SIZE };
+    ghost shl_law: { (a : Self) (k : ℕ) (r : Self) → Self.shl_gives a k r
+        → value r ≡ (value a * 2 ^ k) % 2 ^ Self.BITS_SIZE };
 
-    ghost shr_law: { (a : Self) (k : ℕ) (r : Self) → Self.shr_gives a k r → value r ≡ value a / 2 ^ k };
+    ghost shr_law: { (a : Self) (k : ℕ) (r : Self) → Self.shr_gives a k r
+        → value r ≡ value a / 2 ^ k };
 
-    ghost and_law: { (a b r : Self) → Self.bitand_gives a b r → value r ≡ bit_and (value a) (value b) };
+    ghost and_law: { (a b r : Self) → Self.bitand_gives a b r
+        → value r ≡ bit_and (value a) (value b) };
 
-    ghost or_law: { (a b r : Self) → Self.bitor_gives a b r → value r ≡ bit_or (value a) (value b) };
+    ghost or_law: { (a b r : Self) → Self.bitor_gives a b r
+        → value r ≡ bit_or (value a) (value b) };
 
-    ghost xor_law: { (a b r : Self) → Self.bitxor_gives a b r → value r ≡ bit_xor (value a) (value b) };
+    ghost xor_law: { (a b r : Self) → Self.bitxor_gives a b r
+        → value r ≡ bit_xor (value a) (value b) };
 
-    ghost not_law: { (a r : Self) → Self.not_gives a r → value r ≡ 2 ^ Self.BITS_SIZE - 1 - value a };
+    ghost not_law: { (a r : Self) → Self.not_gives a r
+        → value r ≡ 2 ^ Self.BITS_SIZE - 1 - value a };
 
     ghost can_sub_value_law: { (a b : Self) → value b ≤ value a → Self.can_sub a b };
 

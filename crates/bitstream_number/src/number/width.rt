@@ -10,13 +10,13 @@ mod sealed {
 
 /// A number of bits that a type stands for. `Bits<N>` alone is one.
 pub trait Width: sealed::Sealed {
-    /// The number of bits.
+    /// How many bits the type stands for.
     const BITS: u32;
 
     ghost BITS: { ℕ };
 }
 
-/// The number N, as a type: a trait's method takes it where a function would take a const parameter.
+/// N bits, as a type: a trait's method takes it where a function would take a const parameter.
 pub struct Bits<const N: u32>;
 
 impl<const N: u32> Width for Bits<N> {
