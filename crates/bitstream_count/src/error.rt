@@ -59,7 +59,7 @@ pub enum Error {
 }
 
 impl Error {
-    /// The kind of `io::Error` that stands for this error.
+    /// Returns the kind of `io::Error` that stands for this error.
     pub fn kind(&self) -> ErrorKind
         ensures { result ≡ kind_of self.now }
     {

@@ -18,6 +18,8 @@ use std::ops::RangeInclusive;
 /// # Examples
 ///
 /// ```
+/// use bitstream_io::{BitCount, Count};
+///
 /// let count = BitCount::<8>::new::<5>();
 /// assert_eq!(rt; count.checked_add::<16>(11).map(|sum| sum.bits()), Some(16));
 /// assert_eq!(rt; count.checked_add::<16>(12).map(|sum| sum.bits()), None);
@@ -40,7 +42,7 @@ impl<const MAX: u32> Model for BitCount<MAX> {
 }
 
 impl<const MAX: u32> BitCount<MAX> {
-    /// BITS bits.
+    /// Returns a count of BITS bits.
     pub fn new<const BITS: u32>() -> Self
         requires { BITS ≤ MAX }
         ensures { result ≡ BITS }
@@ -48,7 +50,7 @@ impl<const MAX: u32> BitCount<MAX> {
         BitCount { bits: BITS }
     }
 
-    /// So many bits more, or `None` where that is above NEW_MAX.
+    /// Returns a count of so many bits more, or `None` where that is above NEW_MAX.
     pub fn checked_add<const NEW_MAX: u32>(self, bits: u32) -> Option<BitCount<NEW_MAX>>
         ensures { SomeIff result (self.entry + bits ≤ NEW_MAX) (self.entry + bits) }
     {
@@ -58,9 +60,10 @@ impl<const MAX: u32> BitCount<MAX> {
         }
     }
 
-    /// So many bits fewer, or `None` where that is below 0 or above NEW_MAX.
+    /// Returns a count of so many bits fewer, or `None` where that is below 0 or above NEW_MAX.
     pub fn checked_sub<const NEW_MAX: u32>(self, bits: u32) -> Option<BitCount<NEW_MAX>>
-        ensures { SomeIff result ((bits ≤ self.entry) × (self.entry - bits ≤ NEW_MAX)) (self.entry - bits) }
+        ensures { SomeIff result ((bits ≤ self.entry) × (self.entry - bits ≤ NEW_MAX))
+            (self.entry - bits) }
     {
         match self.bits.checked_sub(bits) {
             Some(left) if left <= NEW_MAX => Some(BitCount { bits: left }),
@@ -68,13 +71,15 @@ impl<const MAX: u32> BitCount<MAX> {
         }
     }
 
-    /// The number of bits that f makes of this one, or `None` where f does or that is above NEW_MAX.
+    /// Returns a count of the bits that f makes of this number of them, or `None` where f returns
+    /// that or a number above NEW_MAX.
     pub fn try_map<const NEW_MAX: u32, F: FnOnce(u32) -> Option<u32>>(
         self,
         f: F,
     ) -> Option<BitCount<NEW_MAX>>
         requires { F.pre f self }
-        ensures { (made : Option ℕ) × F.post f self.entry made × (result ≡ in_range 0 NEW_MAX made) }
+        ensures { (made : Option ℕ) × F.post f self.entry made
+            × (result ≡ in_range 0 NEW_MAX made) }
     {
         match f(self.bits) {
             Some(bits) if bits <= NEW_MAX => Some(BitCount { bits }),
@@ -82,14 +87,14 @@ impl<const MAX: u32> BitCount<MAX> {
         }
     }
 
-    /// The greatest number of bits, MAX.
+    /// Returns the greatest number of bits, MAX.
     pub fn max(&self) -> u32
         ensures { result ≡ MAX }
     {
         MAX
     }
 
-    /// This number of bits, or the given one where that is less.
+    /// Returns this count, or one of the given bits where they are fewer.
     pub fn min(self, bits: u32) -> Self
         ensures { result ≡ min self.entry bits }
     {
@@ -98,7 +103,7 @@ impl<const MAX: u32> BitCount<MAX> {
         }
     }
 
-    /// The value with none of these bits set, 0.
+    /// Returns the number 0, with this count.
     pub fn none<U: UnsignedInteger>(self) -> CheckedUnsigned<MAX, U>
         requires { self ≤ U.BITS_SIZE }
         ensures count { result.0 ≡ self.entry }
@@ -107,7 +112,7 @@ impl<const MAX: u32> BitCount<MAX> {
         Checked::of_unsigned(self, U::ZERO)
     }
 
-    /// The value with all of these bits set, 2^n - 1.
+    /// Returns the greatest number of so many bits, 2^n - 1, with this count.
     pub fn all<U: UnsignedInteger>(self) -> CheckedUnsigned<MAX, U>
         requires { self ≤ U.BITS_SIZE }
         ensures count { result.0 ≡ self.entry }
@@ -116,7 +121,8 @@ impl<const MAX: u32> BitCount<MAX> {
         Checked::of_unsigned(self, lowest_bits(self.bits))
     }
 
-    /// The numbers of so many bits that U has: 0 to 2^n - 1, or all of U where n is its size or more.
+    /// Returns the numbers of so many bits that U has: 0 to 2^n - 1, or all of U where n is its
+    /// size or more.
     pub fn range<U: UnsignedInteger>(&self) -> RangeInclusive<U>
         ensures start { U.value result.start ≡ 0 }
         ensures end { U.value result.end ≡ 2 ^ (min self.now U.BITS_SIZE) - 1 }
@@ -128,7 +134,7 @@ impl<const MAX: u32> BitCount<MAX> {
 }
 
 impl BitCount<4294967295> {
-    /// So many bits, known only when the program runs.
+    /// Returns a count of so many bits, known only when the program runs.
     pub fn unknown(bits: u32) -> Self
         ensures { result ≡ bits }
     {
@@ -159,9 +165,14 @@ impl<const MAX: u32> Count for BitCount<MAX> {
 impl<const MAX: u32> TryFrom<u32> for BitCount<MAX> {
     type Error = u32;
 
-    ghost try_from_gives = { λ n r. MatchResult r (λ c. (n ≤ MAX) × (c ≡ n)) (λ e. (MAX < n) × (e ≡ n)) };
+    ghost try_from_gives = { λ n r. MatchResult r
+        (λ c. (n ≤ MAX) × (c ≡ n)) (λ e. (MAX < n) × (e ≡ n)) };
 
-    /// So many bits, or the number again where it is above MAX.
+    /// Returns a count of so many bits.
+    ///
+    /// # Errors
+    ///
+    /// The number again where it is above MAX.
     fn try_from(bits: u32) -> Result<BitCount<MAX>, u32> {
         BitCount::of(bits).ok_or(bits)
     }

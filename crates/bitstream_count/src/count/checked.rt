@@ -39,6 +39,8 @@ impl<const BITS: u32, S: SignedInteger> Holds<S> for FixedSignedBitCount<BITS> {
 /// # Examples
 ///
 /// ```
+/// use bitstream_io::{BitCount, CheckedError, CheckedUnsigned};
+///
 /// let count = BitCount::<8>::new::<3>();
 /// let value = CheckedUnsigned::new(count, 7u8);
 /// assert_eq!(rt; value.map(|v| v.into_value()).ok(), Some(7));
@@ -86,7 +88,7 @@ pub type CheckedUnsignedFixed<const BITS: u32, T> = Checked<FixedBitCount<BITS>,
 pub type CheckedSignedFixed<const BITS: u32, T> = Checked<FixedSignedBitCount<BITS>, T>;
 
 impl<C: Holds<T> + Copy, T: Copy> Checked<C, T> {
-    /// The count and the value.
+    /// Returns the count and the value.
     pub fn into_count_value(self) -> (C, T)
         ensures count { result.0 ≡ self.0 }
         ensures value { result.1 ≡ self.1 }
@@ -95,7 +97,7 @@ impl<C: Holds<T> + Copy, T: Copy> Checked<C, T> {
         (self.count, self.value)
     }
 
-    /// The value.
+    /// Returns the value.
     pub fn into_value(self) -> T
         ensures value { result ≡ self.1 }
         ensures holds { C.holds self.0 result }
@@ -103,7 +105,7 @@ impl<C: Holds<T> + Copy, T: Copy> Checked<C, T> {
         self.value
     }
 
-    /// The value, lent.
+    /// Returns the value by reference.
     pub fn as_ref(&self) -> &T
         ensures value { result.now ≡ self.now.1 }
         ensures holds { C.holds self.now.0 result.now }
@@ -112,10 +114,15 @@ impl<C: Holds<T> + Copy, T: Copy> Checked<C, T> {
     }
 }
 
-/// The value as it is kept at so many bits, which is 0 at 0 bits.
+/// Returns the value as it is kept at so many bits, which is 0 at 0 bits.
+///
+/// # Errors
+///
+/// `ExcessiveBits` where U has fewer bits, `ExcessiveValue` where the value takes more.
 fn check_unsigned<U: UnsignedInteger>(bits: u32, value: U) -> Result<U, CheckedError>
     ensures { MatchResult result
-        (λ v. AcceptsUnsigned U.BITS_SIZE bits (U.value value) × (U.value v ≡ U.value value % 2 ^ bits))
+        (λ v. AcceptsUnsigned U.BITS_SIZE bits (U.value value)
+        × (U.value v ≡ U.value value % 2 ^ bits))
         (RefusesUnsigned U.BITS_SIZE bits (U.value value)) }
 {
     if bits > U::BITS_SIZE {
@@ -129,13 +136,18 @@ fn check_unsigned<U: UnsignedInteger>(bits: u32, value: U) -> Result<U, CheckedE
     }
 }
 
+/// Returns -1.
 fn negative_one<S: SignedInteger>() -> S
     ensures { S.integer result ≡ negsuc 0 }
 {
     S::ZERO - S::ONE
 }
 
-/// The value, where so many bits hold it.
+/// Returns the value, where so many bits hold it.
+///
+/// # Errors
+///
+/// `ExcessiveBits` where S has fewer bits, `ExcessiveValue` where the value takes more.
 fn check_signed<S: SignedInteger>(bits: u32, value: S) -> Result<S, CheckedError>
     requires { 1 ≤ bits }
     ensures { MatchResult result
@@ -163,25 +175,33 @@ impl<const MAX: u32, U: UnsignedInteger> Checked<BitCount<MAX>, U> {
         Checked { count, value }
     }
 
-    /// The value with this count. At 0 bits any value is accepted, and 0 is kept.
+    /// Returns the value with this count. At 0 bits any value is accepted, and 0 is kept.
     ///
-    /// `ExcessiveBits` where U has fewer bits than the count, else `ExcessiveValue` where the
-    /// count does not hold the value.
+    /// # Errors
+    ///
+    /// `ExcessiveBits` where U has fewer bits than the count, else `ExcessiveValue` where the value
+    /// takes more.
     pub fn new(count: BitCount<MAX>, value: U) -> Result<Self, CheckedError>
         ensures { MatchResult result
-            (λ c. AcceptsUnsigned U.BITS_SIZE count.entry (U.value value) × (c.0 ≡ count.entry) × (U.value c.1 ≡ U.value value % 2 ^ count.entry))
+            (λ c. AcceptsUnsigned U.BITS_SIZE count.entry (U.value value) × (c.0 ≡ count.entry)
+            × (U.value c.1 ≡ U.value value % 2 ^ count.entry))
             (RefusesUnsigned U.BITS_SIZE count.entry (U.value value)) }
     {
         let value = check_unsigned(count.bits(), value)?;
         Ok(Checked { count, value })
     }
 
-    /// As `new` with BITS bits.
+    /// Returns the value with a count of BITS bits, which the type has.
+    ///
+    /// # Errors
+    ///
+    /// `ExcessiveValue` where the value takes more.
     pub fn new_fixed<const BITS: u32>(value: U) -> Result<Self, CheckedError>
         requires some { BITS ≤ MAX }
         requires within { BITS ≤ U.BITS_SIZE }
         ensures { MatchResult result
-            (λ c. AcceptsUnsigned U.BITS_SIZE BITS (U.value value) × (c.0 ≡ BITS) × (U.value c.1 ≡ U.value value % 2 ^ BITS))
+            (λ c. AcceptsUnsigned U.BITS_SIZE BITS (U.value value) × (c.0 ≡ BITS)
+            × (U.value c.1 ≡ U.value value % 2 ^ BITS))
             (RefusesUnsigned U.BITS_SIZE BITS (U.value value)) }
     {
         Self::new(BitCount::new::<BITS>(), value)
@@ -189,20 +209,27 @@ impl<const MAX: u32, U: UnsignedInteger> Checked<BitCount<MAX>, U> {
 }
 
 impl<const MAX: u32, S: SignedInteger> Checked<SignedBitCount<MAX>, S> {
-    /// The value with this count.
+    /// Returns the value with this count.
     ///
-    /// `ExcessiveBits` where S has fewer bits than the count, else `ExcessiveValue` where the
-    /// count does not hold the value.
+    /// # Errors
+    ///
+    /// `ExcessiveBits` where S has fewer bits than the count, else `ExcessiveValue` where the value
+    /// takes more.
     pub fn new(count: SignedBitCount<MAX>, value: S) -> Result<Self, CheckedError>
         ensures { MatchResult result
-            (λ c. HoldsSigned S.BITS_SIZE count.entry (S.integer value) × (c.0 ≡ count.entry) × (c.1 ≡ value))
+            (λ c. HoldsSigned S.BITS_SIZE count.entry (S.integer value)
+            × (c.0 ≡ count.entry) × (c.1 ≡ value))
             (RefusesSigned S.BITS_SIZE count.entry (S.integer value)) }
     {
         let value = check_signed(count.bits(), value)?;
         Ok(Checked { count, value })
     }
 
-    /// As `new` with BITS bits.
+    /// Returns the value with a count of BITS bits, which the type has.
+    ///
+    /// # Errors
+    ///
+    /// `ExcessiveValue` where the value takes more.
     pub fn new_fixed<const BITS: u32>(value: S) -> Result<Self, CheckedError>
         requires some { 1 ≤ BITS }
         requires most { BITS ≤ MAX }
@@ -216,13 +243,17 @@ impl<const MAX: u32, S: SignedInteger> Checked<SignedBitCount<MAX>, S> {
 }
 
 impl<const BITS: u32, U: UnsignedInteger> Checked<FixedBitCount<BITS>, U> {
-    /// The value with BITS bits. At 0 bits any value is accepted, and 0 is kept.
+    /// Returns the value with a count of BITS bits, which the type has. At 0 bits any value is
+    /// accepted, and 0 is kept.
     ///
-    /// `ExcessiveValue` where they do not hold the value.
+    /// # Errors
+    ///
+    /// `ExcessiveValue` where the value takes more.
     pub fn new_fixed(value: U) -> Result<Self, CheckedError>
         requires { BITS ≤ U.BITS_SIZE }
         ensures { MatchResult result
-            (λ c. AcceptsUnsigned U.BITS_SIZE BITS (U.value value) × (U.value c.1 ≡ U.value value % 2 ^ BITS))
+            (λ c. AcceptsUnsigned U.BITS_SIZE BITS (U.value value)
+            × (U.value c.1 ≡ U.value value % 2 ^ BITS))
             (RefusesUnsigned U.BITS_SIZE BITS (U.value value)) }
     {
         let value = check_unsigned(BITS, value)?;
@@ -232,9 +263,11 @@ impl<const BITS: u32, U: UnsignedInteger> Checked<FixedBitCount<BITS>, U> {
 }
 
 impl<const BITS: u32, S: SignedInteger> Checked<FixedSignedBitCount<BITS>, S> {
-    /// The value with BITS bits.
+    /// Returns the value with a count of BITS bits, which the type has.
     ///
-    /// `ExcessiveValue` where they do not hold the value.
+    /// # Errors
+    ///
+    /// `ExcessiveValue` where the value takes more.
     pub fn new_fixed(value: S) -> Result<Self, CheckedError>
         requires some { 1 ≤ BITS }
         requires within { BITS ≤ S.BITS_SIZE }

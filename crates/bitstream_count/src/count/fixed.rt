@@ -6,7 +6,7 @@ use crate::count::bit_count::BitCount;
 use crate::count::kinds::{Count, SignedCount};
 use crate::count::signed_bit_count::SignedBitCount;
 
-/// BITS bits.
+/// A count of BITS bits.
 #[derive(Copy, Clone, Debug)]
 pub struct FixedBitCount<const BITS: u32>;
 
@@ -23,7 +23,11 @@ impl<const BITS: u32, const MAX: u32> TryFrom<BitCount<MAX>> for FixedBitCount<B
 
     ghost try_from_gives = { λ c r. MatchResult r (λ _. c ≡ BITS) (λ e. (c ≢ BITS) × (e ≡ c)) };
 
-    /// The fixed count of so many bits, or the count again where that is another number.
+    /// Returns the count of BITS bits.
+    ///
+    /// # Errors
+    ///
+    /// The count again where it is of another number of bits.
     fn try_from(count: BitCount<MAX>) -> Result<FixedBitCount<BITS>, BitCount<MAX>> {
         if count.bits() == BITS {
             Ok(FixedBitCount)
@@ -33,7 +37,7 @@ impl<const BITS: u32, const MAX: u32> TryFrom<BitCount<MAX>> for FixedBitCount<B
     }
 }
 
-/// BITS bits, at least 1, of which one is the sign.
+/// A count of BITS bits, at least 1, of which one is the sign.
 #[derive(Copy, Clone, Debug)]
 pub struct FixedSignedBitCount<const BITS: u32> {
     ghost some: { 1 ≤ BITS },
@@ -52,7 +56,11 @@ impl<const BITS: u32, const MAX: u32> TryFrom<SignedBitCount<MAX>> for FixedSign
 
     ghost try_from_gives = { λ c r. MatchResult r (λ _. c ≡ BITS) (λ e. (c ≢ BITS) × (e ≡ c)) };
 
-    /// The fixed count of so many bits, or the count again where that is another number.
+    /// Returns the count of BITS bits.
+    ///
+    /// # Errors
+    ///
+    /// The count again where it is of another number of bits.
     fn try_from(
         count: SignedBitCount<MAX>,
     ) -> Result<FixedSignedBitCount<BITS>, SignedBitCount<MAX>> {

@@ -20,12 +20,12 @@ pub trait Count: sealed::Sealed + Copy {
 
     ghost number: { Self → ℕ };
 
-    /// The number of bits.
+    /// Returns how many bits it counts.
     fn bits(self) -> u32
         ensures value { result ≡ number self }
         ensures bound { result ≤ MAX };
 
-    /// A count of so many bits, or `None` where that is above `MAX`.
+    /// Returns a count of so many bits, or `None` where that is above `MAX`.
     fn of(bits: u32) -> Option<Self>
         ensures { MatchOption result (MAX < bits) (λ n. (bits ≤ MAX) × (number n ≡ bits)) };
 }
@@ -39,13 +39,14 @@ pub trait SignedCount: sealed::Sealed + Copy {
 
     ghost number: { Self → ℕ };
 
-    /// The number of bits, the sign among them.
+    /// Returns how many bits it counts, the sign's among them.
     fn bits(self) -> u32
         ensures value { result ≡ number self }
         ensures some { 1 ≤ result }
         ensures bound { result ≤ MAX };
 
-    /// A count of so many bits, or `None` where that is 0 or above `MAX`.
+    /// Returns a count of so many bits, or `None` where that is 0 or above `MAX`.
     fn of(bits: u32) -> Option<Self>
-        ensures { MatchOption result (IsOutside 1 MAX bits) (λ n. (1 ≤ bits) × (bits ≤ MAX) × (number n ≡ bits)) };
+        ensures { MatchOption result (IsOutside 1 MAX bits)
+            (λ n. (1 ≤ bits) × (bits ≤ MAX) × (number n ≡ bits)) };
 }

@@ -13,6 +13,8 @@ use std::marker::{Model, PhantomData};
 /// # Examples
 ///
 /// ```
+/// use bitstream_io::BitCount;
+///
 /// let (high, low) = BitCount::<8>::new::<3>().mask_lsb::<u8>().split(222);
 /// assert_eq!(rt; high, 27);
 /// assert_eq!(rt; low.into_value(), 6);
@@ -31,7 +33,7 @@ impl<const MAX: u32, U: UnsignedInteger> Model for LsbMask<MAX, U> {
     ghost invariant = { λ a. a.count ≤ U.BITS_SIZE };
 }
 
-/// The number whose lowest bits, so many of them, are set, and no others.
+/// Returns the number whose lowest bits, so many of them, are 1, and no others.
 pub(crate) fn lowest_bits<U: UnsignedInteger>(bits: u32) -> U
     requires { bits ≤ U.BITS_SIZE }
     ensures { U.value result ≡ 2 ^ bits - 1 }
@@ -40,7 +42,7 @@ pub(crate) fn lowest_bits<U: UnsignedInteger>(bits: u32) -> U
 }
 
 impl<const MAX: u32> BitCount<MAX> {
-    /// A split at this number of bits, or at the type's size where that is less.
+    /// Returns a split at this number of bits, or at the type's size where that is less.
     pub fn mask_lsb<U: UnsignedInteger>(self) -> LsbMask<MAX, U>
         ensures { result ≡ min self.entry U.BITS_SIZE }
     {
@@ -52,7 +54,7 @@ impl<const MAX: u32> BitCount<MAX> {
 }
 
 impl<const MAX: u32, U: UnsignedInteger> LsbMask<MAX, U> {
-    /// The number above the lowest bits, and the lowest bits.
+    /// Returns the number above the lowest bits, and the number that the lowest bits are.
     pub fn split(&self, v: U) -> (U, CheckedUnsigned<MAX, U>)
         ensures count { result.1.0 ≡ self.now }
         ensures split { U.value v ≡ U.value result.0 * 2 ^ self.now + U.value result.1.1 }

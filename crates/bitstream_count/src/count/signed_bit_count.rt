@@ -18,6 +18,8 @@ use std::ops::RangeInclusive;
 /// # Examples
 ///
 /// ```
+/// use bitstream_io::{SignedBitCount, SignedCount};
+///
 /// let count = SignedBitCount::<8>::new::<4>();
 /// let range = count.range::<i8>();
 /// assert_eq!(rt; (*range.start(), *range.end()), (-8, 7));
@@ -39,7 +41,7 @@ impl<const MAX: u32> Model for SignedBitCount<MAX> {
 }
 
 impl<const MAX: u32> BitCount<MAX> {
-    /// This number of bits with one for the sign, or `None` where it is 0.
+    /// Returns a count of as many bits, of which one is the sign, or `None` where they are 0.
     pub fn signed_count(&self) -> Option<SignedBitCount<MAX>>
         ensures { SomeIff result (0 < self.now) self.now }
     {
@@ -53,7 +55,7 @@ impl<const MAX: u32> BitCount<MAX> {
 }
 
 impl<const MAX: u32> SignedBitCount<MAX> {
-    /// BITS bits.
+    /// Returns a count of BITS bits.
     pub fn new<const BITS: u32>() -> Self
         requires some { 1 ≤ BITS }
         requires most { BITS ≤ MAX }
@@ -64,7 +66,7 @@ impl<const MAX: u32> SignedBitCount<MAX> {
         }
     }
 
-    /// So many bits more, or `None` where that is above NEW_MAX.
+    /// Returns a count of so many bits more, or `None` where that is above NEW_MAX.
     pub fn checked_add<const NEW_MAX: u32>(self, bits: u32) -> Option<SignedBitCount<NEW_MAX>>
         ensures { SomeIff result (self.entry + bits ≤ NEW_MAX) (self.entry + bits) }
     {
@@ -72,48 +74,52 @@ impl<const MAX: u32> SignedBitCount<MAX> {
         sum.signed_count()
     }
 
-    /// So many bits fewer, or `None` where that is below 1 or above NEW_MAX.
+    /// Returns a count of so many bits fewer, or `None` where that is below 1 or above NEW_MAX.
     pub fn checked_sub<const NEW_MAX: u32>(self, bits: u32) -> Option<SignedBitCount<NEW_MAX>>
-        ensures { SomeIff result ((bits < self.entry) × (self.entry - bits ≤ NEW_MAX)) (self.entry - bits) }
+        ensures { SomeIff result ((bits < self.entry) × (self.entry - bits ≤ NEW_MAX))
+            (self.entry - bits) }
     {
         let left = self.count.checked_sub::<NEW_MAX>(bits)?;
         left.signed_count()
     }
 
-    /// The number of bits that f makes of this one, or `None` where f does or that is 0 or above NEW_MAX.
+    /// Returns a count of the bits that f makes of this number of them, or `None` where f returns
+    /// that, 0 or a number above NEW_MAX.
     pub fn try_map<const NEW_MAX: u32, F: FnOnce(u32) -> Option<u32>>(
         self,
         f: F,
     ) -> Option<SignedBitCount<NEW_MAX>>
         requires { F.pre f self }
-        ensures { (made : Option ℕ) × F.post f self.entry made × (result ≡ in_range 1 NEW_MAX made) }
+        ensures { (made : Option ℕ) × F.post f self.entry made
+            × (result ≡ in_range 1 NEW_MAX made) }
     {
         let made = self.count.try_map::<NEW_MAX, F>(f)?;
         made.signed_count()
     }
 
-    /// The greatest number of bits, MAX.
+    /// Returns the greatest number of bits, MAX.
     pub fn max(&self) -> u32
         ensures { result ≡ MAX }
     {
         MAX
     }
 
-    /// This number of bits, the sign's among them.
+    /// Returns a count of as many bits, the sign's among them.
     pub fn count(&self) -> BitCount<MAX>
         ensures { result ≡ self.now }
     {
         self.count
     }
 
-    /// The number of bits beside the sign's, one less.
+    /// Returns a count of the bits beside the sign's, one fewer.
     pub fn unsigned_count(&self) -> BitCount<MAX>
         ensures { result ≡ self.now - 1 }
     {
         self.count.min(self.count.bits() - 1)
     }
 
-    /// The numbers of so many bits that S has: -2^(n-1) to 2^(n-1) - 1, or all of S where n is its size or more.
+    /// Returns the numbers of so many bits that S has: -2^(n-1) to 2^(n-1) - 1, or all of S where n
+    /// is its size or more.
     pub fn range<S: SignedInteger>(&self) -> RangeInclusive<S>
         ensures start { S.integer result.start ≡ pos 0 -ℤ pos (2 ^ (min self.now S.BITS_SIZE - 1)) }
         ensures end { S.integer result.end ≡ pos (2 ^ (min self.now S.BITS_SIZE - 1) - 1) }
@@ -148,7 +154,11 @@ impl<const MAX: u32> TryFrom<BitCount<MAX>> for SignedBitCount<MAX> {
 
     ghost try_from_gives = { λ c r. MatchResult r (λ s. (0 < c) × (s ≡ c)) (λ _. c ≡ 0) };
 
-    /// The count with one bit for the sign, refused at 0 bits.
+    /// Returns a count of as many bits, of which one is the sign.
+    ///
+    /// # Errors
+    ///
+    /// `()` where they are 0.
     fn try_from(count: BitCount<MAX>) -> Result<SignedBitCount<MAX>, ()> {
         count.signed_count().ok_or(())
     }
@@ -157,9 +167,14 @@ impl<const MAX: u32> TryFrom<BitCount<MAX>> for SignedBitCount<MAX> {
 impl<const MAX: u32> TryFrom<u32> for SignedBitCount<MAX> {
     type Error = u32;
 
-    ghost try_from_gives = { λ n r. MatchResult r (λ c. (1 ≤ n) × (n ≤ MAX) × (c ≡ n)) (λ e. IsOutside 1 MAX n × (e ≡ n)) };
+    ghost try_from_gives = { λ n r. MatchResult r
+        (λ c. (1 ≤ n) × (n ≤ MAX) × (c ≡ n)) (λ e. IsOutside 1 MAX n × (e ≡ n)) };
 
-    /// So many bits, or the number again where it is 0 or above MAX.
+    /// Returns a count of so many bits.
+    ///
+    /// # Errors
+    ///
+    /// The number again where it is 0 or above MAX.
     fn try_from(bits: u32) -> Result<SignedBitCount<MAX>, u32> {
         SignedBitCount::of(bits).ok_or(bits)
     }
