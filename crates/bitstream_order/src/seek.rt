@@ -24,7 +24,8 @@ pub trait SeekSource: Source {
     ///
     /// The source's own, as [`Seek::seek`] has them. It stays where it was then.
     fn seek(&mut self, to: SeekFrom) -> io::Result<u64>
-        ensures moves { SeekMoves (position self.old) (position self.new) (bytes self.old) to result }
+        ensures moves { SeekMoves (position self.old) (position self.new)
+            (bytes self.old) to result }
         ensures bytes { Keeps (bytes self.old) (bytes self.new) }
         ensures reference_names { Self.reference_names self.new ≡ Self.reference_names self.old }
         ensures refused { IfErr result (λ e. Self.refuses self.old 0 (error_kind e) self.new) };

@@ -39,8 +39,8 @@ pub fn send_piece<T: Target, E: Endianness, U: UnsignedInteger>(
     }
 }
 
-/// Sends the whole bytes behind the first `at` of the n bits of a value, and returns how many of the
-/// n have gone then: all but fewer than 8.
+/// Sends the whole bytes behind the first `at` of the n bits of a value, and returns how many of
+/// the n have gone then: all but fewer than 8.
 ///
 /// # Errors
 ///
@@ -112,8 +112,8 @@ pub fn send_first<T: Target, E: Endianness, U: UnsignedInteger>(
     }
 }
 
-/// Sends as many bytes as a queue of bits makes with the n bits of a value behind it, and returns how
-/// many of the n have gone then: all but fewer than 8. It makes two requests at most.
+/// Sends as many bytes as a queue of bits makes with the n bits of a value behind it, and returns
+/// how many of the n have gone then: all but fewer than 8. It makes two requests at most.
 ///
 /// # Errors
 ///

@@ -17,7 +17,8 @@ pub trait Target {
     // The names of the references through which the target is reached. A request keeps them.
     ghost reference_names: { Self → List GName };
 
-    // How a request to send so many bytes may be refused, with which kind. Of a `Write` std tells nothing.
+    // How a request to send so many bytes may be refused, with which kind. Of a `Write` std tells
+    // nothing.
     ghost refuses: { Self → ℕ → ErrorKind → Self → Type 0 };
 
     /// Makes one request, which writes all bytes.
@@ -28,7 +29,8 @@ pub trait Target {
     fn write_all(&mut self, bytes: &[u8]) -> io::Result<()>
         ensures bytes { OnOk result (Appends (contents self.old) (contents self.new) bytes.now) }
         ensures reference_names { reference_names self.new ≡ reference_names self.old }
-        ensures refused { IfErr result (λ e. refuses self.old (length bytes.now) (error_kind e) self.new) };
+        ensures refused { IfErr result
+            (λ e. refuses self.old (length bytes.now) (error_kind e) self.new) };
 
     /// Makes one request for no bytes: has the target pass on what it holds back itself.
     ///
@@ -62,7 +64,8 @@ impl<'a, T: Target> Target for Lent<'a, T> {
 
     ghost reference_names = { λ lent. lent.at.ghost_name ∷ T.reference_names lent.at.now };
 
-    ghost refuses = { λ before wanted kind after. T.refuses before.at.now wanted kind after.at.now };
+    ghost refuses = { λ before wanted kind after.
+        T.refuses before.at.now wanted kind after.at.now };
 
     fn write_all(&mut self, bytes: &[u8]) -> io::Result<()> {
         Target::write_all(&mut *self.at, bytes)
