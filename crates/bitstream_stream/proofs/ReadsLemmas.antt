@@ -1,5 +1,5 @@
 -- How reads compose.
-use Rattle.std.proofs.Common.{◌≡◌, ℕ, ◌+◌, ◌*◌, ◌/◌, ◌<◌, ◌≤◌, Bool, true, false, List, [], ◌∷◌, ◌++◌, length, drop, Option, Some, None, Result, Ok, Err, refl, sym, ap, ◌∙◌, subst, append_assoc, append-nil, length-append, arith, inl, inr, ◌⊎◌}
+use Rattle.std.proofs.Common.{◌≡◌, ℕ, ◌+◌, ◌*◌, ◌/◌, ◌<◌, ◌≤◌, Bool, true, false, List, [], ◌∷◌, ◌++◌, length, drop, Option, Some, None, Result, Ok, Err, refl, sym, ap, ap₂, ◌∙◌, subst, append_assoc, append-nil, length-append, arith, inl, inr, ◌⊎◌}
 use Rattle.std.proofs.KnownBytes.{Consumes-nil, Consumes-trans}
 use Rattle.std.proofs.Math.Seq.{drop-append_seam}
 use Rattle.std.proofs.lemmas.List.{nil_from_length}
@@ -160,6 +160,14 @@ Behind-needs {e = e} {p = p} {w = w} v h needs front b back parts = elim (cut fr
   | inr behind ↦ ap (λ l. e.reads p l) behind.1 ∙ h.short behind.0 (needs behind.0 b back (sym behind.2))
 ]
 
+none_needed : (front : List Bool) (b : Bool) (back : List Bool) → [] ≡ front ++ b ∷ back → ⊥
+none_needed [] b back e = cc
+none_needed (c ∷ front) b back e = cc
+
+-- behind no bits
+Behind-none : {A B : Type 0} (e : ReadEntry A) (d : ReadEntry B) (p : ℕ) → ((more : List Bool) → d.reads p more ≡ TooShort → e.reads p more ≡ TooShort) → Behind e p [] d p
+Behind-none e d p short = record { needs = λ front b back is. absurd (none_needed front b back is); short = short }
+
 pub TakesFront-behind : {A B : Type 0} (o : Order) (e : ReadEntry A) (d : ReadEntry B) (w : List Bool) (r : Result A Error) (x : Result B Error) (s t z : ReaderState)
     → Took o s w t → Behind e s.taken w d t.taken → is_run_too_long r ≡ is_run_too_long x → (k : TakesFront o d t x z)
     → ((more : List Bool) → e.reads s.taken ((w ++ k.word) ++ more) ≡ Takes (length (w ++ k.word)) r)
@@ -291,108 +299,36 @@ Reads-chain-ok {K = K} e f {a = a} {r = r} {s = s} {t = t} {z = z} (takes_front 
 Reads-chain-ok e f (meets_fault h) k = let p = h.answer in cc
 Reads-chain-ok e f (lacks_memory g h) k = let p = h.answer in cc
 
+err-behind : {A B : Type 0} (e : ReadEntry A) (f : A → ReadEntry B) (p : ℕ) → Behind (chain e f) p [] e p
+err-behind e f p = Behind-none (chain e f) e p (λ more short. chain-none e f p more short)
+
 pub Reads-chain-err : {R A B : Type 0} {K : BitSource R} {grows : Bool} (e : ReadEntry A) (f : A → ReadEntry B) {x : Error} {s t : R}
     → ReadOutcome K grows e s (Err x) t → ReadOutcome K grows (chain e f) s (Err x) t
 Reads-chain-err e f (stays_failed h) = stays_failed (record { failed = h.failed; answer = rw (chain-failed e f, ← h.answer) refl; same = h.same })
-Reads-chain-err {K = K} e f {x = x} {s = s} {t = t} (takes_front h) = takes_front (record {
-  fine = h.fine;
-  word = h.word;
-  decides = λ more. chain-err e f (K.state s).taken (h.word ++ more) (length h.word) x (h.decides more);
-  needs = λ front b back is. chain-none e f (K.state s).taken front (h.needs front b back is);
-  gone = h.gone;
-  loses = h.loses;
-  rest = h.rest;
-  parts = h.parts;
-  held = h.held;
-  fetched = h.fetched;
-  taken = h.taken;
-  refusals = h.refusals;
-  reference_names = h.reference_names;
-  failed = h.failed;
-})
-Reads-chain-err {K = K} e f {s = s} (meets_fault h) = meets_fault (record {
-  fine = h.fine;
-  refusal = h.refusal;
-  allowed = h.allowed;
-  answer = let p = h.answer in cc;
-  short = chain-none e f (K.state s).taken (K.state s).held h.short;
-  gone = h.gone;
-  fetched = h.fetched;
-  few = chain-none e f (K.state s).taken ((K.state s).held ++ bits K.order h.gone) h.few;
-  ended = λ end xs known. chain-none e f (K.state s).taken ((K.state s).held ++ bits K.order xs) (h.ended end xs known);
-  refusals = h.refusals;
-  reference_names = h.reference_names;
-  failed = h.failed;
-})
-Reads-chain-err {K = K} e f {s = s} (lacks_memory g h) = lacks_memory g (record {
-  fine = h.fine;
-  answer = let p = h.answer in cc;
-  word = h.word;
-  needs = λ front b back is. chain-none e f (K.state s).taken front (h.needs front b back is);
-  gone = h.gone;
-  loses = h.loses;
-  rest = h.rest;
-  parts = h.parts;
-  fetched = h.fetched;
-  taken = h.taken;
-  refusals = h.refusals;
-  reference_names = h.reference_names;
-  failed = h.failed;
-})
+Reads-chain-err {K = K} e f {x = x} {s = s} {t = t} (takes_front h) =
+    takes_front (TakesFront-behind K.order (chain e f) e [] (Err x) (Err x) (K.state s) (K.state s) (K.state t) (Took-nil K.order (K.state s) h.fine) (err-behind e f (K.state s).taken) refl h
+    (λ more. chain-err e f (K.state s).taken (h.word ++ more) (length h.word) x (h.decides more)))
+Reads-chain-err {K = K} e f {x = x} {s = s} {t = t} (meets_fault h) =
+    meets_fault (ReadFault-behind K.order K.may (chain e f) e [] (Err x) (Err x) (K.state s) (K.state s) (K.state t) (K.demands s) (K.holds s) (K.demands s)
+    (Took-nil K.order (K.state s) h.fine) (err-behind e f (K.state s).taken) h (let p = h.answer in cc))
+Reads-chain-err {K = K} e f {x = x} {s = s} {t = t} (lacks_memory g h) =
+    lacks_memory g (MemoryFault-behind K.order (chain e f) e [] (Err x) (Err x) (K.state s) (K.state s) (K.state t) (Took-nil K.order (K.state s) h.fine) (err-behind e f (K.state s).taken) (let p = h.answer in cc) h)
+
+Same-behind : {A : Type 0} {d e : ReadEntry A} → Same d e → (p : ℕ) → Behind e p [] d p
+Same-behind {d = d} {e = e} same p = Behind-none e d p (λ more short. sym (same.reads p more) ∙ short)
 
 pub Reads-same : {R A : Type 0} {K : BitSource R} {grows : Bool} {d e : ReadEntry A} {r : Result A Error} {s t : R} → Same d e → ReadOutcome K grows d s r t → ReadOutcome K grows e s r t
 Reads-same same (stays_failed h) = stays_failed (record { failed = h.failed; answer = h.answer ∙ same.on_failed; same = h.same })
-Reads-same {K = K} {s = s} same (takes_front h) = takes_front (record {
-  fine = h.fine;
-  word = h.word;
-  decides = λ more. sym (same.reads (K.state s).taken (h.word ++ more)) ∙ h.decides more;
-  needs = λ front b back is. sym (same.reads (K.state s).taken front) ∙ h.needs front b back is;
-  gone = h.gone;
-  loses = h.loses;
-  rest = h.rest;
-  parts = h.parts;
-  held = h.held;
-  fetched = h.fetched;
-  taken = h.taken;
-  refusals = h.refusals;
-  reference_names = h.reference_names;
-  failed = h.failed;
-})
-Reads-same {K = K} {s = s} same (meets_fault h) = meets_fault (record {
-  fine = h.fine;
-  refusal = h.refusal;
-  allowed = h.allowed;
-  answer = h.answer;
-  short = sym (same.reads (K.state s).taken (K.state s).held) ∙ h.short;
-  gone = h.gone;
-  fetched = h.fetched;
-  few = sym (same.reads (K.state s).taken ((K.state s).held ++ bits K.order h.gone)) ∙ h.few;
-  ended = λ end xs known. sym (same.reads (K.state s).taken ((K.state s).held ++ bits K.order xs)) ∙ h.ended end xs known;
-  refusals = h.refusals;
-  reference_names = h.reference_names;
-  failed = h.failed;
-})
-Reads-same {K = K} {s = s} same (lacks_memory g h) = lacks_memory g (record {
-  fine = h.fine;
-  answer = h.answer;
-  word = h.word;
-  needs = λ front b back is. sym (same.reads (K.state s).taken front) ∙ h.needs front b back is;
-  gone = h.gone;
-  loses = h.loses;
-  rest = h.rest;
-  parts = h.parts;
-  fetched = h.fetched;
-  taken = h.taken;
-  refusals = h.refusals;
-  reference_names = h.reference_names;
-  failed = h.failed;
-})
+Reads-same {K = K} {d = d} {e = e} {r = r} {s = s} {t = t} same (takes_front h) =
+    takes_front (TakesFront-behind K.order e d [] r r (K.state s) (K.state s) (K.state t) (Took-nil K.order (K.state s) h.fine) (Same-behind same (K.state s).taken) refl h
+    (λ more. sym (same.reads (K.state s).taken (h.word ++ more)) ∙ h.decides more))
+Reads-same {K = K} {d = d} {e = e} {r = r} {s = s} {t = t} same (meets_fault h) =
+    meets_fault (ReadFault-behind K.order K.may e d [] r r (K.state s) (K.state s) (K.state t) (K.demands s) (K.holds s) (K.demands s)
+    (Took-nil K.order (K.state s) h.fine) (Same-behind same (K.state s).taken) h h.answer)
+Reads-same {K = K} {d = d} {e = e} {r = r} {s = s} {t = t} same (lacks_memory g h) =
+    lacks_memory g (MemoryFault-behind K.order e d [] r r (K.state s) (K.state s) (K.state t) (Took-nil K.order (K.state s) h.fine) (Same-behind same (K.state s).taken) h.answer h)
 
 -- ---- a call that takes nothing
-
-none_needed : (front : List Bool) (b : Bool) (back : List Bool) → [] ≡ front ++ b ∷ back → ⊥
-none_needed [] b back e = cc
-none_needed (c ∷ front) b back e = cc
 
 pub Reads-nothing : {R A : Type 0} {K : BitSource R} {grows : Bool} (e : ReadEntry A) (r : Result A Error) (s : R) → (K.state s).failed ≡ false → is_run_too_long r ≡ false
     → ((more : List Bool) → e.reads (K.state s).taken more ≡ Takes 0 r) → ReadOutcome K grows e s r s
@@ -498,8 +434,13 @@ none_sure {r = r} ends xs fine known none h = elim (Reads-sure ends xs fine know
 
 -- ---- a reader that is seen through a reference
 
-TakesFront-lent : {A : Type 0} {o : Order} {e : ReadEntry A} {r : Result A Error} {s t : ReaderState} (n : GName) → TakesFront o e s r t → TakesFront o e (lent n s) r (lent n t)
-TakesFront-lent n h = record {
+-- the same state, reached through references of these names
+named : List GName → ReaderState → ReaderState
+named names s = record s { reference_names = names }
+
+TakesFront-named : {A : Type 0} {o : Order} {e : ReadEntry A} {r : Result A Error} {s t : ReaderState} (k l : List GName) → l ≡ k → TakesFront o e s r t → TakesFront o e (named k s) r (named l t)
+unfolding named
+TakesFront-named k l same h = record {
   fine = h.fine;
   word = h.word;
   decides = h.decides;
@@ -512,12 +453,13 @@ TakesFront-lent n h = record {
   fetched = h.fetched;
   taken = h.taken;
   refusals = h.refusals;
-  reference_names = ap (λ l. n ∷ l) h.reference_names;
+  reference_names = same;
   failed = h.failed;
 }
 
-ReadFault-lent : {A : Type 0} {o : Order} {may : Refusal → Type 0} {e : ReadEntry A} {r : Result A Error} {s t : ReaderState} (n : GName) → ReadFault o may e s r t → ReadFault o may e (lent n s) r (lent n t)
-ReadFault-lent n h = record {
+ReadFault-named : {A : Type 0} {o : Order} {may : Refusal → Type 0} {e : ReadEntry A} {r : Result A Error} {s t : ReaderState} (k l : List GName) → l ≡ k → ReadFault o may e s r t → ReadFault o may e (named k s) r (named l t)
+unfolding named
+ReadFault-named k l same h = record {
   fine = h.fine;
   refusal = h.refusal;
   allowed = h.allowed;
@@ -528,15 +470,13 @@ ReadFault-lent n h = record {
   few = h.few;
   ended = h.ended;
   refusals = h.refusals;
-  reference_names = ap (λ l. n ∷ l) h.reference_names;
+  reference_names = same;
   failed = h.failed;
 }
 
-pub Reads-lent : {R A : Type 0} {K : BitSource R} {grows : Bool} {e : ReadEntry A} {r : Result A Error} (s t : MutBor R) → t.ghost_name ≡ s.ghost_name → ReadOutcome K grows e s.now r t.now → ReadOutcome (lent_source K) grows e s r t
-Reads-lent {K = K} s t same (stays_failed h) = stays_failed (record { failed = h.failed; answer = h.answer; same = ap (λ n. lent n (K.state t.now)) same ∙ ap (λ x. lent s.ghost_name x) h.same })
-Reads-lent {K = K} {e = e} {r = r} s t same (takes_front h) = takes_front (subst (λ n. TakesFront K.order e (lent s.ghost_name (K.state s.now)) r (lent n (K.state t.now))) (sym same) (TakesFront-lent s.ghost_name h))
-Reads-lent {K = K} {e = e} {r = r} s t same (meets_fault h) = meets_fault (subst (λ n. ReadFault K.order K.may e (lent s.ghost_name (K.state s.now)) r (lent n (K.state t.now))) (sym same) (ReadFault-lent s.ghost_name h))
-Reads-lent {K = K} s t same (lacks_memory g h) = lacks_memory g (record {
+MemoryFault-named : {A : Type 0} {o : Order} {e : ReadEntry A} {r : Result A Error} {s t : ReaderState} (k l : List GName) → l ≡ k → MemoryFault o e s r t → MemoryFault o e (named k s) r (named l t)
+unfolding named
+MemoryFault-named k l same h = record {
   fine = h.fine;
   answer = h.answer;
   word = h.word;
@@ -548,9 +488,19 @@ Reads-lent {K = K} s t same (lacks_memory g h) = lacks_memory g (record {
   fetched = h.fetched;
   taken = h.taken;
   refusals = h.refusals;
-  reference_names = ap (λ n. n ∷ (K.state t.now).reference_names) same ∙ ap (λ l. s.ghost_name ∷ l) h.reference_names;
+  reference_names = same;
   failed = h.failed;
-})
+}
+
+lent_names : (n m : GName) (k l : List GName) → m ≡ n → l ≡ k → m ∷ l ≡ n ∷ k
+lent_names n m k l same e = ap₂ (λ x y. x ∷ y) same e
+
+pub Reads-lent : {R A : Type 0} {K : BitSource R} {grows : Bool} {e : ReadEntry A} {r : Result A Error} (s t : MutBor R) → t.ghost_name ≡ s.ghost_name → ReadOutcome K grows e s.now r t.now → ReadOutcome (lent_source K) grows e s r t
+unfolding named
+Reads-lent {K = K} s t same (stays_failed h) = stays_failed (record { failed = h.failed; answer = h.answer; same = ap (λ n. lent n (K.state t.now)) same ∙ ap (λ x. lent s.ghost_name x) h.same })
+Reads-lent {K = K} s t same (takes_front h) = takes_front (TakesFront-named _ _ (lent_names s.ghost_name t.ghost_name (K.state s.now).reference_names (K.state t.now).reference_names same h.reference_names) h)
+Reads-lent {K = K} s t same (meets_fault h) = meets_fault (ReadFault-named _ _ (lent_names s.ghost_name t.ghost_name (K.state s.now).reference_names (K.state t.now).reference_names same h.reference_names) h)
+Reads-lent {K = K} s t same (lacks_memory g h) = lacks_memory g (MemoryFault-named _ _ (lent_names s.ghost_name t.ghost_name (K.state s.now).reference_names (K.state t.now).reference_names same h.reference_names) h)
 
 pub Reads-reference_names : {R A : Type 0} {K : BitSource R} {grows : Bool} {e : ReadEntry A} {r : Result A Error} {s t : R} → ReadOutcome K grows e s r t → (K.state t).reference_names ≡ (K.state s).reference_names
 Reads-reference_names (stays_failed h) = ap (λ (x : ReaderState). x.reference_names) h.same
@@ -716,61 +666,20 @@ unfolding head_of
 heads n m k l e = ap (head_of n) e
 
 pub Reads-back : {R A : Type 0} {K : BitSource R} {grows : Bool} {e : ReadEntry A} {r : Result A Error} {s t : MutBor R} → ReadOutcome (lent_source K) grows e s r t → (t.ghost_name ≡ s.ghost_name) × ReadOutcome K grows e s.now r t.now
+unfolding named
 Reads-back {K = K} {s = s} {t = t} (stays_failed h) = (
   heads s.ghost_name t.ghost_name (K.state s.now).reference_names (K.state t.now).reference_names (ap (λ (x : ReaderState). x.reference_names) h.same),
   stays_failed (record { failed = h.failed; answer = h.answer; same = same_behind s.ghost_name t.ghost_name (K.state s.now) (K.state t.now) h.same }),
 )
 Reads-back {K = K} {s = s} {t = t} (takes_front h) = (
   heads s.ghost_name t.ghost_name (K.state s.now).reference_names (K.state t.now).reference_names h.reference_names,
-  takes_front (record {
-    fine = h.fine;
-    word = h.word;
-    decides = h.decides;
-    needs = h.needs;
-    gone = h.gone;
-    loses = h.loses;
-    rest = h.rest;
-    parts = h.parts;
-    held = h.held;
-    fetched = h.fetched;
-    taken = h.taken;
-    refusals = h.refusals;
-    reference_names = tails s.ghost_name t.ghost_name (K.state s.now).reference_names (K.state t.now).reference_names h.reference_names;
-    failed = h.failed;
-  }),
+  takes_front (TakesFront-named _ _ (tails s.ghost_name t.ghost_name (K.state s.now).reference_names (K.state t.now).reference_names h.reference_names) h),
 )
 Reads-back {K = K} {s = s} {t = t} (meets_fault h) = (
   heads s.ghost_name t.ghost_name (K.state s.now).reference_names (K.state t.now).reference_names h.reference_names,
-  meets_fault (record {
-    fine = h.fine;
-    refusal = h.refusal;
-    allowed = h.allowed;
-    answer = h.answer;
-    short = h.short;
-    gone = h.gone;
-    fetched = h.fetched;
-    few = h.few;
-    ended = h.ended;
-    refusals = h.refusals;
-    reference_names = tails s.ghost_name t.ghost_name (K.state s.now).reference_names (K.state t.now).reference_names h.reference_names;
-    failed = h.failed;
-  }),
+  meets_fault (ReadFault-named _ _ (tails s.ghost_name t.ghost_name (K.state s.now).reference_names (K.state t.now).reference_names h.reference_names) h),
 )
 Reads-back {K = K} {s = s} {t = t} (lacks_memory g h) = (
   heads s.ghost_name t.ghost_name (K.state s.now).reference_names (K.state t.now).reference_names h.reference_names,
-  lacks_memory g (record {
-    fine = h.fine;
-    answer = h.answer;
-    word = h.word;
-    needs = h.needs;
-    gone = h.gone;
-    loses = h.loses;
-    rest = h.rest;
-    parts = h.parts;
-    fetched = h.fetched;
-    taken = h.taken;
-    refusals = h.refusals;
-    reference_names = tails s.ghost_name t.ghost_name (K.state s.now).reference_names (K.state t.now).reference_names h.reference_names;
-    failed = h.failed;
-  }),
+  lacks_memory g (MemoryFault-named _ _ (tails s.ghost_name t.ghost_name (K.state s.now).reference_names (K.state t.now).reference_names h.reference_names) h),
 )

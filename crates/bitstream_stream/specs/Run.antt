@@ -28,7 +28,8 @@ write_refusals (entry ∷ entries) len =
     let w = entry len in
     refusal_if_any w ∷ write_refusals entries (len + length (accepted w))
 
--- a call's answer and the place behind it, and then those of the calls that follow; none where the bits are too few, and none behind a run that was too long
+-- a call's answer and the place behind it, and then those of the calls that follow; none where the bits are too few,
+-- and none behind a run that was too long
 abbrev pub answer_and : {A : Type 0} → Front A → ℕ → (ℕ → List (Result A Error × ℕ)) → List (Result A Error × ℕ)
 answer_and TooShort p others = []
 answer_and (Takes n (Err RunTooLong)) p others = (Err RunTooLong, p + n) ∷ []

@@ -76,19 +76,24 @@ pub record WriteFault {S : Type 0} (K : Sink S) (old : S) (x : List Bool) (error
 -- what one write call does, by what it means
 pub data Writes {S T : Type 0} (K : Sink S) (entry : WriteEntry) (old : S) (result : Result T Error) (new : S) : Type 0 where
   was_failed : K.failed old ≡ true → result ≡ Err Failed → Kept K old new → Writes K entry old result new
-  was_refused : (error : Error) → K.failed old ≡ false → entry (K.len old) ≡ Err error → result ≡ Err error → Kept K old new → Writes K entry old result new
-  passed_limit : (word : List Bool) → K.failed old ≡ false → entry (K.len old) ≡ Ok word → IsBeyond K.limit (K.len old + length word) → result ≡ Err CounterOverflow → Kept K old new
+  was_refused : (error : Error) → K.failed old ≡ false → entry (K.len old) ≡ Err error → result ≡ Err error → Kept K old new
       → Writes K entry old result new
-  had_fault : (word : List Bool) (error : Error) → K.failed old ≡ false → entry (K.len old) ≡ Ok word → IsWithin K.limit (K.len old + length word) → result ≡ Err error → WriteFault K old word error new
+  passed_limit : (word : List Bool) → K.failed old ≡ false → entry (K.len old) ≡ Ok word
+      → IsBeyond K.limit (K.len old + length word) → result ≡ Err CounterOverflow → Kept K old new
       → Writes K entry old result new
-  did_write : (word : List Bool) (done : T) → K.failed old ≡ false → entry (K.len old) ≡ Ok word → IsWithin K.limit (K.len old + length word) → result ≡ Ok done → Appended K old word new
+  had_fault : (word : List Bool) (error : Error) → K.failed old ≡ false → entry (K.len old) ≡ Ok word
+      → IsWithin K.limit (K.len old + length word) → result ≡ Err error → WriteFault K old word error new
+      → Writes K entry old result new
+  did_write : (word : List Bool) (done : T) → K.failed old ≡ false → entry (K.len old) ≡ Ok word
+      → IsWithin K.limit (K.len old + length word) → result ≡ Ok done → Appended K old word new
       → Writes K entry old result new
 
 -- write calls in order, up to the first that answers an error; of no calls, nothing at all
 unfoldable pub WritesAll : {S : Type 0} → Sink S → List WriteEntry → S → Result (Unit {0}) Error → S → Type 0
 WritesAll K [] old result new = (result ≡ Ok tt) × (new ≡ old)
 WritesAll {S} K (entry ∷ entries) old result new =
-    (IsErr result × Writes K entry old result new) ⊎ ((mid : S) × Writes {S = S} {T = Unit {0}} K entry old (Ok tt) mid × WritesAll K entries mid result new)
+    (IsErr result × Writes K entry old result new)
+    ⊎ ((mid : S) × Writes {S = S} {T = Unit {0}} K entry old (Ok tt) mid × WritesAll K entries mid result new)
 
 -- states that are seen as states of a sink, reached through references of these names
 abbrev pub seen_sink : {R S : Type 0} → (R → S) → (R → List GName) → Sink S → Sink R

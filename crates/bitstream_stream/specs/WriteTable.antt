@@ -17,7 +17,8 @@ bit b = plain (b ∷ [])
 -- the word of n bits of v, a number of a type of `size` bits; of no bits, any number has the empty word
 unfoldable pub unsigned : Order → ℕ → ℕ → ℕ → WriteEntry
 unsigned o size n v _ =
-    if nat_lt size n then Err (Checked ExcessiveBits) else (if (n == 0) || nat_lt v (2 ^ n) then Ok (word o n v) else Err (Checked ExcessiveValue))
+    if nat_lt size n then Err (Checked ExcessiveBits)
+    else (if (n == 0) || nat_lt v (2 ^ n) then Ok (word o n v) else Err (Checked ExcessiveValue))
 
 -- whether n bits hold x as a two's complement
 abbrev pub fits_signed : ℕ → ℤ → Bool
@@ -27,7 +28,9 @@ fits_signed n (negsuc k) = nat_lt k (2 ^ (n - 1))
 -- the two's complement in n bits of x, a number of a type of `size` bits
 unfoldable pub signed : Order → ℕ → ℕ → ℤ → WriteEntry
 signed o size n x _ =
-    if n == 0 then Err NoSignBit else (if nat_lt size n then Err (Checked ExcessiveBits) else (if fits_signed n x then Ok (signed_word o n x) else Err (Checked ExcessiveValue)))
+    if n == 0 then Err NoSignBit
+    else (if nat_lt size n then Err (Checked ExcessiveBits)
+    else (if fits_signed n x then Ok (signed_word o n x) else Err (Checked ExcessiveValue)))
 
 -- a count, in as few bits as its greatest number takes
 abbrev pub count : Order → ℕ → ℕ → WriteEntry

@@ -11,12 +11,13 @@ use bitstream_number::number::{SignedInteger, UnsignedInteger};
 ///
 /// # Errors
 ///
-/// `Checked(ExcessiveBits)` where the type has fewer bits, `Checked(ExcessiveValue)` where the value
-/// takes more.
+/// `Checked(ExcessiveBits)` where the type has fewer bits, `Checked(ExcessiveValue)` where the
+/// value takes more.
 pub fn check<U: UnsignedInteger>(bits: u32, value: U) -> Result<(), Error>
     ensures width { OnOk result (bits ≤ U.BITS_SIZE) }
     ensures word { OnOk result ((o : Order) (len : ℕ) →
-        unsigned o U.BITS_SIZE bits (U.value value) len ≡ Ok (word o bits (U.value value))) }
+        unsigned o U.BITS_SIZE bits (U.value value) len
+        ≡ Ok (word o bits (U.value value))) }
     ensures refusal { IfErr result (λ error. (o : Order) (len : ℕ) →
         unsigned o U.BITS_SIZE bits (U.value value) len ≡ Err error) }
 {
@@ -37,7 +38,8 @@ pub fn check_signed<S: SignedInteger>(bits: u32, value: S) -> Result<(), Error>
     ensures width { OnOk result (bits ≤ S.BITS_SIZE) }
     ensures fits { OnOk result (FitsSignedBits bits (S.integer value)) }
     ensures word { OnOk result ((o : Order) (len : ℕ) →
-        signed o S.BITS_SIZE bits (S.integer value) len ≡ Ok (signed_word o bits (S.integer value))) }
+        signed o S.BITS_SIZE bits (S.integer value) len
+        ≡ Ok (signed_word o bits (S.integer value))) }
     ensures refusal { IfErr result (λ error. (o : Order) (len : ℕ) →
         signed o S.BITS_SIZE bits (S.integer value) len ≡ Err error) }
 {

@@ -13,10 +13,10 @@ use bitstream_number::number::{Numeric, SignedInteger, UnsignedInteger, Width};
 ///
 /// # Errors
 ///
-/// Where the stream beneath refuses a request, a call answers `EndOfInput`, `OutOfMemory` or `Stream`
-/// with the kind of the refusal, and the reader has failed. Each later call that reads a value answers
-/// `Failed`, before any other check and also at a width of 0 bits. After any other error the reader
-/// goes on where it was, unless the call says otherwise.
+/// Where the stream beneath refuses a request, a call answers `EndOfInput`, `OutOfMemory` or
+/// `Stream` with the kind of the refusal, and the reader has failed. Each later call that reads a
+/// value answers `Failed`, before any other check and also at a width of 0 bits. After any other
+/// error the reader goes on where it was, unless the call says otherwise.
 ///
 /// # Examples
 ///
@@ -56,18 +56,19 @@ pub trait BitRead {
         ensures reads { Reads source (signed_entry source.order S.BITS_SIZE (C.number bits))
             self.old (seen S.integer result) self.new };
 
-    /// Returns whether the next bit is the first of a byte. A reader that has failed is not aligned.
+    /// Returns whether the next bit is the first of a byte. A reader that has failed is not
+    /// aligned.
     fn byte_aligned(&self) -> bool
         ensures { IsTrue result ↔ (((source.state self.now).failed ≡ false)
             × ((source.state self.now).taken % 8 ≡ 0)) };
 
-    /// Drops the bits up to the next whole byte. They were fetched before, so nothing is asked of the
-    /// stream. A reader that has failed stays as it is.
+    /// Drops the bits up to the next whole byte. They were fetched before, so nothing is asked of
+    /// the stream. A reader that has failed stays as it is.
     fn byte_align(&mut self)
         ensures reads { Reads source align_entry self.old (Ok tt) self.new };
 
-    /// Makes the reader fail, and drops the bits that it holds back. From then on each call that reads
-    /// a value answers `Failed`.
+    /// Makes the reader fail, and drops the bits that it holds back. From then on each call that
+    /// reads a value answers `Failed`.
     fn fail(&mut self)
         ensures { source.state self.new ≡ failing (source.state self.old) };
 
@@ -145,8 +146,8 @@ pub trait BitRead {
     ///
     /// # Errors
     ///
-    /// `err` where it is another: its bits are taken then. Those of the stream, and `Failed` after one
-    /// of these, each turned into an E.
+    /// `err` where it is another: its bits are taken then. Those of the stream, and `Failed` after
+    /// one of these, each turned into an E.
     fn read_const<B: Width, V: Width, E: From<Error> + Drop>(&mut self, err: E) -> Result<(), E>
         requires word { B.BITS ≤ 32 }
         requires value { (V.BITS < 2 ^ B.BITS) ⊎ (B.BITS ≡ 0) }
@@ -157,8 +158,8 @@ pub trait BitRead {
         if value == V::BITS { Ok(()) } else { Err(err) }
     }
 
-    /// Reads a count in as few bits as its greatest number takes, and returns it. That number is 1 less
-    /// than a power of two, so any number of so many bits is a count.
+    /// Reads a count in as few bits as its greatest number takes, and returns it. That number is 1
+    /// less than a power of two, so any number of so many bits is a count.
     ///
     /// # Errors
     ///

@@ -17,8 +17,8 @@ use bitstream_order::source::Source;
 use bitstream_order::tally::Tally;
 use std::marker::PhantomData;
 
-/// Reads bits from a stream of bytes. A byte is fetched only when a call needs a bit of it, so fewer
-/// than 8 bits are ever held back.
+/// Reads bits from a stream of bytes. A byte is fetched only when a call needs a bit of it, so
+/// fewer than 8 bits are ever held back.
 ///
 /// Over a [`Slice`](bitstream_order::slice::Slice) each call answers by the bytes alone: where its
 /// bits are all there it never answers `EndOfInput`, `Stream` or `OutOfMemory`, and where they are
@@ -58,7 +58,7 @@ impl<R: Source, E: Endianness> BitReader<R, E> {
 
     /// Returns a reader of a stream's bytes. Nothing is asked of the stream yet.
     pub fn new(reader: R) -> BitReader<R, E>
-        ensures { ⟦<BitReader<R, E> as BitRead>⟧.source.state result
+        ensures { ⟦<Self as BitRead>⟧.source.state result
             ≡ new_reader_state (R.remaining reader) (R.reference_names reader) }
     {
         BitReader {
@@ -75,7 +75,7 @@ impl<R: Source, E: Endianness> BitReader<R, E> {
     pub fn endian(reader: R, _endian: E) -> BitReader<R, E>
     where
         E: Drop,
-        ensures { ⟦<BitReader<R, E> as BitRead>⟧.source.state result
+        ensures { ⟦<Self as BitRead>⟧.source.state result
             ≡ new_reader_state (R.remaining reader) (R.reference_names reader) }
     {
         BitReader::new(reader)
@@ -86,8 +86,9 @@ impl<R: Source, E: Endianness> BitReader<R, E> {
         requires fine { self.old.failed ≡ false }
         requires more { self.old.queued < bits }
         requires room { bits ≤ U.BITS_SIZE }
-        ensures reads { Reads ⟦<BitReader<R, E> as BitRead>⟧.source
-            (unsigned_entry E.order U.BITS_SIZE bits) self.old (seen U.value result) self.new }
+        ensures reads { Reads ⟦<Self as BitRead>⟧.source
+            (unsigned_entry E.order U.BITS_SIZE bits)
+            self.old (seen U.value result) self.new }
         ensures requests { requests_made self.new ≤ requests_made self.old + 2 }
     {
         let queued = self.queued;
@@ -119,8 +120,9 @@ impl<R: Source, E: Endianness> BitRead for BitReader<R, E> {
     ghost source = { reader_source R.remaining R.refuses R.reference_names E.order };
 
     fn read_unsigned_counted<C: Count, U: UnsignedInteger>(&mut self, bits: C) -> Result<U, Error>
-        ensures reads { Reads ⟦<BitReader<R, E> as BitRead>⟧.source
-            (unsigned_entry E.order U.BITS_SIZE (C.number bits)) self.old (seen U.value result) self.new }
+        ensures reads { Reads ⟦<Self as BitRead>⟧.source
+            (unsigned_entry E.order U.BITS_SIZE (C.number bits))
+            self.old (seen U.value result) self.new }
         ensures asks { AsksForWord (C.number bits) self.old self.new }
     {
         let bits = bits.bits();
@@ -142,8 +144,9 @@ impl<R: Source, E: Endianness> BitRead for BitReader<R, E> {
     }
 
     fn read_signed_counted<C: SignedCount, S: SignedInteger>(&mut self, bits: C) -> Result<S, Error>
-        ensures reads { Reads ⟦<BitReader<R, E> as BitRead>⟧.source
-            (signed_entry E.order S.BITS_SIZE (C.number bits)) self.old (seen S.integer result) self.new }
+        ensures reads { Reads ⟦<Self as BitRead>⟧.source
+            (signed_entry E.order S.BITS_SIZE (C.number bits))
+            self.old (seen S.integer result) self.new }
         ensures asks { AsksForWord (C.number bits) self.old self.new }
     {
         let bits = bits.bits();
@@ -152,8 +155,9 @@ impl<R: Source, E: Endianness> BitRead for BitReader<R, E> {
     }
 
     fn read_unsigned_var<U: UnsignedInteger>(&mut self, bits: u32) -> Result<U, Error>
-        ensures reads { Reads ⟦<BitReader<R, E> as BitRead>⟧.source
-            (unsigned_entry E.order U.BITS_SIZE bits) self.old (seen U.value result) self.new }
+        ensures reads { Reads ⟦<Self as BitRead>⟧.source
+            (unsigned_entry E.order U.BITS_SIZE bits)
+            self.old (seen U.value result) self.new }
         ensures asks { AsksForWord bits self.old self.new }
     {
         self.read_unsigned_counted(BitCount::unknown(bits))
@@ -164,7 +168,7 @@ impl<R: Source, E: Endianness> BitRead for BitReader<R, E> {
     }
 
     fn byte_align(&mut self)
-        ensures reads { Reads ⟦<BitReader<R, E> as BitRead>⟧.source align_entry
+        ensures reads { Reads ⟦<Self as BitRead>⟧.source align_entry
             self.old (Ok tt) self.new }
         ensures requests { requests_made self.new ≡ requests_made self.old }
     {

@@ -8,11 +8,11 @@ use bitstream_number::number::{SignedInteger, UnsignedInteger, Width};
 ///
 /// # Errors
 ///
-/// Where the stream beneath refuses a request, a call answers `OutOfMemory` or `Stream` with the kind
-/// of the refusal, and the sink has failed: the bits that waited in it are lost. Each later call that
-/// writes answers `Failed`, before any other check and also at a width of 0 bits. A sink with a limit
-/// answers `CounterOverflow` where the bits would pass it. After this and any other error the sink is
-/// as it was.
+/// Where the stream beneath refuses a request, a call answers `OutOfMemory` or `Stream` with the
+/// kind of the refusal, and the sink has failed: the bits that waited in it are lost. Each later
+/// call that writes answers `Failed`, before any other check and also at a width of 0 bits. A sink
+/// with a limit answers `CounterOverflow` where the bits would pass it. After this and any other
+/// error the sink is as it was.
 ///
 /// # Examples
 ///
@@ -52,7 +52,8 @@ pub trait BitWrite {
         value: U,
     ) -> Result<(), Error>
         ensures writes { Writes sink
-            (unsigned sink.order U.BITS_SIZE (C.number count) (U.value value)) self.old result self.new };
+            (unsigned sink.order U.BITS_SIZE (C.number count) (U.value value))
+            self.old result self.new };
 
     /// Writes a signed number in so many bits, as a two's complement.
     ///
@@ -67,7 +68,8 @@ pub trait BitWrite {
         value: S,
     ) -> Result<(), Error>
         ensures writes { Writes sink
-            (signed sink.order S.BITS_SIZE (C.number count) (S.integer value)) self.old result self.new };
+            (signed sink.order S.BITS_SIZE (C.number count) (S.integer value))
+            self.old result self.new };
 
     /// Returns whether a multiple of 8 bits was written. A sink that has failed is not aligned.
     fn byte_aligned(&self) -> bool
@@ -95,8 +97,8 @@ pub trait BitWrite {
     ///
     /// # Errors
     ///
-    /// `Checked(ExcessiveValue)` where the number takes more bits: nothing is written then. Those of
-    /// the stream or the limit, and `Failed` after one of the stream's.
+    /// `Checked(ExcessiveValue)` where the number takes more bits: nothing is written then. Those
+    /// of the stream or the limit, and `Failed` after one of the stream's.
     fn write_unsigned<B: Width, U: UnsignedInteger>(&mut self, value: U) -> Result<(), Error>
         requires { B.BITS ≤ U.BITS_SIZE }
         ensures writes { Writes sink (unsigned sink.order U.BITS_SIZE B.BITS (U.value value))
@@ -128,8 +130,8 @@ pub trait BitWrite {
     ///
     /// # Errors
     ///
-    /// `Checked(ExcessiveValue)` where the number takes more bits: nothing is written then. Those of
-    /// the stream or the limit, and `Failed` after one of the stream's.
+    /// `Checked(ExcessiveValue)` where the number takes more bits: nothing is written then. Those
+    /// of the stream or the limit, and `Failed` after one of the stream's.
     fn write_signed<B: Width, S: SignedInteger>(&mut self, value: S) -> Result<(), Error>
         requires some { 1 ≤ B.BITS }
         requires within { B.BITS ≤ S.BITS_SIZE }
@@ -181,8 +183,8 @@ pub trait BitWrite {
     ///
     /// # Errors
     ///
-    /// Those of the stream, and `Failed` after one of these. `CounterOverflow` where the zeros would
-    /// pass the sink's limit: none is written then.
+    /// Those of the stream, and `Failed` after one of these. `CounterOverflow` where the zeros
+    /// would pass the sink's limit: none is written then.
     fn byte_align(&mut self) -> Result<(), Error>
         ensures writes { Writes sink align self.old result self.new }
     {

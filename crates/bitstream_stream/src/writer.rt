@@ -13,8 +13,8 @@ use bitstream_order::sign::complement;
 use bitstream_order::target::Target;
 use std::marker::PhantomData;
 
-/// Writes bits to a stream of bytes. A byte is sent as soon as it is full, so fewer than 8 bits wait
-/// in the writer. What waits when it is dropped is lost: align it first.
+/// Writes bits to a stream of bytes. A byte is sent as soon as it is full, so fewer than 8 bits
+/// wait in the writer. What waits when it is dropped is lost: align it first.
 ///
 /// # Examples
 ///
@@ -113,8 +113,9 @@ impl<W: Target, E: Endianness> BitWrite for BitWriter<W, E> {
         count: C,
         value: U,
     ) -> Result<(), Error>
-        ensures writes { Writes ⟦<BitWriter<W, E> as BitWrite>⟧.sink
-            (unsigned E.order U.BITS_SIZE (C.number count) (U.value value)) self.old result self.new }
+        ensures writes { Writes ⟦<Self as BitWrite>⟧.sink
+            (unsigned E.order U.BITS_SIZE (C.number count) (U.value value))
+            self.old result self.new }
         ensures asks { AsksForWord (C.number count) self.old self.new }
     {
         if self.failed {
@@ -130,32 +131,36 @@ impl<W: Target, E: Endianness> BitWrite for BitWriter<W, E> {
         count: C,
         value: S,
     ) -> Result<(), Error>
-        ensures writes { Writes ⟦<BitWriter<W, E> as BitWrite>⟧.sink
-            (signed E.order S.BITS_SIZE (C.number count) (S.integer value)) self.old result self.new }
+        ensures writes { Writes ⟦<Self as BitWrite>⟧.sink
+            (signed E.order S.BITS_SIZE (C.number count) (S.integer value))
+            self.old result self.new }
         ensures asks { AsksForWord (C.number count) self.old self.new }
     {
         self.write_signed_var(count.bits(), value)
     }
 
     fn write_unsigned_var<U: UnsignedInteger>(&mut self, bits: u32, value: U) -> Result<(), Error>
-        ensures writes { Writes ⟦<BitWriter<W, E> as BitWrite>⟧.sink
-            (unsigned E.order U.BITS_SIZE bits (U.value value)) self.old result self.new }
+        ensures writes { Writes ⟦<Self as BitWrite>⟧.sink
+            (unsigned E.order U.BITS_SIZE bits (U.value value))
+            self.old result self.new }
         ensures asks { AsksForWord bits self.old self.new }
     {
         self.write_unsigned_counted(BitCount::unknown(bits), value)
     }
 
     fn write_unsigned<B: Width, U: UnsignedInteger>(&mut self, value: U) -> Result<(), Error>
-        ensures writes { Writes ⟦<BitWriter<W, E> as BitWrite>⟧.sink
-            (unsigned E.order U.BITS_SIZE B.BITS (U.value value)) self.old result self.new }
+        ensures writes { Writes ⟦<Self as BitWrite>⟧.sink
+            (unsigned E.order U.BITS_SIZE B.BITS (U.value value))
+            self.old result self.new }
         ensures asks { AsksForWord B.BITS self.old self.new }
     {
         self.write_unsigned_var(B::BITS, value)
     }
 
     fn write_signed_var<S: SignedInteger>(&mut self, bits: u32, value: S) -> Result<(), Error>
-        ensures writes { Writes ⟦<BitWriter<W, E> as BitWrite>⟧.sink
-            (signed E.order S.BITS_SIZE bits (S.integer value)) self.old result self.new }
+        ensures writes { Writes ⟦<Self as BitWrite>⟧.sink
+            (signed E.order S.BITS_SIZE bits (S.integer value))
+            self.old result self.new }
         ensures asks { AsksForWord bits self.old self.new }
     {
         if self.failed {
@@ -166,16 +171,17 @@ impl<W: Target, E: Endianness> BitWrite for BitWriter<W, E> {
     }
 
     fn write_signed<B: Width, S: SignedInteger>(&mut self, value: S) -> Result<(), Error>
-        ensures writes { Writes ⟦<BitWriter<W, E> as BitWrite>⟧.sink
-            (signed E.order S.BITS_SIZE B.BITS (S.integer value)) self.old result self.new }
+        ensures writes { Writes ⟦<Self as BitWrite>⟧.sink
+            (signed E.order S.BITS_SIZE B.BITS (S.integer value))
+            self.old result self.new }
         ensures asks { AsksForWord B.BITS self.old self.new }
     {
         self.write_signed_var(B::BITS, value)
     }
 
     fn write_bit(&mut self, bit: bool) -> Result<(), Error>
-        ensures writes { Writes ⟦<BitWriter<W, E> as BitWrite>⟧.sink
-            (one_bit bit) self.old result self.new }
+        ensures writes { Writes ⟦<Self as BitWrite>⟧.sink (one_bit bit)
+            self.old result self.new }
         ensures asks { AsksForWord 1 self.old self.new }
     {
         if self.failed {
