@@ -10,7 +10,8 @@ use Rattle.bitstream_stream.specs.WriteTable.{unsigned}
 
 -- a number v that is not 0, of a type of `size` bits, stands as v - 1; `after` gives the value of v + 1
 unfoldable pub non_zero_entry : {A : Type 0} → (ℕ → A) → Order → ℕ → ℕ → ReadEntry A
-non_zero_entry after o size n = if nat_lt n size then chain (unsigned_entry o size n) (λ v. gives (after v)) else refuses NonZeroWidth
+non_zero_entry after o size n =
+    if nat_lt n size then chain (unsigned_entry o size n) (λ v. gives (after v)) else refuses NonZeroWidth
 
 unfoldable pub non_zero : Order → ℕ → ℕ → ℕ → WriteEntry
 non_zero o size n v = if nat_lt n size then unsigned o size n (v - 1) else λ _. Err NonZeroWidth

@@ -21,8 +21,8 @@ use bitstream_stream::write::BitWrite;
 /// types, and numbers that are not 0 with the options of them.
 ///
 /// An array is its items in order, each in so many bits: the items before one that is refused stay
-/// read or written, and an array of no items makes no call. Any other value is one call: where it is
-/// refused for its width or value, no bit is read or written.
+/// read or written, and an array of no items makes no call. Any other value is one call: where it
+/// is refused for its width or value, no bit is read or written.
 pub trait Integer: Sized {
     // What a value is in so many bits, in either order of bits: read, and written.
     ghost reads: { Order → ℕ → ReadEntry Self };
@@ -50,8 +50,8 @@ pub trait Integer: Sized {
     ///
     /// `ReadBits` where the type has fewer bits, `NoSignBit` for a signed number in 0 bits,
     /// `BoolWidth` for a `bool` in other than 1 bit, `NonZeroWidth` for a `NonZero` in as many bits
-    /// as its type has, or more: no bit of the value is read then. Those of the reader's stream, and
-    /// `Failed` after one of these.
+    /// as its type has, or more: no bit of the value is read then. Those of the reader's stream,
+    /// and `Failed` after one of these.
     fn read_var<C: Count, R: BitRead>(reader: &mut R, bits: C) -> Result<Self, Error>
         ensures reads { Reads R.source (reads R.source.order (C.number bits))
             reader.old result reader.new };
@@ -60,8 +60,8 @@ pub trait Integer: Sized {
     ///
     /// # Errors
     ///
-    /// `Checked(ExcessiveValue)` where the value takes more bits: no bit of it is written then. Those
-    /// of the writer's stream or limit, and `Failed` after one of the stream's.
+    /// `Checked(ExcessiveValue)` where the value takes more bits: no bit of it is written then.
+    /// Those of the writer's stream or limit, and `Failed` after one of the stream's.
     fn write<B: Width, W: BitWrite>(self, writer: &mut W) -> Result<(), Error>
         requires { IsWidth B.BITS }
         ensures writes { WritesAll W.sink (writes W.sink.order B.BITS self)
@@ -74,10 +74,10 @@ pub trait Integer: Sized {
     ///
     /// # Errors
     ///
-    /// `NoSignBit`, `BoolWidth` and `NonZeroWidth` as [`read_var`](Integer::read_var) has them; else
-    /// `Checked(ExcessiveBits)` where the type has fewer bits, and `Checked(ExcessiveValue)` where the
-    /// value takes more: no bit of the value is written then. Those of the writer's stream or limit,
-    /// and `Failed` after one of the stream's.
+    /// `NoSignBit`, `BoolWidth` and `NonZeroWidth` as [`read_var`](Integer::read_var) has them;
+    /// else `Checked(ExcessiveBits)` where the type has fewer bits, and `Checked(ExcessiveValue)`
+    /// where the value takes more: no bit of the value is written then. Those of the writer's
+    /// stream or limit, and `Failed` after one of the stream's.
     fn write_var<C: Count, W: BitWrite>(self, writer: &mut W, bits: C) -> Result<(), Error>
         ensures writes { WritesAll W.sink (writes W.sink.order (C.number bits) self)
             writer.old result writer.new };
