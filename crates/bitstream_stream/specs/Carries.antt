@@ -1,4 +1,4 @@
--- What a writer has handed on, and the bits that wait behind it.
+-- What a writer has sent, and the bits that wait behind it.
 use Rattle.std.specs.Prelude.{◌≡◌, ℕ, ◌+◌, ◌*◌, Bool, List, [], ◌++◌, length}
 use Rattle.std.specs.Io.KnownBytes.{Appends}
 use Rattle.std.proofs.Common.{sym, ap, ◌∙◌, add_assoc, add-zero, append-nil, append_assoc, length-append}
@@ -15,7 +15,7 @@ pub record WriterState : Type 0 where
   pub queue : ℕ
   pub failed : Bool
 
--- whole bytes were handed on, and the bits behind them are queued
+-- whole bytes were sent, and the bits behind them are queued
 pub record Carries (o : Order) (a : WriterState) (x : List Bool) (b : WriterState) : Type 0 where
   pub bytes : List ℕ
   pub grows : Appends a.port.bytes b.port.bytes bytes

@@ -60,7 +60,7 @@ pub record Kept {S : Type 0} (K : Sink S) (old new : S) : Type 0 where
   pub reference_names : K.reference_names new ≡ K.reference_names old
 
 -- A request was refused, as the stream may refuse, and the sink has failed. The word x would have made a
--- byte full. Whole bytes were handed on, those before the word and none but of its bits, and no bit waits.
+-- byte full. Whole bytes were sent, those before the word and none but of its bits, and no bit waits.
 pub record WriteFault {S : Type 0} (K : Sink S) (old : S) (x : List Bool) (error : Error) (new : S) : Type 0 where
   pub refusal : Refusal
   pub allowed : K.may refusal

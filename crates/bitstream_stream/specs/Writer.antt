@@ -24,7 +24,7 @@ writer_state contents reference_names w = record {
 abbrev pub requests_made : {W E : Type 0} → BitWriter W E → ℕ
 requests_made writer = requests_count writer.port
 
--- how many bits a writer has yet to hand on
+-- how many bits a writer has yet to send
 abbrev pub queued_bits : {W E : Type 0} → BitWriter W E → ℕ
 queued_bits writer = writer.queued
 

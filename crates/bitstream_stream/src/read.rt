@@ -40,8 +40,8 @@ pub trait BitRead {
     ///
     /// # Errors
     ///
-    /// `ReadBits` where the type has fewer bits: nothing is taken then. Those of the stream, and
-    /// `Failed` after one of these.
+    /// `ReadBits` where the type has fewer bits: nothing is taken then. Those of the stream, after
+    /// which the reader has failed, and `Failed` from then on.
     fn read_unsigned_counted<C: Count, U: UnsignedInteger>(&mut self, bits: C) -> Result<U, Error>
         ensures reads { Reads source (unsigned_entry source.order U.BITS_SIZE (C.number bits))
             self.old (seen U.value result) self.new };
@@ -50,8 +50,8 @@ pub trait BitRead {
     ///
     /// # Errors
     ///
-    /// `ReadBits` where the type has fewer bits: nothing is taken then. Those of the stream, and
-    /// `Failed` after one of these.
+    /// `ReadBits` where the type has fewer bits: nothing is taken then. Those of the stream, after
+    /// which the reader has failed, and `Failed` from then on.
     fn read_signed_counted<C: SignedCount, S: SignedInteger>(&mut self, bits: C) -> Result<S, Error>
         ensures reads { Reads source (signed_entry source.order S.BITS_SIZE (C.number bits))
             self.old (seen S.integer result) self.new };
@@ -76,7 +76,7 @@ pub trait BitRead {
     ///
     /// # Errors
     ///
-    /// Those of the stream, and `Failed` after one of these.
+    /// Those of the stream, after which the reader has failed, and `Failed` from then on.
     fn read_bit(&mut self) -> Result<bool, Error>
         ensures reads { Reads source bit_entry self.old result self.new }
     {
@@ -100,7 +100,7 @@ pub trait BitRead {
     ///
     /// # Errors
     ///
-    /// Those of the stream, and `Failed` after one of these.
+    /// Those of the stream, after which the reader has failed, and `Failed` from then on.
     fn read_unsigned<B: Width, U: UnsignedInteger>(&mut self) -> Result<U, Error>
         requires { B.BITS ≤ U.BITS_SIZE }
         ensures reads { Reads source (unsigned_entry source.order U.BITS_SIZE B.BITS)
@@ -132,7 +132,7 @@ pub trait BitRead {
     ///
     /// # Errors
     ///
-    /// Those of the stream, and `Failed` after one of these.
+    /// Those of the stream, after which the reader has failed, and `Failed` from then on.
     fn read_signed<B: Width, S: SignedInteger>(&mut self) -> Result<S, Error>
         requires some { 1 ≤ B.BITS }
         requires within { B.BITS ≤ S.BITS_SIZE }
@@ -146,8 +146,8 @@ pub trait BitRead {
     ///
     /// # Errors
     ///
-    /// `err` where it is another: its bits are taken then. Those of the stream, and `Failed` after
-    /// one of these, each turned into an E.
+    /// `err` where it is another: its bits are taken then. Those of the stream, after which the
+    /// reader has failed, and `Failed` from then on, each turned into an E.
     fn read_const<B: Width, V: Width, E: From<Error> + Drop>(&mut self, err: E) -> Result<(), E>
         requires word { B.BITS ≤ 32 }
         requires value { (V.BITS < 2 ^ B.BITS) ⊎ (B.BITS ≡ 0) }
@@ -163,7 +163,7 @@ pub trait BitRead {
     ///
     /// # Errors
     ///
-    /// Those of the stream, and `Failed` after one of these.
+    /// Those of the stream, after which the reader has failed, and `Failed` from then on.
     fn read_count<C: Count>(&mut self) -> Result<C, Error>
         requires some { 0 < C.MAX }
         requires full { IsTrue (is_full 32 C.MAX) }

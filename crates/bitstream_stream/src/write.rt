@@ -44,8 +44,8 @@ pub trait BitWrite {
     /// # Errors
     ///
     /// `Checked(ExcessiveBits)` where the type has fewer bits, `Checked(ExcessiveValue)` where the
-    /// number takes more: nothing is written then. Those of the stream or the limit, and `Failed`
-    /// after one of the stream's.
+    /// number takes more: nothing is written then. Those of the stream, after which the sink has
+    /// failed, and `Failed` from then on. `CounterOverflow` past a limit: nothing is written then.
     fn write_unsigned_counted<C: Count, U: UnsignedInteger>(
         &mut self,
         count: C,
@@ -60,8 +60,8 @@ pub trait BitWrite {
     /// # Errors
     ///
     /// `Checked(ExcessiveBits)` where the type has fewer bits, `Checked(ExcessiveValue)` where the
-    /// number takes more: nothing is written then. Those of the stream or the limit, and `Failed`
-    /// after one of the stream's.
+    /// number takes more: nothing is written then. Those of the stream, after which the sink has
+    /// failed, and `Failed` from then on. `CounterOverflow` past a limit: nothing is written then.
     fn write_signed_counted<C: SignedCount, S: SignedInteger>(
         &mut self,
         count: C,
@@ -98,7 +98,8 @@ pub trait BitWrite {
     /// # Errors
     ///
     /// `Checked(ExcessiveValue)` where the number takes more bits: nothing is written then. Those
-    /// of the stream or the limit, and `Failed` after one of the stream's.
+    /// of the stream, after which the sink has failed, and `Failed` from then on. `CounterOverflow`
+    /// past a limit: nothing is written then.
     fn write_unsigned<B: Width, U: UnsignedInteger>(&mut self, value: U) -> Result<(), Error>
         requires { B.BITS ≤ U.BITS_SIZE }
         ensures writes { Writes sink (unsigned sink.order U.BITS_SIZE B.BITS (U.value value))
@@ -131,7 +132,8 @@ pub trait BitWrite {
     /// # Errors
     ///
     /// `Checked(ExcessiveValue)` where the number takes more bits: nothing is written then. Those
-    /// of the stream or the limit, and `Failed` after one of the stream's.
+    /// of the stream, after which the sink has failed, and `Failed` from then on. `CounterOverflow`
+    /// past a limit: nothing is written then.
     fn write_signed<B: Width, S: SignedInteger>(&mut self, value: S) -> Result<(), Error>
         requires some { 1 ≤ B.BITS }
         requires within { B.BITS ≤ S.BITS_SIZE }
@@ -145,7 +147,8 @@ pub trait BitWrite {
     ///
     /// # Errors
     ///
-    /// Those of the stream or the limit, and `Failed` after one of the stream's.
+    /// Those of the stream, after which the sink has failed, and `Failed` from then on.
+    /// `CounterOverflow` past a limit: nothing is written then.
     fn write_const<B: Width, V: Width>(&mut self) -> Result<(), Error>
         requires word { B.BITS ≤ 32 }
         requires value { (V.BITS < 2 ^ B.BITS) ⊎ (B.BITS ≡ 0) }
@@ -159,7 +162,8 @@ pub trait BitWrite {
     ///
     /// # Errors
     ///
-    /// Those of the stream or the limit, and `Failed` after one of the stream's.
+    /// Those of the stream, after which the sink has failed, and `Failed` from then on.
+    /// `CounterOverflow` past a limit: nothing is written then.
     fn write_count<C: Count>(&mut self, count: C) -> Result<(), Error>
         requires { 0 < C.MAX }
         ensures writes { Writes sink (count_entry sink.order C.MAX (C.number count))
@@ -172,7 +176,8 @@ pub trait BitWrite {
     ///
     /// # Errors
     ///
-    /// Those of the stream or the limit, and `Failed` after one of the stream's.
+    /// Those of the stream, after which the sink has failed, and `Failed` from then on.
+    /// `CounterOverflow` past a limit: nothing is written then.
     fn write_bit(&mut self, bit: bool) -> Result<(), Error>
         ensures writes { Writes sink (one_bit bit) self.old result self.new }
     {
@@ -183,8 +188,8 @@ pub trait BitWrite {
     ///
     /// # Errors
     ///
-    /// Those of the stream, and `Failed` after one of these. `CounterOverflow` where the zeros
-    /// would pass the sink's limit: none is written then.
+    /// Those of the stream, after which the sink has failed, and `Failed` from then on.
+    /// `CounterOverflow` where the zeros would pass a limit: none is written then.
     fn byte_align(&mut self) -> Result<(), Error>
         ensures writes { Writes sink align self.old result self.new }
     {

@@ -36,7 +36,7 @@ pub trait Integer: Sized {
     ///
     /// # Errors
     ///
-    /// Those of the reader's stream, and `Failed` after one of these.
+    /// Those of the reader's stream, after which it has failed, and `Failed` from then on.
     fn read<B: Width, R: BitRead>(reader: &mut R) -> Result<Self, Error>
         requires { IsWidth B.BITS }
         ensures reads { Reads R.source (reads R.source.order B.BITS) reader.old result reader.new }
@@ -51,7 +51,7 @@ pub trait Integer: Sized {
     /// `ReadBits` where the type has fewer bits, `NoSignBit` for a signed number in 0 bits,
     /// `BoolWidth` for a `bool` in other than 1 bit, `NonZeroWidth` for a `NonZero` in as many bits
     /// as its type has, or more: no bit of the value is read then. Those of the reader's stream,
-    /// and `Failed` after one of these.
+    /// after which it has failed, and `Failed` from then on.
     fn read_var<C: Count, R: BitRead>(reader: &mut R, bits: C) -> Result<Self, Error>
         ensures reads { Reads R.source (reads R.source.order (C.number bits))
             reader.old result reader.new };
@@ -61,7 +61,8 @@ pub trait Integer: Sized {
     /// # Errors
     ///
     /// `Checked(ExcessiveValue)` where the value takes more bits: no bit of it is written then.
-    /// Those of the writer's stream or limit, and `Failed` after one of the stream's.
+    /// Those of the writer's stream, after which it has failed, and `Failed` from then on.
+    /// `CounterOverflow` past its limit, where it has one.
     fn write<B: Width, W: BitWrite>(self, writer: &mut W) -> Result<(), Error>
         requires { IsWidth B.BITS }
         ensures writes { WritesAll W.sink (writes W.sink.order B.BITS self)
@@ -77,7 +78,8 @@ pub trait Integer: Sized {
     /// `NoSignBit`, `BoolWidth` and `NonZeroWidth` as [`read_var`](Integer::read_var) has them;
     /// else `Checked(ExcessiveBits)` where the type has fewer bits, and `Checked(ExcessiveValue)`
     /// where the value takes more: no bit of the value is written then. Those of the writer's
-    /// stream or limit, and `Failed` after one of the stream's.
+    /// stream, after which it has failed, and `Failed` from then on. `CounterOverflow` past its
+    /// limit, where it has one.
     fn write_var<C: Count, W: BitWrite>(self, writer: &mut W, bits: C) -> Result<(), Error>
         ensures writes { WritesAll W.sink (writes W.sink.order (C.number bits) self)
             writer.old result writer.new };
