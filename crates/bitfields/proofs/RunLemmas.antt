@@ -87,7 +87,6 @@ Follows-err known contents command o (Ok fields) input output e (inr is) = absur
 Follows-err known contents command o (Err f) input output e (inl memory) = (inl (ap Err memory), refl, refl)
 Follows-err known contents command o (Err f) input output e (inr is) = (let same : f ≡ e = cc in (inr (ap Err (sym same)), refl, refl))
 
-
 pub Follows-refused : {R W : Type 0} (known : R → Option (List ℕ)) (contents : W → Option (List ℕ)) (command : Command) (o : Order) (layout : Result (List Field) Fault) (input : R) (output : W) (r : Result (Unit {0}) Fault) (f : Fault)
     → IsErrAnd r (λ e. e ≡ f) → IsUnlessMemory {A = List Field} layout (Err f) → Follows known contents command o layout input output r input output
 Follows-refused known contents command o layout input output (Ok done) f h why = absurd h

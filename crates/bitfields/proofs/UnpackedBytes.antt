@@ -3,19 +3,20 @@ use Rattle.std.specs.Prelude.{Bool, false, IsErrAnd}
 use Rattle.std.specs.Borrow.{GName}
 use Rattle.std.specs.Io.KnownBytes.{Consumes}
 use Rattle.std.specs.declared.io.ErrorKind.{ErrorKind}
-use Rattle.std.proofs.Common.{◌≡◌, ℕ, ◌+◌, List, [], ◌∷◌, ◌++◌, length, Option, Result, Ok, Err, refl, sym, ap, ◌∙◌, subst, arith, append_assoc, append-nil, ◌⊎◌, inl, inr}
+use Rattle.std.proofs.Common.{◌≡◌, ℕ, ◌+◌, List, [], ◌∷◌, ◌++◌, length, Option, Some, Result, Ok, Err, refl, sym, ap, ◌∙◌, subst, arith, append_assoc, inl, inr}
 use Rattle.bitstream_number.specs.Word.{Order, bits}
 use Rattle.bitstream_order.specs.TakeBits.{seen}
 use Rattle.bitstream_order.specs.Fault.{read_refusal_of}
-use Rattle.bitstream_order.specs.Refusal.{Refusal, MayRefuse}
+use Rattle.bitstream_order.specs.Refusal.{Refusal, MayRefuse, TrueEnds}
+use Rattle.bitstream_number.proofs.WordLemmas.{bits-append}
+use Rattle.bitstream_stream.proofs.ReadsLemmas.{Consumes-known}
 use Rattle.bitstream_stream.specs.Reader.{new_reader_state}
 use Rattle.bitstream_stream.specs.Reads.{ReaderState, BitSource, Demands}
 use Rattle.bitfields.specs.declared.fault.Fault.{Fault}
 use Rattle.bitfields.specs.declared.field.Field.{Field}
 use Rattle.bitfields.specs.declared.field_value.FieldValue.{FieldValue}
 use Rattle.bitfields.specs.Fault.{fault}
-use Rattle.bitfields.specs.Unpacking.{Unpacks, Stops, unpacked, read_reason, in_lines, ReadsLines, TakesBits, UnpackedBytes, ToldBytes, StarvedBytes, StoppedBytes, UnpacksBytes}
-use Rattle.bitfields.specs.Value.{printed_lines}
+use Rattle.bitfields.specs.Unpacking.{Unpacks, Stops, unpacked, read_reason, in_lines, ReadsLines, TakesBits, UnpacksBytes, IsSaid}
 use Rattle.bitfields.proofs.UnpackingLemmas.{ComesTo, ComesTo-calls, ComesTo-reference_names}
 
 -- a new reader fetched the bytes that the bits taken reach into
@@ -45,7 +46,7 @@ UnpacksKnown-from o may allowed fields known reference_names (Ok vs) t is demand
   len = t.taken;
   taken = bytes_taken known reference_names (length h.word) h.took.gone t demands h.took.loses h.took.fetched h.took.taken;
   values = vs;
-  says = told_by o (unpacked o 1 fields 0) h.took.gone h.word t.held (Unpacks vs t.taken) h.took.parts h.says;
+  says = told_whatever o (unpacked o 1 fields 0) h.took.gone h.word t.held (Unpacks vs t.taken) h.took.parts h.says;
   prints = refl;
 }
 UnpacksKnown-from o may allowed fields known reference_names (Err f) t is demands (inl h) = inl (record {
@@ -99,3 +100,22 @@ pub UnpacksBytes-exit : {R V : Type 0} (known : R → Option (List ℕ)) (may : 
     → IsErrAnd r (λ e. e ≡ f) → UnpacksBytes known may o fields old (Err f) new → UnpacksBytes known may o fields old (seen view r) new
 UnpacksBytes-exit known may o fields old new view (Ok v) f h k = absurd h
 UnpacksBytes-exit known may o fields old new view (Err e) f h k = subst (λ (x : Fault). UnpacksBytes known may o fields old (Err x) new) (sym h) k
+
+-- what the bytes taken say, whatever follows them, all bytes say
+said_by : {A : Type 0} (o : Order) (f : List Bool → A) (known after : Option (List ℕ)) (gone xs : List ℕ) (a : A) → Consumes known after gone → known ≡ Some xs → ((more : List Bool) → f (bits o gone ++ more) ≡ a) → f (bits o xs) ≡ a
+said_by o f known after gone xs a loses told says =
+    let rest = Consumes-known known after gone xs loses told in
+    ap (λ (bytes : List ℕ). f (bits o bytes)) rest.2 ∙ ap f (bits-append o gone rest.0) ∙ says (bits o rest.0)
+
+-- over a source whose refusals are all true ends, a refusal is exactly that of the bits
+pub said : {R : Type 0} (known : R → Option (List ℕ)) (may : Refusal → Type 0) (o : Order) (fields : List Field) (old new : R) (result : Result (List ℕ) Fault) → UnpacksBytes known may o fields old result new → TrueEnds may
+    → (xs : List ℕ) → known old ≡ Some xs → IsSaid o fields xs result
+said known may o fields old new (Ok text) h ends xs told = record {
+  values = h.values;
+  len = h.len;
+  says = said_by o (unpacked o 1 fields 0) (known old) (known new) h.gone xs (Unpacks h.values h.len) h.taken.loses told h.says;
+  prints = h.prints;
+}
+said known may o fields old new (Err f) (inl h) ends xs told = inr (said_by o (unpacked o 1 fields 0) (known old) (known new) h.gone xs (Stops f) h.taken.loses told h.says)
+said known may o fields old new (Err f) (inr (inl h)) ends xs told = inl (ap (λ (why : Fault). why.reason) h.reason)
+said known may o fields old new (Err f) (inr (inr h)) ends xs told = inr (h.ended (ends h.refusal h.allowed) xs told)

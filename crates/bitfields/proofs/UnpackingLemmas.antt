@@ -1,10 +1,9 @@
 -- Unpacking from a reader, field by field.
-use Rattle.std.specs.Prelude.{Bool, true, false, IsSome}
+use Rattle.std.specs.Prelude.{Bool, false, IsSome}
 use Rattle.std.proofs.Common.{◌≡◌, ℕ, ◌+◌, ◌<◌, ◌≤◌, List, [], ◌∷◌, ◌++◌, length, drop, get_or, Option, Some, None, Result, Ok, Err, refl, sym, ap, ◌∙◌, subst, inl, inr, ◌⊎◌, arith, append_assoc, add-one, drop-cons, length-append, append-nil}
 use Rattle.std.proofs.KnownBytes.{Consumes-trans}
 use Rattle.std.proofs.lemmas.List.{drop_all}
 use Rattle.std.proofs.lemmas.List.Concat.{flat_map-append}
-use Rattle.std.specs.Borrow.{GName}
 use Rattle.std.specs.Io.KnownBytes.{Consumes}
 use Rattle.bitstream_number.specs.Word.{Order, bits}
 use Rattle.bitstream_number.proofs.WordLemmas.{bits-append}
@@ -19,7 +18,7 @@ use Rattle.bitfields.specs.declared.fault.Reason.TheVariants.{BitsEnded, OutOfMe
 use Rattle.bitfields.specs.declared.field.Field.{Field}
 use Rattle.bitfields.specs.declared.field_value.FieldValue.{FieldValue}
 use Rattle.bitfields.specs.Fault.{fault}
-use Rattle.bitfields.specs.Unpacking.{Unpacked, Unpacks, Stops, unpacked, values_and, field_read, read_reason, behind, Starved, Refused, ReadsFields, ReadsLines, in_lines}
+use Rattle.bitfields.specs.Unpacking.{Unpacked, Unpacks, Stops, unpacked, values_and, field_read, read_reason, behind, ReadsFields, ReadsLines}
 use Rattle.bitfields.specs.Value.{printed_line, printed_lines, value_list}
 use Rattle.bitfields.proofs.FieldCalls.{unpacked-first, unpacked-refused, unpacked-short}
 

@@ -1,5 +1,5 @@
 -- Unpacking: the values that bits hold for fields.
-use Rattle.std.specs.Prelude.{◌≡◌, ◌⊎◌, ◌<◌, ◌≤◌, ◌*◌, Result, Ok, Err, Option, Some, None, ℕ, ◌+◌, Bool, true, false, List, [], ◌∷◌, ◌++◌, length, map}
+use Rattle.std.specs.Prelude.{◌≡◌, ◌⊎◌, ◌<◌, ◌≤◌, ◌*◌, Result, Ok, Err, Option, Some, None, ℕ, ◌+◌, Bool, List, [], ◌∷◌, ◌++◌, length, map}
 use Rattle.std.specs.Io.KnownBytes.{Consumes}
 use Rattle.bitstream_number.specs.Word.{Order, bits}
 use Rattle.bitstream_count.specs.declared.error.Error.{Error}
@@ -97,13 +97,13 @@ pub record TakesBits (known : Option (List ℕ)) (gone : List ℕ) (len : ℕ) (
   pub loses : Consumes known after gone
   pub least : (8 * length gone < len + 8) × (len ≤ 8 * length gone)
 
--- A stream lost as many bytes as the fields' bits reach into; these say the values whose lines are printed.
+-- A stream lost as many bytes as the fields' bits reach into; these say the values whose lines are printed, whatever follows them.
 pub record UnpackedBytes (o : Order) (fields : List Field) (old : Option (List ℕ)) (text : List ℕ) (new : Option (List ℕ)) : Type 0 where
   pub gone : List ℕ
   pub len : ℕ
   pub taken : TakesBits old gone len new
   pub values : List FieldValue
-  pub says : unpacked o 1 fields 0 (bits o gone) ≡ Unpacks values len
+  pub says : (more : List Bool) → unpacked o 1 fields 0 (bits o gone ++ more) ≡ Unpacks values len
   pub prints : text ≡ printed_lines values
 
 -- The bytes taken say the fault.
@@ -145,3 +145,15 @@ abbrev pub UnpacksBytes : {R : Type 0} → (R → Option (List ℕ)) → (Refusa
 UnpacksBytes known may o fields old (Ok text) new = UnpackedBytes o fields (known old) text (known new)
 UnpacksBytes known may o fields old (Err f) new =
     ToldBytes o fields (known old) f (known new) ⊎ StarvedBytes o fields (known old) f (known new) ⊎ StoppedBytes may o fields (known old) f
+
+-- all bytes of a stream say the values whose lines are printed
+pub record SaidBytes (o : Order) (fields : List Field) (xs text : List ℕ) : Type 0 where
+  pub values : List FieldValue
+  pub len : ℕ
+  pub says : unpacked o 1 fields 0 (bits o xs) ≡ Unpacks values len
+  pub prints : text ≡ printed_lines values
+
+-- the lines or the fault that all bytes of a stream say, want of memory aside
+abbrev pub IsSaid : Order → List Field → List ℕ → Result (List ℕ) Fault → Type 0
+IsSaid o fields xs (Ok text) = SaidBytes o fields xs text
+IsSaid o fields xs (Err f) = (f.reason ≡ OutOfMemory) ⊎ (unpacked o 1 fields 0 (bits o xs) ≡ Stops f)

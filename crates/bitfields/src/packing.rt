@@ -25,7 +25,8 @@ pub fn pack<E: Endianness, W: Target>(
     input: &[u8],
     output: &mut W,
 ) -> Result<(), Fault>
-    ensures { Packs W.contents (MayRefuseSend W.refuses) E.order layout.now (values_of 1 layout.now (lines_of input.now)) output.old result output.new }
+    ensures { Packs W.contents (MayRefuseSend W.refuses) E.order layout.now (values_of 1 layout.now (lines_of input.now))
+        output.old result output.new }
 {
     let values = values(alloc, layout, input)?;
     let mut writer = BitWriter::<Lent<W>, E>::new(Lent::new(output));
@@ -43,7 +44,8 @@ pub fn pack_to<W: BitWrite>(
     writer: &mut W,
 ) -> Result<(), Error>
     requires fit { Fit layout.now values.now }
-    ensures calls { WritesAll W.sink (field_writes W.sink.order layout.now values.now ++ align ∷ []) writer.old result writer.new }
+    ensures calls { WritesAll W.sink (field_writes W.sink.order layout.now values.now ++ align ∷ [])
+        writer.old result writer.new }
     ensures adds { W.sink.failed writer.old ≡ false → W.sink.limit ≡ None →
         WritesBits W.sink (packed W.sink.order layout.now values.now (W.sink.len writer.old)) writer.old result writer.new }
 {

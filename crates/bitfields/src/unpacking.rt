@@ -1,10 +1,10 @@
 //! Unpacking: the lines of the values that bits hold for the fields of a layout.
 
-ghost use Rattle.std.specs.Prelude.{◌≡◌, ◌++◌, string_bytes, IsErr, IsSome, OnOk};
+ghost use Rattle.std.specs.Prelude.{◌≡◌, ◌++◌, ℕ, List, Some, string_bytes, IsErr, IsSome, OnOk};
 ghost use Rattle.bitstream_order.specs.TakeBits.{seen};
-ghost use Rattle.bitstream_order.specs.Refusal.{MayRefuse};
+ghost use Rattle.bitstream_order.specs.Refusal.{MayRefuse, TrueEnds};
 ghost use Rattle.bitstream_stream.specs.Reads.{Reads};
-ghost use Rattle.bitfields.specs.Unpacking.{field_read, read_reason as read_reason_of, ReadsLines, UnpacksBytes};
+ghost use Rattle.bitfields.specs.Unpacking.{field_read, read_reason as read_reason_of, IsSaid, ReadsLines, UnpacksBytes};
 ghost use Rattle.bitfields.specs.Value.{value_list, printed_lines};
 
 use crate::fault::{Fault, Reason};
@@ -25,7 +25,10 @@ pub fn unpack<E: Endianness, R: Source>(
     layout: &Layout,
     input: &mut R,
 ) -> Result<Vec<u8>, Fault>
-    ensures { UnpacksBytes R.remaining (MayRefuse R.remaining R.refuses) E.order layout.now input.old (seen (λ v. v.items) result) input.new }
+    ensures unpacks { UnpacksBytes R.remaining (MayRefuse R.remaining R.refuses) E.order layout.now
+        input.old (seen (λ v. v.items) result) input.new }
+    ensures said { TrueEnds (MayRefuse R.remaining R.refuses) → (xs : List ℕ) → R.remaining input.old ≡ Some xs →
+        IsSaid E.order layout.now xs (seen (λ v. v.items) result) }
 {
     let mut reader = BitReader::<Lent<R>, E>::new(Lent::new(input));
     let lines = unpack_from(alloc, layout, &mut reader)?;

@@ -12,7 +12,7 @@ returns-in-Ok g c =
     let w = c.pack_to.new.writer in
     let fresh = c.new-writer.ensures in
     let added = c.in-Ok.ensures.adds (ap (λ (s : WriterState). s.failed) fresh) refl in
-    let read = value_expected c.in_ok-values.ensures.values in
+    let read = (value_expected c.in_ok-values.ensures.values) in
     let place = heads c.new.result.at.ghost_name w.port.stream.at.ghost_name _ _ (added.reference_names ∙ ap (λ (s : WriterState). s.port.reference_names) fresh) in
     let tied = c.output-1.given.1 (sym c.new.ensures.name ∙ sym place) in
     let bytes = PackedBytes-from g.E.Endianness.order c.args.layout.now c.deref.result.now _ _ _ (writer_state (λ l. g.W.Target.contents l.at.now) (λ l. l.at.ghost_name ∷ g.W.Target.reference_names l.at.now) w) w.few fresh added.grown in
@@ -27,8 +27,7 @@ returns g c =
     let none = ap (λ (s : WriterState). 8 * s.port.sent + s.queued) fresh in
     let seen = MayRefuseSend-seen (λ l. l.at.now) g.W.Target.refuses in
     let refused = RefusedBytes-from _ (MayRefuseSend g.W.Target.refuses) c.args.layout.now c.deref.result.now _ _ c.in-Err.error _ seen none fault (c.new-in-Err.ensures ∙ ap (fault_of 0) c.write_reason.ensures) in
-    let read = value_expected c.in_ok-values.ensures.values in
-    rw (read, ← c.deref.ensures.value) (inr refused)
+    rw ((value_expected c.in_ok-values.ensures.values), ← c.deref.ensures.value) (inr refused)
 
 pub returns-in_err-values : goal.returns-in_err-values
 returns-in_err-values g c =

@@ -1,29 +1,41 @@
-use Rattle.std.proofs.Common.{rules, ◌≡◌, ◌∷◌, sym, ◌∙◌, string_bytes, Ok, Err}
+use Rattle.std.proofs.Common.{rules, ◌≡◌, ◌∷◌, sym, ◌∙◌, string_bytes, Ok}
+use Rattle.bitstream_order.specs.TakeBits.{seen}
 use Rattle.bitstream_order.specs.Refusal.{MayRefuse}
+use Rattle.bitfields.specs.Unpacking.{UnpacksBytes}
 use Rattle.bitfields.proofs.PackingLemmas.{heads}
-use Rattle.bitfields.proofs.UnpackedBytes.{Unpacks-from, UnpacksBytes-exit, MayRefuse-seen}
+use Rattle.bitfields.proofs.UnpackedBytes.{Unpacks-from, UnpacksBytes-exit, MayRefuse-seen, said}
 use Rattle.bitfields.proofs.unpacking.unpack.Goals as goal
 
 pub returns : goal.returns
 returns g c =
+    let text : c.into_bytes.result.items ≡ string_bytes c.in_ok-lines.lines = search rules in
+    let o = g.E.Endianness.order in
     let source = g.R.Source in
+    let may = MayRefuse source.remaining source.refuses in
+    let fields = c.args.layout.now in
     let first = c.new.result in
     let last = c.unpack_from.new.reader.port.stream in
-    let seen = MayRefuse-seen (λ l. l.at.now) source.remaining source.refuses in
-    let all = Unpacks-from _ (MayRefuse source.remaining source.refuses) c.args.layout.now (source.remaining first.at.now) (first.at.ghost_name ∷ source.reference_names first.at.now) _ _ _ seen c.new-reader.ensures c.in_ok-lines.ensures in
+    let inside = MayRefuse-seen (λ l. l.at.now) source.remaining source.refuses in
+    let all = Unpacks-from _ may fields (source.remaining first.at.now) (first.at.ghost_name ∷ source.reference_names first.at.now) _ _ _ inside c.new-reader.ensures c.in_ok-lines.ensures in
     let place = heads first.at.ghost_name last.at.ghost_name _ _ all.1 in
     let tied = c.input-1.given.1 (sym c.new.ensures.name ∙ sym place) in
-    let text : c.into_bytes.result.items ≡ string_bytes c.in_ok-lines.lines = search rules in
-    rw (tied, text, ← c.new.ensures.value) all.0
+    let result = Ok c.into_bytes.result.items in
+    let bytes : UnpacksBytes source.remaining may o fields c.args.input.now result c.input-1.given.0 = rw (tied, text, ← c.new.ensures.value) all.0 in
+    record { unpacks = bytes; said = said source.remaining may o fields c.args.input.now c.input-1.given.0 result bytes }
 
 pub returns-in_err-lines : goal.returns-in_err-lines
 returns-in_err-lines g c =
+    let o = g.E.Endianness.order in
     let source = g.R.Source in
+    let may = MayRefuse source.remaining source.refuses in
+    let fields = c.args.layout.now in
     let first = c.new.result in
     let last = c.unpack_from.new.reader.port.stream in
-    let seen = MayRefuse-seen (λ l. l.at.now) source.remaining source.refuses in
-    let all = Unpacks-from _ (MayRefuse source.remaining source.refuses) c.args.layout.now (source.remaining first.at.now) (first.at.ghost_name ∷ source.reference_names first.at.now) _ _ _ seen c.new-reader.ensures c.in_err-lines.ensures in
+    let inside = MayRefuse-seen (λ l. l.at.now) source.remaining source.refuses in
+    let all = Unpacks-from _ may fields (source.remaining first.at.now) (first.at.ghost_name ∷ source.reference_names first.at.now) _ _ _ inside c.new-reader.ensures c.in_err-lines.ensures in
     let place = heads first.at.ghost_name last.at.ghost_name _ _ all.1 in
     let tied = c.input-1.given.1 (sym c.new.ensures.name ∙ sym place) in
-    UnpacksBytes-exit source.remaining (MayRefuse source.remaining source.refuses) g.E.Endianness.order c.args.layout.now _ _ (λ v. v.items) c.from_residual.result c.in_err-lines.field-0.0 c.from_residual.ensures.1
-    (rw (tied, ← c.new.ensures.value) all.0)
+    let result = seen (λ v. v.items) c.from_residual.result in
+    let bytes : UnpacksBytes source.remaining may o fields c.args.input.now result c.input-1.given.0 =
+    UnpacksBytes-exit source.remaining may o fields c.args.input.now c.input-1.given.0 (λ v. v.items) c.from_residual.result c.in_err-lines.field-0.0 c.from_residual.ensures.1 (rw (tied, ← c.new.ensures.value) all.0) in
+    record { unpacks = bytes; said = said source.remaining may o fields c.args.input.now c.input-1.given.0 result bytes }
