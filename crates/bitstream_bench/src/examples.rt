@@ -1,16 +1,102 @@
-//! The examples that stand beside the items, word for word.
+//! The examples of the doc comments and of the front page, made by `.ci/examples` and compared by the
+//! gate: to change one, change it where it stands.
 use bitstream_io::{
     BE, BitCount, BitRead, BitReadExt, BitReader, BitWrite, BitWriteExt, BitWriter, Bits,
-    CheckedError, CheckedUnsigned, Count, Error, LE, Lent, SignedBitCount, SignedCount,
+    CheckedError, CheckedUnsigned, Count, Error, LE, Lent, SignedBitCount, SignedCount, Slice,
     UnsignedInteger,
 };
 use std::num::NonZero;
-use std::process::Abort;
 use std::test::Fail;
 
 #[test]
-fn reads_a_header(rt: HostRuntime) -> Result<(), Fail> {
-    let mut reader = BitReader::<_, BE>::new([0xb1, 0xed].as_slice());
+fn example_of_bit_count(rt: HostRuntime) -> Result<(), Fail> {
+    let count = BitCount::<8>::new::<5>();
+    assert_eq!(rt; count.checked_add::<16>(11).map(|sum| sum.bits()), Some(16));
+    assert_eq!(rt; count.checked_add::<16>(12).map(|sum| sum.bits()), None);
+    let range = count.range::<u8>();
+    assert_eq!(rt; (*range.start(), *range.end()), (0, 31));
+    Ok(())
+}
+
+#[test]
+fn example_of_checked(rt: HostRuntime) -> Result<(), Fail> {
+    let count = BitCount::<8>::new::<3>();
+    let value = CheckedUnsigned::new(count, 7u8);
+    assert_eq!(rt; value.map(|v| v.into_value()).ok(), Some(7));
+    let value = CheckedUnsigned::new(count, 8u8);
+    assert!(rt; matches!(value, Err(CheckedError::ExcessiveValue)));
+    Ok(())
+}
+
+#[test]
+fn example_of_lsb_mask(rt: HostRuntime) -> Result<(), Fail> {
+    let (high, low) = BitCount::<8>::new::<3>().mask_lsb::<u8>().split(222);
+    assert_eq!(rt; high, 27);
+    assert_eq!(rt; low.into_value(), 6);
+    Ok(())
+}
+
+#[test]
+fn example_of_signed_bit_count(rt: HostRuntime) -> Result<(), Fail> {
+    let count = SignedBitCount::<8>::new::<4>();
+    let range = count.range::<i8>();
+    assert_eq!(rt; (*range.start(), *range.end()), (-8, 7));
+    assert_eq!(rt; count.checked_sub::<8>(4).map(|left| left.bits()), None);
+    Ok(())
+}
+
+#[test]
+fn example_of_front(rt: HostRuntime) -> Result<(), Fail> {
+    let bytes = [0xbe, 0xff, 0xff, 0x80];
+    let mut reader = BitReader::<_, BE>::new(Slice::new(&bytes));
+    let kind = reader.read::<Bits<3>, u8>()?;
+    let level = reader.read::<Bits<5>, i8>()?;
+    let size: u32 = reader.read_var(17)?;
+    assert_eq!(rt; (kind, level, size), (5, -2, 131071));
+    Ok(())
+}
+
+#[test]
+fn example_of_unsigned_integer(rt: HostRuntime) -> Result<(), Fail> {
+    assert_eq!(rt; UnsignedInteger::checked_shl(3u8, 7), Some(128));
+    assert_eq!(rt; UnsignedInteger::checked_shl(3u8, 8), None);
+    assert_eq!(rt; UnsignedInteger::shl_default(3u8, 8), 0);
+    Ok(())
+}
+
+#[test]
+fn example_of_lent(rt: HostRuntime) -> Result<(), Fail> {
+    let mut bytes: &[u8] = &[0x12, 0x34];
+    let mut reader = BitReader::<_, BE>::new(Lent::new(&mut bytes));
+    assert_eq!(rt; reader.read_unsigned_var::<u8>(4)?, 1);
+    assert_eq!(rt; bytes, [0x34].as_slice());
+    Ok(())
+}
+
+#[test]
+fn example_of_slice(rt: HostRuntime) -> Result<(), Fail> {
+    let mut reader = BitReader::<_, BE>::new(Slice::new(&[0xb1, 0xed]));
+    assert_eq!(rt; reader.read_unsigned_var::<u16>(12)?, 0xb1e);
+    assert!(rt; matches!(reader.read_unsigned_var::<u8>(8), Err(Error::EndOfInput)));
+    Ok(())
+}
+
+#[test]
+fn example_of_bit_read(rt: HostRuntime) -> Result<(), Fail> {
+    let mut reader = BitReader::<_, BE>::new([0x7e, 0x58].as_slice());
+    reader.read_const::<Bits<4>, Bits<7>, Error>(Error::NoSignBit)?;
+    assert_eq!(rt; reader.read_signed::<Bits<4>, i32>()?, -2);
+    let last = reader.read_count::<BitCount<7>>()?;
+    assert_eq!(rt; reader.read_unsigned_counted::<_, u8>(last)?, 3);
+    reader.byte_align();
+    assert!(rt; matches!(reader.read_bit(), Err(Error::EndOfInput)));
+    assert!(rt; matches!(reader.read_bit(), Err(Error::Failed)));
+    Ok(())
+}
+
+#[test]
+fn example_of_bit_reader(rt: HostRuntime) -> Result<(), Fail> {
+    let mut reader = BitReader::<_, BE>::new(Slice::new(&[0xb1, 0xed]));
     let kind: u8 = reader.read_unsigned::<Bits<2>, _>()?;
     let level: i8 = reader.read_signed_var(3)?;
     assert_eq!(rt; kind, 2);
@@ -22,20 +108,33 @@ fn reads_a_header(rt: HostRuntime) -> Result<(), Fail> {
 }
 
 #[test]
-fn writes_a_header(rt: HostRuntime) -> Result<(), Fail> {
+fn example_of_bit_write(rt: HostRuntime) -> Result<(), Fail> {
+    let mut bytes = Vec::new(rt.alloc());
+    let mut writer = BitWriter::<_, BE>::new(&mut bytes);
+    let count = BitCount::<7>::new::<2>();
+    writer.write_const::<Bits<4>, Bits<7>>()?;
+    writer.write_signed::<Bits<4>, i32>(-2)?;
+    writer.write_count(count)?;
+    writer.write_unsigned_counted(count, 3u8)?;
+    writer.byte_align()?;
+    assert_eq!(rt; bytes.as_slice(), [0x7e, 0x58].as_slice());
+    Ok(())
+}
+
+#[test]
+fn example_of_bit_writer(rt: HostRuntime) -> Result<(), Fail> {
     let mut bytes = Vec::new(rt.alloc());
     let mut writer = BitWriter::<_, BE>::new(&mut bytes);
     writer.write_unsigned::<Bits<4>, u8>(0xb)?;
     writer.write_signed_var::<i8>(4, -3)?;
     writer.write_bit(true)?;
     writer.byte_align()?;
-    let _ = writer;
     assert_eq!(rt; bytes.as_slice(), [0xbd, 0x80].as_slice());
     Ok(())
 }
 
 #[test]
-fn reads_values(rt: HostRuntime) -> Result<(), Fail> {
+fn example_of_bit_read_ext(rt: HostRuntime) -> Result<(), Fail> {
     let mut reader = BitReader::<_, LE>::new([0x0d, 0x03].as_slice());
     let flags = reader.read::<Bits<1>, [bool; 4]>()?;
     assert_eq!(rt; flags, [true, false, true, true]);
@@ -46,78 +145,11 @@ fn reads_values(rt: HostRuntime) -> Result<(), Fail> {
 }
 
 #[test]
-fn writes_values(rt: HostRuntime) -> Result<(), Fail> {
+fn example_of_bit_write_ext(rt: HostRuntime) -> Result<(), Fail> {
     let mut bytes = Vec::new(rt.alloc());
     let mut writer = BitWriter::<_, LE>::new(&mut bytes);
     writer.write::<Bits<1>, [bool; 4]>([true, false, true, true])?;
     writer.write_var::<i8>(4, -1)?;
-    let _ = writer;
     assert_eq!(rt; bytes.as_slice(), [0xfd].as_slice());
-    Ok(())
-}
-
-#[test]
-fn lends_a_stream(rt: HostRuntime) -> Result<(), Fail> {
-    let mut bytes: &[u8] = &[0x12, 0x34];
-    let mut reader = BitReader::<_, BE>::new(Lent::new(&mut bytes));
-    assert_eq!(rt; reader.read_unsigned_var::<u8>(4)?, 1);
-    let _ = reader;
-    assert_eq!(rt; bytes, [0x34].as_slice());
-    Ok(())
-}
-
-#[test]
-fn counts_bits(rt: HostRuntime) -> Result<(), Fail> {
-    let count = BitCount::<8>::new::<5>();
-    assert_eq!(rt; count.checked_add::<16>(11).map(|sum| sum.bits()), Some(16));
-    assert_eq!(rt; count.checked_add::<16>(12).map(|sum| sum.bits()), None);
-    let range = count.range::<u8>();
-    assert_eq!(rt; (*range.start(), *range.end()), (0, 31));
-    Ok(())
-}
-
-#[test]
-fn counts_signed_bits(rt: HostRuntime) -> Result<(), Fail> {
-    let count = SignedBitCount::<8>::new::<4>();
-    let range = count.range::<i8>();
-    assert_eq!(rt; (*range.start(), *range.end()), (-8, 7));
-    assert_eq!(rt; count.checked_sub::<8>(4).map(|left| left.bits()), None);
-    Ok(())
-}
-
-#[test]
-fn checks_values(rt: HostRuntime) -> Result<(), Fail> {
-    let count = BitCount::<8>::new::<3>();
-    let value = CheckedUnsigned::new(count, 7u8);
-    assert_eq!(rt; value.map(|v| v.into_value()).ok(), Some(7));
-    let value = CheckedUnsigned::new(count, 8u8);
-    assert!(rt; matches!(value, Err(CheckedError::ExcessiveValue)));
-    Ok(())
-}
-
-#[test]
-fn splits_numbers(rt: HostRuntime) -> Result<(), Fail> {
-    let (high, low) = BitCount::<8>::new::<3>().mask_lsb::<u8>().split(222);
-    assert_eq!(rt; high, 27);
-    assert_eq!(rt; low.into_value(), 6);
-    Ok(())
-}
-
-#[test]
-fn moves_bits(rt: HostRuntime) -> Result<(), Fail> {
-    assert_eq!(rt; UnsignedInteger::checked_shl(3u8, 7), Some(128));
-    assert_eq!(rt; UnsignedInteger::checked_shl(3u8, 8), None);
-    assert_eq!(rt; UnsignedInteger::shl_default(3u8, 8), 0);
-    Ok(())
-}
-
-#[test]
-fn reads_a_frame(rt: HostRuntime) -> Result<(), Fail> {
-    let bytes = [0xbe, 0xff, 0xff, 0x80];
-    let mut reader = BitReader::<_, BE>::new(&bytes[..]);
-    let kind = reader.read::<Bits<3>, u8>()?;
-    let level = reader.read::<Bits<5>, i8>()?;
-    let size: u32 = reader.read_var(17)?;
-    assert_eq!(rt; (kind, level, size), (5, -2, 131071));
     Ok(())
 }

@@ -16,9 +16,9 @@ mod numbers;
 #[cfg(test)]
 mod own;
 mod refuse;
-pub mod sure;
 #[cfg(test)]
 mod streams;
+pub mod sure;
 
 pub use count::Count;
 pub use drip::Drip;
