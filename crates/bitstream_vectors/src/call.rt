@@ -7,7 +7,7 @@ use std::num::ParseIntError;
 use std::str::FromStr;
 
 /// A call with the answer that a row wants.
-#[derive(Clone, Copy, Debug, Drop)]
+#[derive(Clone, Copy, Drop)]
 pub struct Call<'a> {
     /// What it reads or writes, or asks.
     pub form: Form,

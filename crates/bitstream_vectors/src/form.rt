@@ -2,7 +2,7 @@
 use crate::objection::Objection;
 
 /// The number of bits of a type.
-#[derive(Clone, Copy, Debug, PartialEq, Eq, Drop)]
+#[derive(Clone, Copy, Drop)]
 pub enum Size {
     Bits8,
     Bits16,
@@ -12,14 +12,14 @@ pub enum Size {
 }
 
 /// An integer type.
-#[derive(Clone, Copy, Debug, PartialEq, Eq, Drop)]
+#[derive(Clone, Copy, Drop)]
 pub enum Number {
     Unsigned(Size),
     Signed(Size),
 }
 
 /// An array of items in as many bits each.
-#[derive(Clone, Copy, Debug, PartialEq, Eq, Drop)]
+#[derive(Clone, Copy, Drop)]
 pub enum Items {
     /// Four of `u8`.
     Bytes,
@@ -32,7 +32,7 @@ pub enum Items {
 }
 
 /// What a call reads or writes, or asks.
-#[derive(Clone, Copy, Debug, PartialEq, Eq, Drop)]
+#[derive(Clone, Copy, Drop)]
 pub enum Form {
     /// Whether the stream stands at the end of a byte.
     Aligned,

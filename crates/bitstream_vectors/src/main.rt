@@ -54,14 +54,14 @@ use std::rt::Files;
 const FILES: [&str; 2] = ["vectors.tsv", "r03_words.tsv"];
 
 /// How many rows a file has, how many were played, and how many differ.
-#[derive(Clone, Copy, Debug, PartialEq, Eq, Drop)]
-struct Tally {
+#[derive(Clone, Copy, Drop)]
+struct Totals {
     rows: u32,
     played: u32,
     differing: u32,
 }
 
-impl Tally {
+impl Totals {
     /// Counts a row, and prints one that differs.
     fn note(
         &mut self,
@@ -87,21 +87,21 @@ impl Tally {
 /// Plays the rows of a file.
 fn play_file(rt: &(impl Files + Print + Alloc), alloc: Global, name: &str) -> io::Result<()> {
     let text = std::fs::read_to_string(rt, name)?;
-    let mut tally = Tally {
+    let mut totals = Totals {
         rows: 0,
         played: 0,
         differing: 0,
     };
     for line in text.as_str().lines() {
         if !line.starts_with('#') {
-            tally.note(rt, line, replay(alloc, line))?;
+            totals.note(rt, line, replay(alloc, line))?;
         }
     }
-    let Tally {
+    let Totals {
         rows,
         played,
         differing,
-    } = tally;
+    } = totals;
     println!(rt; "{name}: {rows} rows, {played} played, {differing} differ")
 }
 

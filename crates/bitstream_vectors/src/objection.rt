@@ -3,7 +3,7 @@
 use std::alloc::{AllocError, AllocFailed};
 
 /// What is not as a row says.
-#[derive(Clone, Copy, Debug, PartialEq, Eq, Drop)]
+#[derive(Clone, Copy, Drop)]
 pub enum Difference {
     /// The row is of a form that the head of its file does not name.
     Form,
@@ -37,7 +37,7 @@ impl Difference {
 }
 
 /// Why a row does not stand.
-#[derive(Clone, Copy, Debug, PartialEq, Eq, Drop)]
+#[derive(Clone, Copy, Drop)]
 pub enum Objection {
     /// It names a call, a width or a constant that is not there yet.
     NotYet,

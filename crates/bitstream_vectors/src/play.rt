@@ -11,7 +11,7 @@ use std::alloc::Global;
 use std::io::{ErrorKind, Read, Write};
 
 /// A request that a stream refuses, as each later one.
-#[derive(Clone, Copy, Debug, Drop)]
+#[derive(Clone, Copy, Drop)]
 pub struct Fault {
     /// How many requests it serves before.
     pub served: u32,
@@ -22,7 +22,7 @@ pub struct Fault {
 }
 
 /// What the stream of a play does.
-#[derive(Clone, Copy, Debug, Drop)]
+#[derive(Clone, Copy, Drop)]
 pub enum Way {
     /// It is a slice or a vector.
     Plain,
@@ -65,7 +65,7 @@ impl Way {
 }
 
 /// What a play did to its stream.
-#[derive(Clone, Copy, Debug, PartialEq, Eq, Drop)]
+#[derive(Clone, Copy, Drop)]
 pub struct Moved {
     /// How many requests were made.
     pub requests: u64,

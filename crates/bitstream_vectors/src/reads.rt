@@ -1,11 +1,13 @@
 //! Read calls of the rows.
+ghost use Rattle.std.specs.Prelude.{◌≡◌, ◌≤◌, ◌<◌, ◌^◌, ◌⊎◌};
+
 use crate::answer::{refused, shown, text};
 use crate::call::{Call, number};
 use crate::fixed::read_fixed;
 use crate::form::{Form, Items, Number, Size};
 use crate::objection::Objection;
 use bitstream_io::{
-    BitCount, BitRead, BitReadExt, Bits, Error, Integer, SignedInteger, UnsignedInteger,
+    BitCount, BitRead, BitReadExt, Bits, Error, Integer, SignedInteger, UnsignedInteger, Width,
 };
 use std::alloc::Global;
 use std::fmt::Display;
@@ -230,7 +232,7 @@ fn read_count<R: BitRead>(alloc: Global, reader: &mut R, max: u32) -> Result<Str
 }
 
 /// Why a constant was not read.
-#[derive(Debug, Drop)]
+#[derive(Drop)]
 enum NotRead {
     Differs,
     Refused(Error),
@@ -242,28 +244,37 @@ impl From<Error> for NotRead {
     }
 }
 
+/// Reads the constant that V says in as many bits as B says.
+fn read_const_in<B: Width, V: Width, R: BitRead>(
+    alloc: Global,
+    reader: &mut R,
+) -> Result<String, Objection>
+    requires word { B.BITS ≤ 32 }
+    requires value { (V.BITS < 2 ^ B.BITS) ⊎ (B.BITS ≡ 0) }
+{
+    match reader.read_const::<B, V, NotRead>(NotRead::Differs) {
+        Ok(()) => text(alloc, "ok"),
+        Err(NotRead::Differs) => text(alloc, "Differs"),
+        Err(NotRead::Refused(error)) => refused(alloc, error),
+    }
+}
+
 fn read_const<R: BitRead>(
     alloc: Global,
     reader: &mut R,
     bits: u32,
     value: u32,
 ) -> Result<String, Objection> {
-    let err = NotRead::Differs;
-    let answer = match (bits, value) {
-        (0, 0) => reader.read_const::<Bits<0>, Bits<0>, NotRead>(err),
-        (0, 1) => reader.read_const::<Bits<0>, Bits<1>, NotRead>(err),
-        (1, 1) => reader.read_const::<Bits<1>, Bits<1>, NotRead>(err),
-        (3, 5) => reader.read_const::<Bits<3>, Bits<5>, NotRead>(err),
-        (4, 2) => reader.read_const::<Bits<4>, Bits<2>, NotRead>(err),
-        (5, 19) => reader.read_const::<Bits<5>, Bits<19>, NotRead>(err),
-        (8, 177) => reader.read_const::<Bits<8>, Bits<177>, NotRead>(err),
-        (12, 2643) => reader.read_const::<Bits<12>, Bits<2643>, NotRead>(err),
-        (32, 4294967295) => reader.read_const::<Bits<32>, Bits<4294967295>, NotRead>(err),
-        _ => return Err(Objection::NotYet),
-    };
-    match answer {
-        Ok(()) => text(alloc, "ok"),
-        Err(NotRead::Differs) => text(alloc, "Differs"),
-        Err(NotRead::Refused(error)) => refused(alloc, error),
+    match (bits, value) {
+        (0, 0) => read_const_in::<Bits<0>, Bits<0>, R>(alloc, reader),
+        (0, 1) => read_const_in::<Bits<0>, Bits<1>, R>(alloc, reader),
+        (1, 1) => read_const_in::<Bits<1>, Bits<1>, R>(alloc, reader),
+        (3, 5) => read_const_in::<Bits<3>, Bits<5>, R>(alloc, reader),
+        (4, 2) => read_const_in::<Bits<4>, Bits<2>, R>(alloc, reader),
+        (5, 19) => read_const_in::<Bits<5>, Bits<19>, R>(alloc, reader),
+        (8, 177) => read_const_in::<Bits<8>, Bits<177>, R>(alloc, reader),
+        (12, 2643) => read_const_in::<Bits<12>, Bits<2643>, R>(alloc, reader),
+        (32, 4294967295) => read_const_in::<Bits<32>, Bits<4294967295>, R>(alloc, reader),
+        _ => Err(Objection::NotYet),
     }
 }

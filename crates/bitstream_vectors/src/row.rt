@@ -5,21 +5,21 @@ use crate::objection::Objection;
 use std::alloc::Global;
 
 /// Whether the calls of a row read or write.
-#[derive(Clone, Copy, Debug, PartialEq, Eq, Drop)]
+#[derive(Clone, Copy, PartialEq, Eq, Drop)]
 pub enum Kind {
     Read,
     Write,
 }
 
 /// The order of bits of a row.
-#[derive(Clone, Copy, Debug, PartialEq, Eq, Drop)]
+#[derive(Clone, Copy, Drop)]
 pub enum Order {
     Big,
     Little,
 }
 
 /// A row: calls with their answers, on a stream of these bytes.
-#[derive(Debug, Drop)]
+#[derive(Drop)]
 pub struct Row<'a> {
     pub kind: Kind,
     pub order: Order,
@@ -31,7 +31,7 @@ pub struct Row<'a> {
 }
 
 /// What a row says of the stream after its calls.
-#[derive(Clone, Copy, Debug, Drop)]
+#[derive(Clone, Copy, Drop)]
 pub struct After {
     /// How many bits were taken.
     pub place: Option<usize>,

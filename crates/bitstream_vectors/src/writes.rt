@@ -1,5 +1,5 @@
 //! Write calls of the rows.
-ghost use Rattle.std.specs.Prelude.{◌<◌};
+ghost use Rattle.std.specs.Prelude.{◌≡◌, ◌≤◌, ◌<◌, ◌^◌, ◌⊎◌};
 
 use crate::answer::{accepted, bytes_of, text};
 use crate::call::{Call, number};
@@ -7,7 +7,7 @@ use crate::fixed::write_fixed;
 use crate::form::{Form, Items, Number, Size};
 use crate::objection::Objection;
 use bitstream_io::{
-    BitCount, BitWrite, BitWriteExt, Bits, Error, Integer, SignedInteger, UnsignedInteger,
+    BitCount, BitWrite, BitWriteExt, Bits, Error, Integer, SignedInteger, UnsignedInteger, Width,
 };
 use std::alloc::Global;
 use std::num::{NonZero, ParseIntError};
@@ -216,17 +216,25 @@ fn write_count<W: BitWrite>(writer: &mut W, max: u32, value: u32) -> Answer {
     }
 }
 
+/// Writes the constant that V says in as many bits as B says.
+fn write_const_in<B: Width, V: Width, W: BitWrite>(writer: &mut W) -> Answer
+    requires word { B.BITS ≤ 32 }
+    requires value { (V.BITS < 2 ^ B.BITS) ⊎ (B.BITS ≡ 0) }
+{
+    Ok(writer.write_const::<B, V>())
+}
+
 fn write_const<W: BitWrite>(writer: &mut W, bits: u32, value: u32) -> Answer {
     match (bits, value) {
-        (0, 0) => Ok(writer.write_const::<Bits<0>, Bits<0>>()),
-        (0, 1) => Ok(writer.write_const::<Bits<0>, Bits<1>>()),
-        (1, 1) => Ok(writer.write_const::<Bits<1>, Bits<1>>()),
-        (3, 5) => Ok(writer.write_const::<Bits<3>, Bits<5>>()),
-        (4, 2) => Ok(writer.write_const::<Bits<4>, Bits<2>>()),
-        (5, 19) => Ok(writer.write_const::<Bits<5>, Bits<19>>()),
-        (8, 177) => Ok(writer.write_const::<Bits<8>, Bits<177>>()),
-        (12, 2643) => Ok(writer.write_const::<Bits<12>, Bits<2643>>()),
-        (32, 4294967295) => Ok(writer.write_const::<Bits<32>, Bits<4294967295>>()),
+        (0, 0) => write_const_in::<Bits<0>, Bits<0>, W>(writer),
+        (0, 1) => write_const_in::<Bits<0>, Bits<1>, W>(writer),
+        (1, 1) => write_const_in::<Bits<1>, Bits<1>, W>(writer),
+        (3, 5) => write_const_in::<Bits<3>, Bits<5>, W>(writer),
+        (4, 2) => write_const_in::<Bits<4>, Bits<2>, W>(writer),
+        (5, 19) => write_const_in::<Bits<5>, Bits<19>, W>(writer),
+        (8, 177) => write_const_in::<Bits<8>, Bits<177>, W>(writer),
+        (12, 2643) => write_const_in::<Bits<12>, Bits<2643>, W>(writer),
+        (32, 4294967295) => write_const_in::<Bits<32>, Bits<4294967295>, W>(writer),
         _ => Err(Objection::NotYet),
     }
 }
