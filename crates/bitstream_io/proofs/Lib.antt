@@ -1,8 +1,18 @@
+pub use Rattle.bitstream_number.proofs.SignedLemmas
+pub use Rattle.bitstream_number.proofs.WordLemmas
 pub use Rattle.bitstream_order.proofs.FaultLemmas
 pub use Rattle.bitstream_order.proofs.SliceLemmas as SliceEnds
 pub use Rattle.bitstream_stream.proofs.EntryLemmas
+pub use Rattle.bitstream_stream.proofs.ReaderLemmas
 pub use Rattle.bitstream_stream.proofs.ReadsLemmas
 pub use Rattle.bitstream_stream.proofs.SinkLemmas
+pub use Rattle.bitstream_stream.proofs.SinkParts
 pub use Rattle.bitstream_stream.proofs.SliceLemmas
+pub use Rattle.bitstream_stream.proofs.TableLemmas
+pub use Rattle.bitstream_stream.proofs.WriteLemmas
 pub use Rattle.bitstream_stream.proofs.WriteParts
+pub use Rattle.bitstream_stream.proofs.WriterLemmas
+pub use Rattle.bitstream_value.proofs.BackLemmas
+pub use Rattle.bitstream_value.proofs.ReadSteps
 pub use Rattle.bitstream_value.proofs.SureLemmas
+pub use Rattle.bitstream_value.proofs.WriteSteps

@@ -1,10 +1,17 @@
+pub mod NonZeroTypes
+pub mod Steps
+pub use Rattle.bitstream_number.specs.Ints
 pub use Rattle.bitstream_number.specs.Word
+pub use Rattle.bitstream_count.specs.Checks
+pub use Rattle.bitstream_count.specs.Counts
 pub use Rattle.bitstream_count.specs.declared.checked_error.CheckedError
 pub use Rattle.bitstream_count.specs.declared.error.Error
 pub use Rattle.bitstream_count.specs.Entry
 pub use Rattle.bitstream_count.specs.Kind
 pub use Rattle.bitstream_order.specs.TakeBits
 pub use Rattle.bitstream_order.specs.Fault
+pub use Rattle.bitstream_order.specs.Parts
+pub use Rattle.bitstream_order.specs.Pass
 pub use Rattle.bitstream_order.specs.Port
 pub use Rattle.bitstream_order.specs.Refusal
 pub use Rattle.bitstream_order.specs.Slice

@@ -1,0 +1,108 @@
+-- Reads one after another, as the proof of a caller goes through them: `search (reads, FACTS)`, where the
+-- facts are the clauses of the calls.
+use Rattle.std.specs.Prelude.{nat_le}
+use Rattle.std.proofs.Common.{◌≡◌, ℕ, ℤ, ◌+◌, ◌-◌, ◌*◌, ◌<◌, ◌≤◌, Bool, true, List, length, take, drop, Option, Some, Result, Ok, Err, refl, subst, sym, ap, ◌∙◌, arith, inl, inr, length-drop}
+use Rattle.std.proofs.lemmas.Bool.{le-leb, lt-leb, cases_lt}
+use Rattle.std.proofs.lemmas.Bool.Decides.{nat_tests}
+use Rattle.std.proofs.lemmas.List.{drop-drop}
+use Rattle.std.specs.Borrow.{GName}
+use Rattle.std.specs.Result.{IsErr, IsErrAnd}
+use Rattle.bitstream_count.specs.declared.error.Error.{Error}
+use Rattle.bitstream_count.specs.declared.error.Error.TheVariants.{EndOfInput}
+use Rattle.bitstream_count.specs.Entry.{ReadEntry, TooShort, Takes, chain, gives}
+use Rattle.bitstream_number.specs.Word.{Order, number, signed_number, bits}
+use Rattle.bitstream_number.proofs.WordLemmas.{length-bits}
+use Rattle.bitstream_order.specs.Refusal.{TrueEnds}
+use Rattle.bitstream_stream.specs.Reader.{new_reader_state}
+use Rattle.bitstream_stream.specs.Reads.{BitSource, ReadOutcome, Reads, sure_answer}
+use Rattle.bitstream_stream.specs.ReadTable.{first_bit, bit_entry, unsigned_entry, signed_entry}
+use Rattle.bitstream_stream.proofs.EntryLemmas.{chain-ok, chain-none}
+use Rattle.bitstream_stream.proofs.ReadsLemmas.{Reads-chain-ok, Reads-gives, exit}
+use Rattle.bitstream_stream.proofs.SliceLemmas.{new_answer}
+use Rattle.bitstream_value.specs.NonZeros.{non_zero_entry, if_any, option_entry}
+use Rattle.bitstream_value.specs.Truths.{truth_entry}
+use Rattle.bitstream_value.proofs.BackLemmas.{bit-word, signed-word}
+use Rattle.bitstream_value.proofs.SureLemmas.{IsWord, unsigned-word, truth-word, non_zero-word, option-word}
+
+-- ---- what a function did that read
+
+-- each read that answered with a value, up to one whose error a `?` returned, or to the end
+pub ruleset reads = (Reads-chain-ok, Reads-gives, exit)
+
+-- ---- what the reads of fields find in bits that are all known
+
+-- asked behind k of the bits b, the call takes n more and answers r, or they are too few for it
+pub record Finds {A : Type 0} (b : List Bool) (k : ℕ) (e : ReadEntry A) (n : ℕ) (r : Result A Error) : Type 0 where
+  pub there : (p : ℕ) → k + n ≤ length b → e.reads p (drop k b) ≡ Takes n r
+  pub short : (p : ℕ) → k ≤ length b → length b < k + n → e.reads p (drop k b) ≡ TooShort
+
+word-finds : {A : Type 0} (b : List Bool) (k n : ℕ) (e : ReadEntry A) (g : List Bool → Result A Error) → IsWord e n g → Finds b k e n (g (take n (drop k b)))
+word-finds b k n e g word = record {
+  there = λ p enough. rw (word p (drop k b), le-leb n (length (drop k b)) (let l = length-drop k b in omega arith)) refl;
+  short = λ p some few. rw (word p (drop k b), lt-leb n (length (drop k b)) (let l = length-drop k b in omega arith)) refl;
+}
+
+chain-finds : {A B : Type 0} (b : List Bool) (k n m : ℕ) (e : ReadEntry A) (f : A → ReadEntry B) (a : A) (r : Result B Error) → Finds b k e n (Ok a) → Finds b (k + n) (f a) m r → Finds b k (chain e f) (n + m) r
+chain-finds b k n m e f a r h t = record {
+  there = λ p enough. chain-ok e f p (drop k b) n a (h.there p (omega arith)) ∙ rw (drop-drop n k b, t.there (p + n) (omega arith)) refl;
+  short = λ p some few. elim (cases_lt (length b) (k + n)) [
+    | inl less ↦ chain-none e f p (drop k b) (h.short p some less)
+    | inr enough ↦ chain-ok e f p (drop k b) n a (h.there p enough) ∙ rw (drop-drop n k b, t.short (p + n) enough (omega arith)) refl
+  ];
+}
+
+le_of : (n m : ℕ) → nat_le n m ≡ true → n ≤ m
+le_of n m h = grind (arith, nat_tests)
+
+-- one field that is a word, and those behind it, of l bits in all
+pub next-finds : {A B : Type 0} (b : List Bool) (k n l : ℕ) (e : ReadEntry A) (f : A → ReadEntry B) (g : List Bool → A) (r : Result B Error) → IsWord e n (λ w. Ok (g w)) → nat_le n l ≡ true → Finds b (k + n) (f (g (take n (drop k b)))) (l - n) r
+    → Finds b k (chain e f) l r
+next-finds b k n l e f g r word le t =
+    let sum : n + (l - n) ≡ l = let h = le_of n l le in omega arith in
+    subst (λ m. Finds b k (chain e f) m r) sum (chain-finds b k n (l - n) e f (g (take n (drop k b))) r (word-finds b k n e (λ w. Ok (g w)) word) t)
+
+module _ {B : Type 0} (b : List Bool) (k n l : ℕ) (r : Result B Error) where
+  pub unsigned-finds : (o : Order) (size : ℕ) (f : ℕ → ReadEntry B) → nat_le n size ≡ true → nat_le n l ≡ true → Finds b (k + n) (f (number o (take n (drop k b)))) (l - n) r → Finds b k (chain (unsigned_entry o size n) f) l r
+  unsigned-finds o size f fits le t = next-finds b k n l (unsigned_entry o size n) f (number o) r (unsigned-word o size n (le_of n size fits)) le t
+
+  pub signed-finds : (o : Order) (size : ℕ) (f : ℤ → ReadEntry B) → nat_le 1 n ≡ true → nat_le n size ≡ true → nat_le n l ≡ true → Finds b (k + n) (f (signed_number o (take n (drop k b)))) (l - n) r
+      → Finds b k (chain (signed_entry o size n) f) l r
+  signed-finds o size f some fits le t = next-finds b k n l (signed_entry o size n) f (signed_number o) r (signed-word o size n (le_of 1 n some) (le_of n size fits)) le t
+
+  pub non_zero-finds : {A : Type 0} (after : ℕ → A) (o : Order) (size : ℕ) (f : A → ReadEntry B) → nat_le (n + 1) size ≡ true → nat_le n l ≡ true → Finds b (k + n) (f (after (number o (take n (drop k b))))) (l - n) r
+      → Finds b k (chain (non_zero_entry after o size n) f) l r
+  non_zero-finds after o size f fits le t =
+      next-finds b k n l (non_zero_entry after o size n) f (λ w. after (number o w)) r (non_zero-word after o size n (let less = le_of (n + 1) size fits in omega arith)) le t
+
+  pub option-finds : {A : Type 0} (after : ℕ → A) (o : Order) (size : ℕ) (f : Option A → ReadEntry B) → nat_le n size ≡ true → nat_le n l ≡ true → Finds b (k + n) (f (if_any after (number o (take n (drop k b))))) (l - n) r
+      → Finds b k (chain (option_entry after o size n) f) l r
+  option-finds after o size f fits le t =
+      next-finds b k n l (option_entry after o size n) f (λ w. if_any after (number o w)) r (option-word after o size n (le_of n size fits)) le t
+
+module _ {B : Type 0} (b : List Bool) (k l : ℕ) (r : Result B Error) (f : Bool → ReadEntry B) where
+  pub bit-finds : nat_le 1 l ≡ true → Finds b (k + 1) (f (first_bit (take 1 (drop k b)))) (l - 1) r → Finds b k (chain bit_entry f) l r
+  bit-finds le t = next-finds b k 1 l bit_entry f first_bit r bit-word le t
+
+  pub truth-finds : nat_le 1 l ≡ true → Finds b (k + 1) (f (first_bit (take 1 (drop k b)))) (l - 1) r → Finds b k (chain (truth_entry 1) f) l r
+  truth-finds le t = next-finds b k 1 l (truth_entry 1) f first_bit r truth-word le t
+
+-- the end of the fields
+pub gives-finds : {A : Type 0} (b : List Bool) (k : ℕ) (a : A) → Finds b k (gives a) 0 (Ok a)
+gives-finds b k a = record { there = λ p enough. refl; short = λ p some few. absurd (omega arith) }
+
+pub ruleset finds = (unsigned-finds, signed-finds, non_zero-finds, option-finds, bit-finds, truth-finds, gives-finds)
+
+-- ---- what a new reader answers then, over a stream that refuses at true ends alone
+
+module _ {R A : Type 0} {K : BitSource R} {e : ReadEntry A} {s t : R} {n : ℕ} {xs : List ℕ} {x r : Result A Error} {known : Option (List ℕ)} {places : List GName} where
+  -- the bits are there
+  pub fields_there : TrueEnds K.may → K.state s ≡ new_reader_state known places → known ≡ Some xs → Reads K e s r t → Finds (bits K.order xs) 0 e n x → n ≤ 8 * length xs → r ≡ x
+  fields_there ends new told h found enough =
+      let le : 0 + n ≤ length (bits K.order xs) = let len = length-bits K.order xs in omega arith in
+      new_answer ends xs places (new ∙ ap (λ z. new_reader_state z places) told) h ∙ ap sure_answer (found.there 0 le)
+
+  -- they are not
+  pub fields_short : TrueEnds K.may → K.state s ≡ new_reader_state known places → known ≡ Some xs → Reads K e s r t → Finds (bits K.order xs) 0 e n x → 8 * length xs < n → r ≡ Err EndOfInput
+  fields_short ends new told h found few =
+      let less : length (bits K.order xs) < 0 + n = let len = length-bits K.order xs in omega arith in
+      new_answer ends xs places (new ∙ ap (λ z. new_reader_state z places) told) h ∙ ap sure_answer (found.short 0 (omega arith) less)

@@ -1,0 +1,91 @@
+-- Writes one after another, as the proof of a caller goes through them: `search (writes, FACTS)`, where the
+-- facts are the clauses of the calls.
+use Rattle.std.proofs.Common.{◌≡◌, ℕ, ◌+◌, ◌*◌, ◌%◌, Bool, List, [], ◌∷◌, ◌++◌, length, Option, Some, Result, Ok, Err, refl, sym, ap, ◌∙◌, subst, arith, inl, inr, false}
+use Rattle.std.specs.Borrow.{GName}
+use Rattle.std.specs.Result.{IsErrAnd}
+use Rattle.std.specs.declared.io.ErrorKind.{ErrorKind}
+use Rattle.bitstream_count.specs.declared.error.Error.{Error}
+use Rattle.bitstream_count.specs.Entry.{WriteEntry}
+use Rattle.bitstream_number.specs.Word.{Order, bits}
+use Rattle.bitstream_stream.specs.declared.writer.BitWriter.{BitWriter}
+use Rattle.bitstream_stream.specs.Carries.{WriterState}
+use Rattle.bitstream_stream.specs.Run.{accepted, write_run}
+use Rattle.bitstream_stream.specs.Sink.{Sink, Writes, WritesAll, Appended, was_failed, was_refused, passed_limit, had_fault, did_write}
+use Rattle.bitstream_stream.specs.Writer.{writer_state, fresh_writer, writer_sink, Adds}
+use Rattle.bitstream_stream.proofs.WriteParts.{all_none, all_err, all_more, all_one, one_of_all}
+use Rattle.bitstream_stream.proofs.WriterLemmas.{adds}
+
+-- ---- what a function did that wrote
+
+module _ {S : Type 0} (K : Sink S) (e : WriteEntry) (es : List WriteEntry) (r : Result (Unit {0}) Error) where
+  -- a call that answered `Ok`, and what follows it
+  pub next_call : (s t z : S) → Writes {T = Unit {0}} K e s (Ok tt) t → WritesAll K es t r z → WritesAll K (e ∷ es) s r z
+  next_call s t z h k = all_more K e es s t r z h k
+
+  -- a value that was written, and what follows it
+  pub next_write : (s t z : S) → WritesAll K (e ∷ []) s (Ok tt) t → WritesAll K es t r z → WritesAll K (e ∷ es) s r z
+  next_write s t z h k = next_call s t z (one_of_all K e s (Ok tt) t h) k
+
+  -- a call whose error a `?` returned
+  pub stop_call : (x : Error) (s t : S) → IsErrAnd r (λ y. y ≡ x) → Writes {T = Unit {0}} K e s (Err x) t → WritesAll K (e ∷ es) s r t
+  stop_call x s t h k = elim r as (λ r. IsErrAnd r (λ y. y ≡ x) → WritesAll K (e ∷ es) s r t) [
+    | Ok v ↦ λ h. absurd h
+    | Err y ↦ λ h. all_err K e es s (Err y) x t (ap Err h) k
+  ] h
+
+  -- a value whose error a `?` returned
+  pub stop_write : (x : Error) (s t : S) → IsErrAnd r (λ y. y ≡ x) → WritesAll K (e ∷ []) s (Err x) t → WritesAll K (e ∷ es) s r t
+  stop_write x s t h k = stop_call x s t h (one_of_all K e s (Err x) t k)
+
+pub ruleset writes = (next_call, next_write, stop_call, stop_write, all_one, all_none)
+
+-- ---- the words that were written
+
+-- a call that answered `Ok` appended its word
+wrote : {S : Type 0} (K : Sink S) (e : WriteEntry) (s t : S) → Writes {T = Unit {0}} K e s (Ok tt) t → Appended K s (accepted (e (K.len s))) t
+wrote K e s t (was_failed p q k) = cc
+wrote K e s t (was_refused error p q v k) = cc
+wrote K e s t (passed_limit y p q b v k) = cc
+wrote K e s t (had_fault y error p q b v k) = cc
+wrote K e s t (did_write y v p q b d k) = subst (λ w. Appended K s w t) (sym (ap accepted q)) k
+
+-- calls that answered `Ok` appended their write run
+pub run_appended : {S : Type 0} (K : Sink S) (es : List WriteEntry) (s t : S) → K.failed s ≡ false → WritesAll K es s (Ok tt) t → Appended K s (write_run es (K.len s)) t
+unfolding WritesAll
+run_appended K [] s t sound p = subst (λ z. Appended K s [] z) (sym p.1) (record { grown = K.appends_nil s; sound = sound; refusals = refl; places = refl })
+run_appended K (e ∷ es) s t sound (inl p) = let z = p.0 in cc
+run_appended K (e ∷ es) s t sound (inr p) =
+    let a = wrote K e s p.0 p.1 in
+    let w = accepted (e (K.len s)) in
+    let far : K.len p.0 ≡ K.len s + length w = K.appends_len s p.0 w a.grown in
+    let b = run_appended K es p.0 t a.sound p.2 in
+    record {
+      grown = K.appends_trans s p.0 t w (write_run es (K.len s + length w)) a.grown (subst (λ n. K.appends p.0 (write_run es n) t) far b.grown);
+      sound = b.sound;
+      refusals = b.refusals ∙ a.refusals;
+      places = b.places ∙ a.places;
+    }
+
+-- ---- what a new writer's stream holds then
+
+module _ {W E : Type 0} (held : W → Option (List ℕ)) (refuses : W → ℕ → ErrorKind → W → Type 0) (places : W → List GName) (o : Order) (es : List WriteEntry) (known : Option (List ℕ)) (names : List GName) (a b : BitWriter W E) where
+  -- calls that answered `Ok` wrote whole bytes: their bits are the write run
+  pub bytes_added : writer_state held places a ≡ fresh_writer known names → WritesAll (writer_sink held refuses places o) es a (Ok tt) b → length (write_run es 0) % 8 ≡ 0 → Adds o known (write_run es 0) (held b.port.stream)
+  bytes_added fresh h whole =
+      let K = writer_sink held refuses places o in
+      let start : K.len a ≡ 0 = ap (λ (s : WriterState). 8 * s.port.sent + s.queued) fresh in
+      let all = subst (λ n. Appended K a (write_run es n) b) start (run_appended K es a b (ap (λ (s : WriterState). s.failed) fresh) h) in
+      let len : K.len b ≡ K.len a + length (write_run es 0) = K.appends_len a b (write_run es 0) all.grown in
+      let aligned : K.len b % 8 ≡ 0 = omega arith in
+      subst (λ z. Adds o z (write_run es 0) (held b.port.stream)) (ap (λ (s : WriterState). s.port.bytes) fresh)
+      (adds held places o a b (write_run es 0) all.grown (ap (λ (s : WriterState). s.queued) fresh) aligned)
+
+  -- and the stream is reached as it was
+  pub names_kept : writer_state held places a ≡ fresh_writer known names → WritesAll (writer_sink held refuses places o) es a (Ok tt) b → places b.port.stream ≡ names
+  names_kept fresh h =
+      let K = writer_sink held refuses places o in
+      (run_appended K es a b (ap (λ (s : WriterState). s.failed) fresh) h).places ∙ ap (λ (s : WriterState). s.port.places) fresh
+
+-- the bytes of a stream that held none
+pub whole_bytes : {o : Order} {x : List Bool} {xs : List ℕ} → Adds o (Some []) x (Some xs) → bits o xs ≡ x
+whole_bytes {o = o} h = ap (bits o) h.grows ∙ h.bits
