@@ -11,9 +11,9 @@ use Rattle.bitstream_stream.specs.declared.writer.BitWriter.{BitWriter}
 use Rattle.bitstream_stream.specs.Carries.{WriterState}
 use Rattle.bitstream_stream.specs.Run.{accepted, write_run}
 use Rattle.bitstream_stream.specs.Sink.{Sink, Writes, WritesAll, Appended, was_failed, was_refused, passed_limit, had_fault, did_write}
-use Rattle.bitstream_stream.specs.Writer.{writer_state, fresh_writer, writer_sink, Adds}
+use Rattle.bitstream_stream.specs.Writer.{writer_state, fresh_writer, writer_sink, AddsBits}
 use Rattle.bitstream_stream.proofs.WriteParts.{all_none, all_err, all_more, all_one, one_of_all}
-use Rattle.bitstream_stream.proofs.WriterLemmas.{adds}
+use Rattle.bitstream_stream.proofs.WriterLemmas.{adds_bits}
 
 -- ---- what a function did that wrote
 
@@ -52,7 +52,7 @@ wrote K e s t (did_write y v p q b d k) = subst (λ w. Appended K s w t) (sym (a
 -- calls that answered `Ok` appended their write run
 pub run_appended : {S : Type 0} (K : Sink S) (es : List WriteEntry) (s t : S) → K.failed s ≡ false → WritesAll K es s (Ok tt) t → Appended K s (write_run es (K.len s)) t
 unfolding WritesAll
-run_appended K [] s t sound p = subst (λ z. Appended K s [] z) (sym p.1) (record { grown = K.appends_nil s; sound = sound; refusals = refl; places = refl })
+run_appended K [] s t sound p = subst (λ z. Appended K s [] z) (sym p.1) (record { grown = K.appends_nil s; sound = sound; refusals = refl; reference_names = refl })
 run_appended K (e ∷ es) s t sound (inl p) = let z = p.0 in cc
 run_appended K (e ∷ es) s t sound (inr p) =
     let a = wrote K e s p.0 p.1 in
@@ -63,28 +63,28 @@ run_appended K (e ∷ es) s t sound (inr p) =
       grown = K.appends_trans s p.0 t w (write_run es (K.len s + length w)) a.grown (subst (λ n. K.appends p.0 (write_run es n) t) far b.grown);
       sound = b.sound;
       refusals = b.refusals ∙ a.refusals;
-      places = b.places ∙ a.places;
+      reference_names = b.reference_names ∙ a.reference_names;
     }
 
 -- ---- what a new writer's stream holds then
 
-module _ {W E : Type 0} (held : W → Option (List ℕ)) (refuses : W → ℕ → ErrorKind → W → Type 0) (places : W → List GName) (o : Order) (es : List WriteEntry) (known : Option (List ℕ)) (names : List GName) (a b : BitWriter W E) where
+module _ {W E : Type 0} (held : W → Option (List ℕ)) (refuses : W → ℕ → ErrorKind → W → Type 0) (reference_names : W → List GName) (o : Order) (es : List WriteEntry) (known : Option (List ℕ)) (names : List GName) (a b : BitWriter W E) where
   -- calls that answered `Ok` wrote whole bytes: their bits are the write run
-  pub bytes_added : writer_state held places a ≡ fresh_writer known names → WritesAll (writer_sink held refuses places o) es a (Ok tt) b → length (write_run es 0) % 8 ≡ 0 → Adds o known (write_run es 0) (held b.port.stream)
+  pub bytes_added : writer_state held reference_names a ≡ fresh_writer known names → WritesAll (writer_sink held refuses reference_names o) es a (Ok tt) b → length (write_run es 0) % 8 ≡ 0 → Adds o known (write_run es 0) (held b.port.stream)
   bytes_added fresh h whole =
-      let K = writer_sink held refuses places o in
+      let K = writer_sink held refuses reference_names o in
       let start : K.len a ≡ 0 = ap (λ (s : WriterState). 8 * s.port.sent + s.queued) fresh in
       let all = subst (λ n. Appended K a (write_run es n) b) start (run_appended K es a b (ap (λ (s : WriterState). s.failed) fresh) h) in
       let len : K.len b ≡ K.len a + length (write_run es 0) = K.appends_len a b (write_run es 0) all.grown in
       let aligned : K.len b % 8 ≡ 0 = omega arith in
       subst (λ z. Adds o z (write_run es 0) (held b.port.stream)) (ap (λ (s : WriterState). s.port.bytes) fresh)
-      (adds held places o a b (write_run es 0) all.grown (ap (λ (s : WriterState). s.queued) fresh) aligned)
+      (adds held reference_names o a b (write_run es 0) all.grown (ap (λ (s : WriterState). s.queued) fresh) aligned)
 
   -- and the stream is reached as it was
-  pub names_kept : writer_state held places a ≡ fresh_writer known names → WritesAll (writer_sink held refuses places o) es a (Ok tt) b → places b.port.stream ≡ names
+  pub names_kept : writer_state held reference_names a ≡ fresh_writer known names → WritesAll (writer_sink held refuses reference_names o) es a (Ok tt) b → reference_names b.port.stream ≡ names
   names_kept fresh h =
-      let K = writer_sink held refuses places o in
-      (run_appended K es a b (ap (λ (s : WriterState). s.failed) fresh) h).places ∙ ap (λ (s : WriterState). s.port.places) fresh
+      let K = writer_sink held refuses reference_names o in
+      (run_appended K es a b (ap (λ (s : WriterState). s.failed) fresh) h).reference_names ∙ ap (λ (s : WriterState). s.port.reference_names) fresh
 
 -- the bytes of a stream that held none
 pub whole_bytes : {o : Order} {x : List Bool} {xs : List ℕ} → Adds o (Some []) x (Some xs) → bits o xs ≡ x
