@@ -6,18 +6,18 @@ use Rattle.std.proofs.Math.Nat.{mod-eq_of_lt}
 use Rattle.std.proofs.Math.Seq.{drop-append_seam}
 use Rattle.std.proofs.lemmas.Bool.{cases_lt, le-leb}
 use Rattle.std.proofs.lemmas.List.{length-replicate}
-use Rattle.bitstream_number.specs.Word.{Order, word, number}
-use Rattle.bitstream_number.proofs.WordLemmas.{length-word, number-word}
-use Rattle.bitstream_count.specs.declared.error.Error.{Error}
-use Rattle.bitstream_count.specs.declared.error.Error.TheVariants as errors
-use Rattle.bitstream_count.specs.Entry.{WriteEntry, TooShort, Takes, gives, word_front}
-use Rattle.bitstream_stream.specs.Alignment.{to_boundary}
-use Rattle.bitstream_stream.specs.ReadTable.{align_entry}
-use Rattle.bitstream_stream.specs.Run.{accepted, write_run, write_refusals}
-use Rattle.bitstream_stream.specs.WriteTable.{align}
-use Rattle.bitstream_stream.proofs.EntryLemmas.{map_takes, chain-ok, chain-none, word_front-some, word_front-none}
-use Rattle.bitstream_stream.proofs.TableLemmas.{unsigned-takes}
-use Rattle.bitstream_stream.proofs.WriteLemmas.{unsigned-fits}
+use Rattle.bitstream_io.specs.Word.{Order, word, number}
+use Rattle.bitstream_io.proofs.WordLemmas.{length-word, number-word}
+use Rattle.bitstream_io.specs.Error.{Error}
+use Rattle.bitstream_io.specs.Error.TheVariants as errors
+use Rattle.bitstream_io.specs.Entry.{WriteEntry, TooShort, Takes, gives, word_front}
+use Rattle.bitstream_io.specs.Alignment.{to_boundary}
+use Rattle.bitstream_io.specs.ReadTable.{align_entry}
+use Rattle.bitstream_io.specs.Run.{accepted, write_run, write_refusals}
+use Rattle.bitstream_io.specs.WriteTable.{align}
+use Rattle.bitstream_io.proofs.EntryLemmas.{map_takes, chain-ok, chain-none, word_front-some, word_front-none}
+use Rattle.bitstream_io.proofs.TableLemmas.{unsigned-takes}
+use Rattle.bitstream_io.proofs.WriteLemmas.{unsigned-fits}
 use Rattle.bitfields.specs.declared.fault.Reason.TheVariants.{BitsEnded}
 use Rattle.bitfields.specs.declared.field.Field.{Field}
 use Rattle.bitfields.specs.declared.field.Field.TheVariants.{Unsigned, Align}

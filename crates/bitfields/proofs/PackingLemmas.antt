@@ -6,20 +6,20 @@ use Rattle.std.specs.declared.io.ErrorKind.{ErrorKind}
 use Rattle.std.proofs.Common.{◌≡◌, ℕ, ◌+◌, ◌<◌, ◌≤◌, List, [], ◌∷◌, ◌++◌, length, drop, get_or, Option, None, Result, Ok, Err, refl, sym, ap, subst, ◌∙◌, arith, inl, inr, ◌⊎◌, add-one, drop-cons, append-nil, length-append}
 use Rattle.std.proofs.lemmas.List.{drop_all, length-replicate}
 use Rattle.std.proofs.lemmas.List.Elements.{recursion_from_All}
-use Rattle.bitstream_number.specs.Word.{Order, word, bits}
-use Rattle.bitstream_number.proofs.WordLemmas.{length-word, length-bits}
-use Rattle.bitstream_count.specs.declared.error.Error.{Error}
-use Rattle.bitstream_count.specs.Entry.{WriteEntry}
-use Rattle.bitstream_order.specs.Refusal.{Refusal, MayRefuseSend}
-use Rattle.bitstream_order.proofs.TakeLemmas.{word-none}
-use Rattle.bitstream_stream.specs.Alignment.{to_boundary}
-use Rattle.bitstream_stream.specs.Run.{accepted, refusal_if_any, write_run, write_refusals}
-use Rattle.bitstream_stream.specs.Sink.{Sink, IsBeyond, Appended, WriteFault, Writes, WritesAll, was_failed, was_refused, passed_limit, had_fault, did_write}
-use Rattle.bitstream_stream.specs.WriteTable.{align}
-use Rattle.bitstream_stream.specs.Carries.{WriterState, Carries}
-use Rattle.bitstream_stream.specs.Writer.{fresh_writer}
-use Rattle.bitstream_stream.proofs.SinkParts.{WriteFault-behind, WriteFault-longer}
-use Rattle.bitstream_stream.proofs.WriteParts.{all_none, all_err, all_more}
+use Rattle.bitstream_io.specs.Word.{Order, word, bits}
+use Rattle.bitstream_io.proofs.WordLemmas.{length-word, length-bits}
+use Rattle.bitstream_io.specs.Error.{Error}
+use Rattle.bitstream_io.specs.Entry.{WriteEntry}
+use Rattle.bitstream_io.specs.Refusal.{Refusal, MayRefuseSend}
+use Rattle.bitstream_io.proofs.TakeLemmas.{word-none}
+use Rattle.bitstream_io.specs.Alignment.{to_boundary}
+use Rattle.bitstream_io.specs.Run.{accepted, refusal_if_any, write_run, write_refusals}
+use Rattle.bitstream_io.specs.Sink.{Sink, IsBeyond, Appended, WriteFault, Writes, WritesAll, was_failed, was_refused, passed_limit, had_fault, did_write}
+use Rattle.bitstream_io.specs.WriteTable.{align}
+use Rattle.bitstream_io.specs.Carries.{WriterState, Carries}
+use Rattle.bitstream_io.specs.Writer.{fresh_writer}
+use Rattle.bitstream_io.proofs.SinkParts.{WriteFault-behind, WriteFault-longer}
+use Rattle.bitstream_io.proofs.WriteParts.{all_none, all_err, all_more}
 use Rattle.bitfields.specs.declared.fault.Fault.{Fault}
 use Rattle.bitfields.specs.declared.fault.Reason.TheVariants.{OutOfMemory}
 use Rattle.bitfields.specs.declared.field.Field.{Field}

@@ -1,9 +1,9 @@
 -- Worked rows.
 use Rattle.std.specs.Prelude.{◌≡◌, ℕ, List, [], ◌∷◌, map, refl}
-use Rattle.bitstream_number.specs.Word.{High, Low, digits, digits_number, bits}
-use Rattle.bitstream_count.specs.Entry.{chain}
-use Rattle.bitstream_stream.specs.ReadTable.{unsigned_entry, align_entry}
-use Rattle.bitstream_stream.specs.WriteTable.{unsigned}
+use Rattle.bitstream_io.specs.Word.{High, Low, digits, digits_number, bits}
+use Rattle.bitstream_io.specs.Entry.{chain}
+use Rattle.bitstream_io.specs.ReadTable.{unsigned_entry, align_entry}
+use Rattle.bitstream_io.specs.WriteTable.{unsigned}
 use Rattle.bitfields.specs.declared.fault.Reason.TheVariants.{BitsEnded}
 use Rattle.bitfields.specs.declared.field.Field.{Field}
 use Rattle.bitfields.specs.declared.field.Field.TheVariants.{Unsigned, Align}

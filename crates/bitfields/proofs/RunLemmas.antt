@@ -4,11 +4,11 @@ use Rattle.std.specs.Io.KnownBytes.{Consumes, IsAtEnd}
 use Rattle.std.specs.declared.io.ErrorKind.{ErrorKind}
 use Rattle.std.specs.declared.io.ErrorKind.TheVariants as kinds
 use Rattle.std.proofs.Common.{◌≡◌, ◌⊎◌, ℕ, List, Result, Ok, Err, inl, inr, refl, subst, sym, ap, ◌∙◌}
-use Rattle.bitstream_count.specs.declared.error.Error.{Error}
-use Rattle.bitstream_count.specs.declared.error.Error.TheVariants as errors
-use Rattle.bitstream_number.specs.Word.{Order}
-use Rattle.bitstream_order.specs.Fault.{refusal_of}
-use Rattle.bitstream_order.specs.Refusal.{Refusal, MayRefuse}
+use Rattle.bitstream_io.specs.Error.{Error}
+use Rattle.bitstream_io.specs.Error.TheVariants as errors
+use Rattle.bitstream_io.specs.Word.{Order}
+use Rattle.bitstream_io.specs.Fault.{refusal_of}
+use Rattle.bitstream_io.specs.Refusal.{Refusal, MayRefuse}
 use Rattle.bitfields.specs.declared.fault.Fault.{Fault}
 use Rattle.bitfields.specs.declared.field.Field.{Field}
 use Rattle.bitfields.specs.declared.field_value.FieldValue.{FieldValue}

@@ -4,14 +4,14 @@ use Rattle.std.specs.Borrow.{GName}
 use Rattle.std.specs.Io.KnownBytes.{Consumes}
 use Rattle.std.specs.declared.io.ErrorKind.{ErrorKind}
 use Rattle.std.proofs.Common.{◌≡◌, ℕ, ◌+◌, List, [], ◌∷◌, ◌++◌, length, Option, Some, Result, Ok, Err, refl, sym, ap, ◌∙◌, subst, arith, append_assoc, inl, inr}
-use Rattle.bitstream_number.specs.Word.{Order, bits}
-use Rattle.bitstream_order.specs.TakeBits.{seen}
-use Rattle.bitstream_order.specs.Fault.{read_refusal_of}
-use Rattle.bitstream_order.specs.Refusal.{Refusal, MayRefuse, TrueEnds}
-use Rattle.bitstream_number.proofs.WordLemmas.{bits-append}
-use Rattle.bitstream_stream.proofs.ReadsLemmas.{Consumes-known}
-use Rattle.bitstream_stream.specs.Reader.{new_reader_state}
-use Rattle.bitstream_stream.specs.Reads.{ReaderState, BitSource, Demands}
+use Rattle.bitstream_io.specs.Word.{Order, bits}
+use Rattle.bitstream_io.specs.TakeBits.{seen}
+use Rattle.bitstream_io.specs.Fault.{read_refusal_of}
+use Rattle.bitstream_io.specs.Refusal.{Refusal, MayRefuse, TrueEnds}
+use Rattle.bitstream_io.proofs.WordLemmas.{bits-append}
+use Rattle.bitstream_io.proofs.ReadsLemmas.{Consumes-known}
+use Rattle.bitstream_io.specs.Reader.{new_reader_state}
+use Rattle.bitstream_io.specs.Reads.{ReaderState, BitSource, Demands}
 use Rattle.bitfields.specs.declared.fault.Fault.{Fault}
 use Rattle.bitfields.specs.declared.field.Field.{Field}
 use Rattle.bitfields.specs.declared.field_value.FieldValue.{FieldValue}

@@ -5,14 +5,14 @@ use Rattle.std.proofs.KnownBytes.{Consumes-trans}
 use Rattle.std.proofs.lemmas.List.{drop_all}
 use Rattle.std.proofs.lemmas.List.Concat.{flat_map-append}
 use Rattle.std.specs.Io.KnownBytes.{Consumes}
-use Rattle.bitstream_number.specs.Word.{Order, bits}
-use Rattle.bitstream_number.proofs.WordLemmas.{bits-append}
-use Rattle.bitstream_count.specs.declared.error.Error.{Error}
-use Rattle.bitstream_count.specs.Entry.{ReadEntry}
-use Rattle.bitstream_order.specs.Fault.{read_refusal_of}
-use Rattle.bitstream_order.specs.Refusal.{Refusal, IsTrueEnd}
-use Rattle.bitstream_stream.specs.Reads.{ReaderState, BitSource, Reads, TakesFront, ReadFault, stays_failed, takes_front, meets_fault, lacks_memory}
-use Rattle.bitstream_stream.proofs.ReadsLemmas.{Took, Took-nil, Took-trans, Took-left, took}
+use Rattle.bitstream_io.specs.Word.{Order, bits}
+use Rattle.bitstream_io.proofs.WordLemmas.{bits-append}
+use Rattle.bitstream_io.specs.Error.{Error}
+use Rattle.bitstream_io.specs.Entry.{ReadEntry}
+use Rattle.bitstream_io.specs.Fault.{read_refusal_of}
+use Rattle.bitstream_io.specs.Refusal.{Refusal, IsTrueEnd}
+use Rattle.bitstream_io.specs.Reads.{ReaderState, BitSource, Reads, TakesFront, ReadFault, stays_failed, takes_front, meets_fault, lacks_memory}
+use Rattle.bitstream_io.proofs.ReadsLemmas.{Took, Took-nil, Took-trans, Took-left, took}
 use Rattle.bitfields.specs.declared.fault.Fault.{Fault}
 use Rattle.bitfields.specs.declared.fault.Reason.TheVariants.{BitsEnded, OutOfMemory}
 use Rattle.bitfields.specs.declared.field.Field.{Field}

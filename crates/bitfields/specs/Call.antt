@@ -1,7 +1,7 @@
 -- The arguments of a call of the program.
 use Rattle.std.specs.Prelude.{ℕ, if◌then◌else◌, List, [], ◌∷◌, codes, Option, Some, None, nat_eq}
 use Rattle.std.specs.Cmp.Lexicographic.{pointwise}
-use Rattle.bitstream_number.specs.Word.{Order, High, Low}
+use Rattle.bitstream_io.specs.Word.{Order, High, Low}
 use Rattle.bitfields.specs.declared.run.Command.{Command}
 use Rattle.bitfields.specs.declared.run.Command.TheVariants.{Pack, Unpack}
 use Rattle.bitfields.specs.declared.run.NamedOrder.{NamedOrder}

@@ -1,15 +1,15 @@
 -- Packing: the words of fields, and a last alignment.
 use Rattle.std.specs.Prelude.{◌≡◌, ◌⊎◌, ◌≤◌, Result, Ok, Err, ℕ, Bool, List, [], ◌∷◌, ◌++◌, length, drop, Option}
 use Rattle.std.specs.Io.KnownBytes.{Appends}
-use Rattle.bitstream_number.specs.Word.{Order, bits}
-use Rattle.bitstream_count.specs.declared.error.Error.{Error}
-use Rattle.bitstream_count.specs.declared.error.Error.TheVariants as errors
-use Rattle.bitstream_count.specs.Entry.{WriteEntry}
-use Rattle.bitstream_order.specs.Fault.{refusal_of}
-use Rattle.bitstream_order.specs.Refusal.{Refusal}
-use Rattle.bitstream_stream.specs.Run.{write_run}
-use Rattle.bitstream_stream.specs.Sink.{Sink, Appended, WriteFault}
-use Rattle.bitstream_stream.specs.WriteTable.{plain, unsigned, align}
+use Rattle.bitstream_io.specs.Word.{Order, bits}
+use Rattle.bitstream_io.specs.Error.{Error}
+use Rattle.bitstream_io.specs.Error.TheVariants as errors
+use Rattle.bitstream_io.specs.Entry.{WriteEntry}
+use Rattle.bitstream_io.specs.Fault.{refusal_of}
+use Rattle.bitstream_io.specs.Refusal.{Refusal}
+use Rattle.bitstream_io.specs.Run.{write_run}
+use Rattle.bitstream_io.specs.Sink.{Sink, Appended, WriteFault}
+use Rattle.bitstream_io.specs.WriteTable.{plain, unsigned, align}
 use Rattle.bitfields.specs.declared.fault.Reason.{Reason}
 use Rattle.bitfields.specs.declared.fault.Reason.TheVariants.{OutOfMemory, StreamFault}
 use Rattle.bitfields.specs.declared.fault.Fault.{Fault}

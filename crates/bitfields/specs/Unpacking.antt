@@ -1,15 +1,15 @@
 -- Unpacking: the values that bits hold for fields.
 use Rattle.std.specs.Prelude.{◌≡◌, ◌⊎◌, ◌<◌, ◌≤◌, ◌*◌, Result, Ok, Err, Option, Some, None, ℕ, ◌+◌, Bool, List, [], ◌∷◌, ◌++◌, length, map}
 use Rattle.std.specs.Io.KnownBytes.{Consumes}
-use Rattle.bitstream_number.specs.Word.{Order, bits}
-use Rattle.bitstream_count.specs.declared.error.Error.{Error}
-use Rattle.bitstream_count.specs.declared.error.Error.TheVariants as errors
-use Rattle.bitstream_count.specs.Entry.{ReadEntry, chain, gives}
-use Rattle.bitstream_stream.specs.ReadTable.{unsigned_entry, align_entry}
-use Rattle.bitstream_stream.specs.Run.{read_run}
-use Rattle.bitstream_order.specs.Fault.{read_refusal_of}
-use Rattle.bitstream_order.specs.Refusal.{Refusal, IsTrueEnd}
-use Rattle.bitstream_stream.specs.Reads.{BitSource, Reads}
+use Rattle.bitstream_io.specs.Word.{Order, bits}
+use Rattle.bitstream_io.specs.Error.{Error}
+use Rattle.bitstream_io.specs.Error.TheVariants as errors
+use Rattle.bitstream_io.specs.Entry.{ReadEntry, chain, gives}
+use Rattle.bitstream_io.specs.ReadTable.{unsigned_entry, align_entry}
+use Rattle.bitstream_io.specs.Run.{read_run}
+use Rattle.bitstream_io.specs.Fault.{read_refusal_of}
+use Rattle.bitstream_io.specs.Refusal.{Refusal, IsTrueEnd}
+use Rattle.bitstream_io.specs.Reads.{BitSource, Reads}
 use Rattle.bitfields.specs.declared.fault.Reason.{Reason}
 use Rattle.bitfields.specs.declared.fault.Reason.TheVariants.{BitsEnded, StreamFault, OutOfMemory}
 use Rattle.bitfields.specs.declared.fault.Fault.{Fault}

@@ -2,10 +2,10 @@
 
 ghost use Rattle.std.specs.Prelude.{◌≡◌, ◌++◌, ◌+◌, ◌^◌, ◌<◌, ◌≤◌, ℕ, Bool, false, List, [], ◌∷◌, length, map, replicate, None, Ok};
 ghost use Rattle.std.specs.List.{All};
-ghost use Rattle.bitstream_number.specs.Word.{Order, bits, word, number};
-ghost use Rattle.bitstream_stream.specs.Alignment.{to_boundary};
-ghost use Rattle.bitstream_stream.specs.Run.{write_run, write_refusals, read_run};
-ghost use Rattle.bitstream_stream.specs.WriteTable.{align};
+ghost use Rattle.bitstream_io.specs.Word.{Order, bits, word, number};
+ghost use Rattle.bitstream_io.specs.Alignment.{to_boundary};
+ghost use Rattle.bitstream_io.specs.Run.{write_run, write_refusals, read_run};
+ghost use Rattle.bitstream_io.specs.WriteTable.{align};
 ghost use Rattle.bitfields.specs.Fault.{fault};
 ghost use Rattle.bitfields.specs.Layout.{layout_of, layout_text, IsField, IsLayout};
 ghost use Rattle.bitfields.specs.Packing.{packed, field_writes};

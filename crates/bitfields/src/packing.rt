@@ -1,9 +1,9 @@
 //! Packing: the words of an input's values, and a last alignment.
 
 ghost use Rattle.std.specs.Prelude.{◌≡◌, false, None, [], ◌∷◌, ◌++◌};
-ghost use Rattle.bitstream_order.specs.Refusal.{MayRefuseSend};
-ghost use Rattle.bitstream_stream.specs.Sink.{Writes, WritesAll};
-ghost use Rattle.bitstream_stream.specs.WriteTable.{align};
+ghost use Rattle.bitstream_io.specs.Refusal.{MayRefuseSend};
+ghost use Rattle.bitstream_io.specs.Sink.{Writes, WritesAll};
+ghost use Rattle.bitstream_io.specs.WriteTable.{align};
 ghost use Rattle.bitfields.specs.Packing.{field_write, field_writes, packed, WritesBits, write_reason as write_reason_of, Packs};
 ghost use Rattle.bitfields.specs.Value.{lines as lines_of, values as values_of, FitsField, Fit};
 

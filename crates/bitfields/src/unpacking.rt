@@ -1,9 +1,9 @@
 //! Unpacking: the lines of the values that bits hold for the fields of a layout.
 
 ghost use Rattle.std.specs.Prelude.{◌≡◌, ◌++◌, ℕ, List, Some, string_bytes, IsErr, IsSome, OnOk};
-ghost use Rattle.bitstream_order.specs.TakeBits.{seen};
-ghost use Rattle.bitstream_order.specs.Refusal.{MayRefuse, TrueEnds};
-ghost use Rattle.bitstream_stream.specs.Reads.{Reads};
+ghost use Rattle.bitstream_io.specs.TakeBits.{seen};
+ghost use Rattle.bitstream_io.specs.Refusal.{MayRefuse, TrueEnds};
+ghost use Rattle.bitstream_io.specs.Reads.{Reads};
 ghost use Rattle.bitfields.specs.Unpacking.{field_read, read_reason as read_reason_of, IsSaid, ReadsLines, UnpacksBytes};
 ghost use Rattle.bitfields.specs.Value.{value_list, printed_lines};
 

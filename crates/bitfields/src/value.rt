@@ -4,7 +4,7 @@ ghost use Rattle.std.specs.Prelude.{◌≡◌, ◌+◌, ◌++◌, [], ◌∷◌,
 ghost use Rattle.std.specs.List.{All};
 ghost use Rattle.bitfields.specs.Fault.{fault};
 ghost use Rattle.bitfields.specs.Layout.{IsField, IsLayout, IsUnlessMemory};
-ghost use Rattle.bitstream_order.specs.TakeBits.{seen};
+ghost use Rattle.bitstream_io.specs.TakeBits.{seen};
 ghost use Rattle.bitfields.specs.Value.{lines as lines_of, values as values_of, value_in as value_in_of, value_count as value_count_of, Fit, value_list};
 
 use crate::fault::{Fault, Reason};

@@ -2,7 +2,7 @@
 ghost use Rattle.std.specs.Prelude.{◌≡◌, pos, negsuc, ◌%◌, ◌^◌, ◌≤◌, ◌<◌};
 
 use bitstream_io::{Bits, Numeric, Primitive, SignedInteger, UnsignedInteger};
-use bitstream_number::laws::{
+use bitstream_io::number::laws::{
     masks_are_remainders, ors_are_sums, shifts_past_the_size_are_zero, signed_bytes_go_back,
     signed_shifts_round_down, unsigned_bytes_go_back,
 };

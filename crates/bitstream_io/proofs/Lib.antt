@@ -1,6 +1,7 @@
 pub use Rattle.bitstream_number.proofs.SignedLemmas
 pub use Rattle.bitstream_number.proofs.WordLemmas
 pub use Rattle.bitstream_order.proofs.FaultLemmas
+pub use Rattle.bitstream_order.proofs.TakeLemmas
 pub use Rattle.bitstream_order.proofs.SliceLemmas as SliceEnds
 pub use Rattle.bitstream_stream.proofs.EntryLemmas
 pub use Rattle.bitstream_stream.proofs.ReaderLemmas

@@ -1,7 +1,7 @@
 use Rattle.std.proofs.Common.{◌≡◌, [], ◌∷◌, ◌++◌, None}
 use Rattle.std.proofs.lemmas.List.Elements.{recursion_from_All, All-from_recursion}
-use Rattle.bitstream_stream.specs.Run.{write_refusals}
-use Rattle.bitstream_stream.specs.WriteTable.{align}
+use Rattle.bitstream_io.specs.Run.{write_refusals}
+use Rattle.bitstream_io.specs.WriteTable.{align}
 use Rattle.bitfields.specs.Layout.{IsField}
 use Rattle.bitfields.specs.Packing.{field_writes}
 use Rattle.bitfields.proofs.FieldCalls.{refusals-none}

@@ -1,7 +1,7 @@
 use Rattle.std.proofs.Common.{◌∷◌, ◌∙◌, ◌+◌, ◌*◌, inr, sym, ap, refl}
-use Rattle.bitstream_order.specs.Refusal.{MayRefuseSend}
-use Rattle.bitstream_stream.specs.Carries.{WriterState}
-use Rattle.bitstream_stream.specs.Writer.{writer_state}
+use Rattle.bitstream_io.specs.Refusal.{MayRefuseSend}
+use Rattle.bitstream_io.specs.Carries.{WriterState}
+use Rattle.bitstream_io.specs.Writer.{writer_state}
 use Rattle.bitfields.specs.Fault.{fault as fault_of}
 use Rattle.bitfields.proofs.MemoryLemmas.{value_expected, fault_expected}
 use Rattle.bitfields.proofs.PackingLemmas.{PackedBytes-from, heads, MayRefuseSend-seen, Packs-refused, RefusedBytes-from}

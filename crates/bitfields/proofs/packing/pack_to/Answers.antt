@@ -1,7 +1,7 @@
 use Rattle.std.proofs.Common.{◌∷◌, [], ◌++◌}
-use Rattle.bitstream_stream.specs.Sink.{WritesAll}
-use Rattle.bitstream_stream.specs.WriteTable.{align}
-use Rattle.bitstream_stream.proofs.WriteParts.{all_append, all_one, all_stop}
+use Rattle.bitstream_io.specs.Sink.{WritesAll}
+use Rattle.bitstream_io.specs.WriteTable.{align}
+use Rattle.bitstream_io.proofs.WriteParts.{all_append, all_one, all_stop}
 use Rattle.bitfields.specs.Packing.{field_writes}
 use Rattle.bitfields.proofs.PackingLemmas.{result_err, WritesBits-packed}
 use Rattle.bitfields.proofs.packing.pack_to.Goals as goal

@@ -1,6 +1,6 @@
 use Rattle.std.proofs.Common.{rules, ◌≡◌, ◌∷◌, sym, ◌∙◌, string_bytes, Ok}
-use Rattle.bitstream_order.specs.TakeBits.{seen}
-use Rattle.bitstream_order.specs.Refusal.{MayRefuse}
+use Rattle.bitstream_io.specs.TakeBits.{seen}
+use Rattle.bitstream_io.specs.Refusal.{MayRefuse}
 use Rattle.bitfields.specs.Unpacking.{UnpacksBytes}
 use Rattle.bitfields.proofs.PackingLemmas.{heads}
 use Rattle.bitfields.proofs.UnpackedBytes.{Unpacks-from, UnpacksBytes-exit, MayRefuse-seen, said}

@@ -1,6 +1,6 @@
 use Rattle.std.proofs.Common.{Some, None}
-use Rattle.bitstream_count.specs.Entry.{gives}
-use Rattle.bitstream_stream.proofs.ReadsLemmas.{Reads-chain-ok, Reads-gives, exit}
+use Rattle.bitstream_io.specs.Entry.{gives}
+use Rattle.bitstream_io.proofs.ReadsLemmas.{Reads-chain-ok, Reads-gives, exit}
 use Rattle.bitfields.specs.declared.field_value.FieldValue.TheVariants as Value
 use Rattle.bitfields.proofs.unpacking.unpack_field.Goals as goal
 
