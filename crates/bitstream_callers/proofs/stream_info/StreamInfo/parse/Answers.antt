@@ -1,0 +1,15 @@
+use Rattle.std.proofs.Common.{ℕ, List, Ok, Some, ap, arith}
+use Rattle.bitstream_io.specs.Word.{High, bits}
+use Rattle.bitstream_io.proofs.ReadSteps.{Finds, finds, fields_there, fields_short}
+use Rattle.bitstream_io.proofs.SliceEnds.{slice_ends}
+use Rattle.bitstream_callers.specs.StreamInfo.{stream_info, stream_info_entry}
+use Rattle.bitstream_callers.proofs.stream_info.StreamInfo.parse.Goals as goal
+
+found : (block : List ℕ) → Finds (bits High block) 0 (stream_info_entry High) 144 (Ok (stream_info (bits High block)))
+found block = search finds depth 12
+
+pub returns-clause-there : goal.returns-clause-there
+returns-clause-there c = λ enough. fields_there slice_ends c.new-2.ensures (ap Some c.new.ensures) c.read.ensures (found _) (omega arith)
+
+pub returns-clause-short : goal.returns-clause-short
+returns-clause-short c = λ few. fields_short slice_ends c.new-2.ensures (ap Some c.new.ensures) c.read.ensures (found _) (omega arith)

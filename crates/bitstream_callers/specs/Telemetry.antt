@@ -1,0 +1,20 @@
+-- One packed sample of a vehicle's telemetry.
+use Rattle.std.specs.Prelude.{Bool, List, [], ◌∷◌, ◌++◌}
+use Rattle.bitstream_io.specs.Entry.{WriteEntry}
+use Rattle.bitstream_io.specs.Run.{write_run}
+use Rattle.bitstream_io.specs.Word.{Order, High}
+use Rattle.bitstream_io.specs.WriteTable.{align, bit, unsigned}
+use Rattle.bitstream_callers.specs.declared.telemetry.Sample.{Sample}
+
+-- the writes of a sample, in order
+abbrev pub sample_writes : Order → Sample → List WriteEntry
+sample_writes o sample =
+    unsigned o 32 20 sample.seconds
+    ∷ bit sample.running
+    ∷ unsigned o 16 9 sample.temperature
+    ∷ unsigned o 32 18 sample.pressure
+    ∷ []
+
+-- the words of a sample, from the first bit on, and zeros up to a whole byte
+abbrev pub packed_bits : Sample → List Bool
+packed_bits sample = write_run (sample_writes High sample ++ align ∷ []) 0

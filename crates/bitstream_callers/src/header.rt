@@ -1,0 +1,74 @@
+//! The header of a protocol's packets, both ways.
+ghost use Rattle.std.specs.Prelude.{◌≡◌, ◌++◌, ℕ, Bool, List, length, Ok};
+ghost use Rattle.bitstream_io.specs.Entry.{Takes};
+ghost use Rattle.bitstream_io.specs.Reads.{Reads};
+ghost use Rattle.bitstream_io.specs.Run.{write_run};
+ghost use Rattle.bitstream_io.specs.Sink.{WritesAll};
+ghost use Rattle.bitstream_io.specs.Word.{Order};
+ghost use Rattle.bitstream_callers.specs.declared.header.Header.{Header};
+ghost use Rattle.bitstream_callers.specs.Header.{header_entry, header_writes, Fits};
+
+use bitstream_io::{BE, BitRead, BitReadExt, BitReader, BitWrite, BitWriteExt, Bits, Error};
+
+/// What stands before a packet's bytes.
+#[derive(Clone, Copy, Debug, PartialEq)]
+pub struct Header {
+    /// The version of the protocol, below 8.
+    pub version: u8,
+    /// Whether the packet is to be acknowledged.
+    pub acknowledge: bool,
+    /// How urgent the packet is, below 16.
+    pub priority: u8,
+    /// The bytes that follow.
+    pub length: u16,
+}
+
+/// Returns the version that a packet states.
+///
+/// # Errors
+///
+/// `EndOfInput` for a packet of no bytes.
+pub fn version(packet: &[u8]) -> Result<u8, Error> {
+    BitReader::<_, BE>::new(packet).read::<Bits<3>, u8>()
+}
+
+impl Header {
+    /// Reads a header.
+    ///
+    /// # Errors
+    ///
+    /// As the reader has them; each leaves it failed.
+    pub fn read<R: BitRead>(reader: &mut R) -> Result<Header, Error>
+        ensures { Reads R.source (header_entry R.source.order) reader.old result reader.new }
+    {
+        Ok(Header {
+            version: reader.read::<Bits<3>, u8>()?,
+            acknowledge: reader.read_bit()?,
+            priority: reader.read::<Bits<4>, u8>()?,
+            length: reader.read::<Bits<16>, u16>()?,
+        })
+    }
+
+    /// Writes a header.
+    ///
+    /// # Errors
+    ///
+    /// `Checked` for a field that its bits do not hold: the fields before it are written then. Else as
+    /// the sink has them.
+    pub fn write<W: BitWrite>(&self, writer: &mut W) -> Result<(), Error>
+        ensures { WritesAll W.sink (header_writes W.sink.order self.now) writer.old result writer.new }
+    {
+        writer.write::<Bits<3>, u8>(self.version)?;
+        writer.write_bit(self.acknowledge)?;
+        writer.write::<Bits<4>, u8>(self.priority)?;
+        writer.write::<Bits<16>, u16>(self.length)
+    }
+}
+
+/// What is written of a header that fits its bits is read back as this header, in either order of bits,
+/// wherever it stands: the read takes the bits that were written, and no more.
+pub fn headers_go_back()
+    ensures { (o : Order) (header : Header) (at from : ℕ) (more : List Bool) → Fits header
+        → let word = write_run (header_writes o header) at in
+        (header_entry o).reads from (word ++ more) ≡ Takes (length word) (Ok header) }
+{}
