@@ -2,6 +2,8 @@
 //! functions over bytes in memory, whose contracts tell all that they answer.
 #![tactic(auto)]
 
+#[cfg(test)]
+mod callers;
 mod count;
 #[cfg(test)]
 mod counts;
