@@ -70,6 +70,21 @@ pub mod write {
     pub use bitstream_value::write::BitWriteExt;
 }
 
+/// What is proved of the definitions alone: a function each, whose contract is the law.
+pub mod laws {
+    pub use bitstream_count::laws::{
+        counts_go_back, counts_hash_as_their_numbers, equal_counts_are_equal_numbers,
+        equal_signed_counts_are_equal_numbers, fixed_counts_go_back, fixed_signed_counts_go_back,
+        signed_counts_go_back, signed_counts_hash_as_their_numbers,
+    };
+    pub use bitstream_number::laws::{
+        bytes_are_words, masks_are_remainders, ors_are_sums, shifts_past_the_size_are_zero,
+        signed_bytes_go_back, signed_shifts_round_down, unsigned_bytes_go_back, values_go_back,
+        words_hold_numbers, words_split, zigzags_go_back,
+    };
+    pub use bitstream_stream::laws::words_join;
+}
+
 pub use count::{
     BitCount, Checked, CheckedError, CheckedSigned, CheckedSignedFixed, CheckedUnsigned,
     CheckedUnsignedFixed, Count, FixedBitCount, FixedSignedBitCount, LsbMask, SignedBitCount,
