@@ -1,11 +1,11 @@
 //! Each operation on numbers once at each type, through the bound that it is proved from.
 ghost use Rattle.std.specs.Prelude.{◌≡◌, pos, negsuc, ◌%◌, ◌^◌, ◌≤◌, ◌<◌};
 
-use bitstream_io::{Bits, Numeric, Primitive, SignedInteger, UnsignedInteger};
-use bitstream_io::number::laws::{
+use bitstream_io::laws::{
     masks_are_remainders, ors_are_sums, shifts_past_the_size_are_zero, signed_bytes_go_back,
     signed_shifts_round_down, unsigned_bytes_go_back,
 };
+use bitstream_io::{Bits, Numeric, Primitive, SignedInteger, UnsignedInteger};
 use std::process::Abort;
 
 /// A value's bytes in either order, and back.

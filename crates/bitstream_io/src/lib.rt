@@ -21,22 +21,20 @@ pub mod error {
     pub use bitstream_count::error::Error;
 }
 
-/// Integer types as numbers, and numbers that types stand for; and what holds of the numbers (`laws`).
+/// Integer types as numbers, and numbers that types stand for.
 pub mod number {
-    pub use bitstream_number::laws;
     pub use bitstream_number::number::{
         Bits, Buffer, Numeric, Primitive, SignedInteger, UnsignedInteger, Width,
     };
 }
 
-/// Numbers of bits, and values that are known to fit one; and what holds of them (`laws`).
+/// Numbers of bits, and values that are known to fit one.
 pub mod count {
     pub use bitstream_count::count::{
         BitCount, Checked, CheckedError, CheckedSigned, CheckedSignedFixed, CheckedUnsigned,
         CheckedUnsignedFixed, Count, FixedBitCount, FixedSignedBitCount, LsbMask, SignedBitCount,
         SignedCount,
     };
-    pub use bitstream_count::laws;
 }
 
 /// Types whose values are words of bits.
@@ -49,13 +47,12 @@ pub mod order {
     pub use bitstream_order::order::{BE, BigEndian, Endianness, LE, LittleEndian};
 }
 
-/// Reading bits; and what holds of readers over any source (`laws`).
+/// Reading bits.
 pub mod read {
     pub use bitstream_order::lent::Lent;
     pub use bitstream_order::seek::SeekSource;
     pub use bitstream_order::slice::Slice;
     pub use bitstream_order::source::Source;
-    pub use bitstream_stream::laws;
     pub use bitstream_stream::read::BitRead;
     pub use bitstream_stream::reader::BitReader;
     pub use bitstream_value::read::BitReadExt;
@@ -82,7 +79,7 @@ pub mod laws {
         signed_bytes_go_back, signed_shifts_round_down, unsigned_bytes_go_back, values_go_back,
         words_hold_numbers, words_split, zigzags_go_back,
     };
-    pub use bitstream_stream::laws::words_join;
+    pub use bitstream_stream::laws::{ends_are_known, slices_end, words_join};
 }
 
 pub use count::{

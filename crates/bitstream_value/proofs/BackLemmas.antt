@@ -24,14 +24,14 @@ pub record GoesBack {A : Type 0} (e : ReadEntry A) (es : List WriteEntry) (a : A
 
 pub signed-word : (o : Order) (size n : ℕ) → 1 ≤ n → n ≤ size → IsWord (signed_entry o size n) n (λ w. Ok (signed_number o w))
 unfolding signed_entry
-signed-word o size n some le p b = rw (ne_eqb n 0 (λ e. omega arith), le-leb n size le) refl
+signed-word o size n some le = record { reads = λ p b. rw (ne_eqb n 0 (λ e. omega arith), le-leb n size le) refl }
 
 -- a call that takes a word, and one that writes it, and those behind them
 pub word-back : {A B : Type 0} (e : ReadEntry A) (n : ℕ) (g : List Bool → A) (x : WriteEntry) (w : List Bool) (a : A) (f : A → ReadEntry B) (es : List WriteEntry) (b : B)
     → IsWord e n (λ v. Ok (g v)) → ((len : ℕ) → x len ≡ Ok w) → length w ≡ n → g w ≡ a → GoesBack (f a) es b → GoesBack (chain e f) (x ∷ es) b
 word-back e n g x w a f es b is writes size answer k = record {
   back = λ len p more.
-      let first : (m : List Bool) → e.reads p (w ++ m) ≡ Takes (length w) (Ok a) = λ m. is p (w ++ m) ∙ word_front-some n (λ v. Ok (g v)) w m size ∙ rw (size, answer) refl in
+      let first : (m : List Bool) → e.reads p (w ++ m) ≡ Takes (length w) (Ok a) = λ m. is.reads p (w ++ m) ∙ word_front-some n (λ v. Ok (g v)) w m size ∙ rw (size, answer) refl in
       rw (writes len) (chain_decides e f p (p + length w) w (write_run es (len + length w)) a (Ok b) first refl (k.back (len + length w) (p + length w)) more);
 }
 
@@ -50,7 +50,7 @@ module _ {B : Type 0} (o : Order) (n : ℕ) (es : List WriteEntry) (b : B) where
       (signed_number-signed_word o n x more fits) k
 
 pub bit-word : IsWord bit_entry 1 (λ w. Ok (first_bit w))
-bit-word p b = refl
+bit-word = record { reads = λ p b. refl }
 
 pub bit-back : {B : Type 0} (c : Bool) (f : Bool → ReadEntry B) (es : List WriteEntry) (b : B) → GoesBack (f c) es b → GoesBack (chain bit_entry f) (bit c ∷ es) b
 bit-back c f es b k = word-back bit_entry 1 first_bit (bit c) (c ∷ []) c f es b bit-word (λ len. refl) refl refl k

@@ -38,8 +38,8 @@ pub record Finds {A : Type 0} (b : List Bool) (k : ℕ) (e : ReadEntry A) (n : �
 
 word-finds : {A : Type 0} (b : List Bool) (k n : ℕ) (e : ReadEntry A) (g : List Bool → Result A Error) → IsWord e n g → Finds b k e n (g (take n (drop k b)))
 word-finds b k n e g word = record {
-  there = λ p enough. rw (word p (drop k b), le-leb n (length (drop k b)) (let l = length-drop k b in omega arith)) refl;
-  short = λ p some few. rw (word p (drop k b), lt-leb n (length (drop k b)) (let l = length-drop k b in omega arith)) refl;
+  there = λ p enough. rw (word.reads p (drop k b), le-leb n (length (drop k b)) (let l = length-drop k b in omega arith)) refl;
+  short = λ p some few. rw (word.reads p (drop k b), lt-leb n (length (drop k b)) (let l = length-drop k b in omega arith)) refl;
 }
 
 chain-finds : {A B : Type 0} (b : List Bool) (k n m : ℕ) (e : ReadEntry A) (f : A → ReadEntry B) (a : A) (r : Result B Error) → Finds b k e n (Ok a) → Finds b (k + n) (f a) m r → Finds b k (chain e f) (n + m) r

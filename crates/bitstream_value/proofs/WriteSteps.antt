@@ -11,10 +11,10 @@ use Rattle.bitstream_stream.specs.declared.writer.BitWriter.{BitWriter}
 use Rattle.bitstream_stream.specs.Carries.{WriterState}
 use Rattle.bitstream_stream.specs.Run.{accepted, write_run}
 use Rattle.bitstream_stream.specs.Sink.{Sink, Writes, WritesAll, Appended, was_failed, was_refused, passed_limit, had_fault, did_write}
-use Rattle.bitstream_stream.specs.Writer.{writer_state, fresh_writer, writer_sink, Adds}
+use Rattle.bitstream_stream.specs.Writer.{writer_state, fresh_writer, writer_sink, AddsBits}
 use Rattle.bitstream_stream.proofs.WriteParts.{all_append, all_none, all_err, all_more, all_one, one_of_all}
 use Rattle.bitstream_stream.proofs.WriteLemmas.{padded}
-use Rattle.bitstream_stream.proofs.WriterLemmas.{adds}
+use Rattle.bitstream_stream.proofs.WriterLemmas.{adds_bits}
 use Rattle.bitstream_stream.specs.Alignment.{to_boundary}
 use Rattle.bitstream_stream.specs.WriteTable.{align}
 use Rattle.std.proofs.lemmas.List.{length-replicate}
@@ -56,7 +56,7 @@ wrote K e s t (did_write y v p q b d k) = subst (λ w. Appended K s w t) (sym (a
 -- calls that answered `Ok` appended their write run
 pub run_appended : {S : Type 0} (K : Sink S) (es : List WriteEntry) (s t : S) → K.failed s ≡ false → WritesAll K es s (Ok tt) t → Appended K s (write_run es (K.len s)) t
 unfolding WritesAll
-run_appended K [] s t sound p = subst (λ z. Appended K s [] z) (sym p.1) (record { grown = K.appends_nil s; sound = sound; refusals = refl; places = refl })
+run_appended K [] s t sound p = subst (λ z. Appended K s [] z) (sym p.1) (record { grown = K.appends_nil s; sound = sound; refusals = refl; reference_names = refl })
 run_appended K (e ∷ es) s t sound (inl p) = let z = p.0 in cc
 run_appended K (e ∷ es) s t sound (inr p) =
     let a = wrote K e s p.0 p.1 in
@@ -67,7 +67,7 @@ run_appended K (e ∷ es) s t sound (inr p) =
       grown = K.appends_trans s p.0 t w (write_run es (K.len s + length w)) a.grown (subst (λ n. K.appends p.0 (write_run es n) t) far b.grown);
       sound = b.sound;
       refusals = b.refusals ∙ a.refusals;
-      places = b.places ∙ a.places;
+      reference_names = b.reference_names ∙ a.reference_names;
     }
 
 -- ---- what a new writer's stream holds then, behind a last alignment
@@ -78,29 +78,29 @@ aligned K s t h =
     let far : K.len t ≡ K.len s + length zeros = K.appends_len s t zeros (wrote K align s t h).grown in
     rw (far, length-replicate (to_boundary (K.len s)) false) (padded (K.len s))
 
-module _ {W E : Type 0} (held : W → Option (List ℕ)) (refuses : W → ℕ → ErrorKind → W → Type 0) (places : W → List GName) (o : Order) (es : List WriteEntry) (known : Option (List ℕ)) (names : List GName) (a m b : BitWriter W E) where
-  packed : writer_state held places a ≡ fresh_writer known names → WritesAll (writer_sink held refuses places o) es a (Ok tt) m → Writes {T = Unit {0}} (writer_sink held refuses places o) align m (Ok tt) b
-      → Appended (writer_sink held refuses places o) a (write_run (es ++ align ∷ []) 0) b
+module _ {W E : Type 0} (held : W → Option (List ℕ)) (refuses : W → ℕ → ErrorKind → W → Type 0) (reference_names : W → List GName) (o : Order) (es : List WriteEntry) (known : Option (List ℕ)) (names : List GName) (a m b : BitWriter W E) where
+  packed : writer_state held reference_names a ≡ fresh_writer known names → WritesAll (writer_sink held refuses reference_names o) es a (Ok tt) m → Writes {T = Unit {0}} (writer_sink held refuses reference_names o) align m (Ok tt) b
+      → Appended (writer_sink held refuses reference_names o) a (write_run (es ++ align ∷ []) 0) b
   packed fresh h k =
-      let K = writer_sink held refuses places o in
+      let K = writer_sink held refuses reference_names o in
       let start : K.len a ≡ 0 = ap (λ (s : WriterState). 8 * s.port.sent + s.queued) fresh in
       let all = all_append K es (align ∷ []) a m (Ok tt) b h (all_one K align m (Ok tt) b k) in
       subst (λ n. Appended K a (write_run (es ++ align ∷ []) n) b) start (run_appended K (es ++ align ∷ []) a b (ap (λ (s : WriterState). s.failed) fresh) all)
 
   -- the bits of the bytes that were added are the write run
-  pub bytes_added : writer_state held places a ≡ fresh_writer known names → WritesAll (writer_sink held refuses places o) es a (Ok tt) m → Writes {T = Unit {0}} (writer_sink held refuses places o) align m (Ok tt) b
-      → Adds o known (write_run (es ++ align ∷ []) 0) (held b.port.stream)
+  pub bytes_added : writer_state held reference_names a ≡ fresh_writer known names → WritesAll (writer_sink held refuses reference_names o) es a (Ok tt) m → Writes {T = Unit {0}} (writer_sink held refuses reference_names o) align m (Ok tt) b
+      → AddsBits o known (write_run (es ++ align ∷ []) 0) (held b.port.stream)
   bytes_added fresh h k =
-      subst (λ z. Adds o z (write_run (es ++ align ∷ []) 0) (held b.port.stream)) (ap (λ (s : WriterState). s.port.bytes) fresh)
-      (adds held places o a b (write_run (es ++ align ∷ []) 0) (packed fresh h k).grown (ap (λ (s : WriterState). s.queued) fresh) (aligned (writer_sink held refuses places o) m b k))
+      subst (λ z. AddsBits o z (write_run (es ++ align ∷ []) 0) (held b.port.stream)) (ap (λ (s : WriterState). s.port.bytes) fresh)
+      (adds_bits held reference_names o a b (write_run (es ++ align ∷ []) 0) (packed fresh h k).grown (ap (λ (s : WriterState). s.queued) fresh) (aligned (writer_sink held refuses reference_names o) m b k))
 
   -- and the stream is reached as it was
-  pub names_kept : writer_state held places a ≡ fresh_writer known names → WritesAll (writer_sink held refuses places o) es a (Ok tt) m → Writes {T = Unit {0}} (writer_sink held refuses places o) align m (Ok tt) b → places b.port.stream ≡ names
-  names_kept fresh h k = (packed fresh h k).places ∙ ap (λ (s : WriterState). s.port.places) fresh
+  pub names_kept : writer_state held reference_names a ≡ fresh_writer known names → WritesAll (writer_sink held refuses reference_names o) es a (Ok tt) m → Writes {T = Unit {0}} (writer_sink held refuses reference_names o) align m (Ok tt) b → reference_names b.port.stream ≡ names
+  names_kept fresh h k = (packed fresh h k).reference_names ∙ ap (λ (s : WriterState). s.port.reference_names) fresh
 
 -- the bytes of a stream that held none
-pub whole_bytes : {o : Order} {known : Option (List ℕ)} {x : List Bool} {xs : List ℕ} → known ≡ Some [] → Adds o known x (Some xs) → bits o xs ≡ x
-whole_bytes {o = o} {x = x} {xs = xs} none h = let k = subst (λ z. Adds o z x (Some xs)) none h in ap (bits o) k.grows ∙ k.bits
+pub whole_bytes : {o : Order} {known : Option (List ℕ)} {x : List Bool} {xs : List ℕ} → known ≡ Some [] → AddsBits o known x (Some xs) → bits o xs ≡ x
+whole_bytes {o = o} {x = x} {xs = xs} none h = let k = subst (λ z. AddsBits o z x (Some xs)) none h in ap (bits o) k.grows ∙ k.bits
 
 -- the first of the references through which a stream is reached
 pub first_name : {m n : GName} {k l : List GName} → m ∷ l ≡ n ∷ k → m ≡ n
