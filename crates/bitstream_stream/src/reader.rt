@@ -1,14 +1,16 @@
 //! A reader of bits over a stream of bytes.
-ghost use Rattle.std.specs.Prelude.{◌≡◌, ℕ, ◌+◌, ◌*◌, ◌/◌, ◌^◌, ◌<◌, ◌≤◌, false, true, Ok};
+ghost use Rattle.std.specs.Prelude.{◌≡◌, ℕ, ◌+◌, ◌*◌, ◌/◌, ◌^◌, ◌<◌, ◌≤◌, ◌⊎◌, IsTrue, false, true, Ok};
+ghost use Rattle.bitstream_number.specs.Word.{count_width};
 ghost use Rattle.bitstream_order.specs.TakeBits.{seen};
 ghost use Rattle.bitstream_order.specs.Port.{fetched_count};
-ghost use Rattle.bitstream_stream.specs.Reads.{Reads};
-ghost use Rattle.bitstream_stream.specs.ReadTable.{unsigned_entry, signed_entry, align_entry};
+ghost use Rattle.bitstream_stream.specs.Reads.{Reads, ReadsConst};
+ghost use Rattle.bitstream_stream.specs.ReadTable.{bit_entry, unsigned_entry, signed_entry, const_entry, count_entry, align_entry, is_full};
 
 use crate::read::BitRead;
+use crate::width::count_bits;
 use bitstream_count::count::{BitCount, Count, SignedCount};
 use bitstream_count::error::Error;
-use bitstream_number::number::{Numeric, SignedInteger, UnsignedInteger};
+use bitstream_number::number::{Numeric, SignedInteger, UnsignedInteger, Width};
 use bitstream_order::gather::{one_byte, whole_bytes};
 use bitstream_order::order::Endianness;
 use bitstream_order::port::Port;
@@ -54,12 +56,13 @@ pub struct BitReader<R, E> {
 }
 
 impl<R: Source, E: Endianness> BitReader<R, E> {
-    ghost use Rattle.bitstream_stream.specs.Reader.{new_reader_state, requests_made};
+    ghost use Rattle.bitstream_stream.specs.Reader.{new_reader_state, requests_made, AsksForWord};
 
     /// Returns a reader of a stream's bytes. Nothing is asked of the stream yet.
     pub fn new(reader: R) -> BitReader<R, E>
-        ensures { ⟦<Self as BitRead>⟧.source.state result
+        ensures state { ⟦<BitReader<R, E> as BitRead>⟧.source.state result
             ≡ new_reader_state (R.remaining reader) (R.reference_names reader) }
+        ensures requests { requests_made result ≡ 0 }
     {
         BitReader {
             port: Port::new(reader),
@@ -75,8 +78,9 @@ impl<R: Source, E: Endianness> BitReader<R, E> {
     pub fn endian(reader: R, _endian: E) -> BitReader<R, E>
     where
         E: Drop,
-        ensures { ⟦<Self as BitRead>⟧.source.state result
+        ensures state { ⟦<BitReader<R, E> as BitRead>⟧.source.state result
             ≡ new_reader_state (R.remaining reader) (R.reference_names reader) }
+        ensures requests { requests_made result ≡ 0 }
     {
         BitReader::new(reader)
     }
@@ -86,10 +90,9 @@ impl<R: Source, E: Endianness> BitReader<R, E> {
         requires fine { self.old.failed ≡ false }
         requires more { self.old.queued < bits }
         requires room { bits ≤ U.BITS_SIZE }
-        ensures reads { Reads ⟦<Self as BitRead>⟧.source
-            (unsigned_entry E.order U.BITS_SIZE bits)
-            self.old (seen U.value result) self.new }
-        ensures requests { requests_made self.new ≤ requests_made self.old + 2 }
+        ensures reads { Reads ⟦<BitReader<R, E> as BitRead>⟧.source
+            (unsigned_entry E.order U.BITS_SIZE bits) self.old (seen U.value result) self.new }
+        ensures asks { AsksForWord bits self.old self.new }
     {
         let queued = self.queued;
         let shared = (bits - queued) % 8;
@@ -149,9 +152,15 @@ impl<R: Source, E: Endianness> BitRead for BitReader<R, E> {
             self.old (seen S.integer result) self.new }
         ensures asks { AsksForWord (C.number bits) self.old self.new }
     {
-        let bits = bits.bits();
-        let word: S::Unsigned = self.read_unsigned_var(bits)?;
-        Ok(signed_of(word, bits))
+        self.read_signed_var(bits.bits())
+    }
+
+    fn read_bit(&mut self) -> Result<bool, Error>
+        ensures reads { Reads ⟦<BitReader<R, E> as BitRead>⟧.source bit_entry self.old result self.new }
+        ensures asks { AsksForWord 1 self.old self.new }
+    {
+        let bit: u8 = self.read_unsigned_var(1)?;
+        Ok(bit == 1)
     }
 
     fn read_unsigned_var<U: UnsignedInteger>(&mut self, bits: u32) -> Result<U, Error>
@@ -161,6 +170,62 @@ impl<R: Source, E: Endianness> BitRead for BitReader<R, E> {
         ensures asks { AsksForWord bits self.old self.new }
     {
         self.read_unsigned_counted(BitCount::unknown(bits))
+    }
+
+    fn read_unsigned<B: Width, U: UnsignedInteger>(&mut self) -> Result<U, Error>
+        ensures reads { Reads ⟦<BitReader<R, E> as BitRead>⟧.source
+            (unsigned_entry E.order U.BITS_SIZE B.BITS) self.old (seen U.value result) self.new }
+        ensures asks { AsksForWord B.BITS self.old self.new }
+    {
+        self.read_unsigned_var(B::BITS)
+    }
+
+    fn read_signed_var<S: SignedInteger>(&mut self, bits: u32) -> Result<S, Error>
+        ensures reads { Reads ⟦<BitReader<R, E> as BitRead>⟧.source
+            (signed_entry E.order S.BITS_SIZE bits) self.old (seen S.integer result) self.new }
+        ensures asks { AsksForWord bits self.old self.new }
+    {
+        if self.failed {
+            return Err(Error::Failed);
+        }
+        if bits == 0 {
+            return Err(Error::NoSignBit);
+        }
+        let word: S::Unsigned = self.read_unsigned_var(bits)?;
+        Ok(signed_of(word, bits))
+    }
+
+    fn read_signed<B: Width, S: SignedInteger>(&mut self) -> Result<S, Error>
+        ensures reads { Reads ⟦<BitReader<R, E> as BitRead>⟧.source
+            (signed_entry E.order S.BITS_SIZE B.BITS) self.old (seen S.integer result) self.new }
+        ensures asks { AsksForWord B.BITS self.old self.new }
+    {
+        self.read_signed_var(B::BITS)
+    }
+
+    fn read_const<B: Width, V: Width, F: From<Error> + Drop>(&mut self, err: F) -> Result<(), F>
+        requires word { B.BITS ≤ 32 }
+        requires value { (V.BITS < 2 ^ B.BITS) ⊎ (B.BITS ≡ 0) }
+        ensures reads { ReadsConst ⟦<BitReader<R, E> as BitRead>⟧.source F.from_gives
+            (const_entry E.order B.BITS V.BITS) err self.old result self.new }
+        ensures asks { AsksForWord B.BITS self.old self.new }
+    {
+        let value: u32 = self.read_unsigned::<B, u32>()?;
+        if value == V::BITS { Ok(()) } else { Err(err) }
+    }
+
+    fn read_count<C: Count>(&mut self) -> Result<C, Error>
+        requires some { 0 < C.MAX }
+        requires full { IsTrue (is_full 32 C.MAX) }
+        ensures reads { Reads ⟦<BitReader<R, E> as BitRead>⟧.source
+            (count_entry E.order C.MAX) self.old (seen C.number result) self.new }
+        ensures asks { AsksForWord (count_width C.MAX) self.old self.new }
+    {
+        let number = self.read_unsigned_var(count_bits(C::MAX))?;
+        match C::of(number) {
+            Some(count) => Ok(count),
+            None => unreachable!(),
+        }
     }
 
     fn byte_aligned(&self) -> bool {

@@ -1,7 +1,8 @@
 //! A writer of bits to a stream of bytes.
-ghost use Rattle.std.specs.Prelude.{◌≡◌, ℕ, ◌<◌, ◌≤◌, ◌^◌, false, true};
+ghost use Rattle.std.specs.Prelude.{◌≡◌, ℕ, ◌<◌, ◌≤◌, ◌^◌, ◌⊎◌, false, true};
 
 use crate::check::{check, check_signed};
+use crate::width::count_bits;
 use crate::write::BitWrite;
 use bitstream_count::count::{BitCount, Count, SignedCount};
 use bitstream_count::error::Error;
@@ -102,9 +103,10 @@ impl<W: Target, E: Endianness> BitWriter<W, E> {
 }
 
 impl<W: Target, E: Endianness> BitWrite for BitWriter<W, E> {
+    ghost use Rattle.bitstream_number.specs.Word.{word, count_width};
     ghost use Rattle.bitstream_stream.specs.Writer.{writer_sink, AsksForWord};
     ghost use Rattle.bitstream_stream.specs.Sink.{Writes};
-    ghost use Rattle.bitstream_stream.specs.WriteTable.{unsigned, signed, bit as one_bit};
+    ghost use Rattle.bitstream_stream.specs.WriteTable.{unsigned, signed, plain, bit as one_bit, count as count_entry};
 
     ghost sink = { writer_sink W.contents W.refuses W.reference_names E.order };
 
@@ -177,6 +179,24 @@ impl<W: Target, E: Endianness> BitWrite for BitWriter<W, E> {
         ensures asks { AsksForWord B.BITS self.old self.new }
     {
         self.write_signed_var(B::BITS, value)
+    }
+
+    fn write_const<B: Width, V: Width>(&mut self) -> Result<(), Error>
+        requires word { B.BITS ≤ 32 }
+        requires value { (V.BITS < 2 ^ B.BITS) ⊎ (B.BITS ≡ 0) }
+        ensures writes { Writes ⟦<BitWriter<W, E> as BitWrite>⟧.sink
+            (plain (word E.order B.BITS V.BITS)) self.old result self.new }
+        ensures asks { AsksForWord B.BITS self.old self.new }
+    {
+        self.write_unsigned::<B, u32>(V::BITS)
+    }
+
+    fn write_count<C: Count>(&mut self, count: C) -> Result<(), Error>
+        ensures writes { Writes ⟦<BitWriter<W, E> as BitWrite>⟧.sink
+            (count_entry E.order C.MAX (C.number count)) self.old result self.new }
+        ensures asks { AsksForWord (count_width C.MAX) self.old self.new }
+    {
+        self.write_unsigned_var(count_bits(C::MAX), count.bits())
     }
 
     fn write_bit(&mut self, bit: bool) -> Result<(), Error>

@@ -1,0 +1,13 @@
+use Rattle.std.proofs.Common.{arith, nat_eq}
+use Rattle.bitstream_count.specs.Entry.{gives}
+use Rattle.bitstream_stream.proofs.ReadsLemmas.{Reads-same, Reads-chain-ok, Reads-gives, exit}
+use Rattle.bitstream_stream.proofs.TableLemmas.{bit-unsigned}
+use Rattle.bitstream_stream.proofs.reader.BitReaderBitRead.read_bit.Goals as goal
+
+pub returns-in_err-bit-clause-reads : goal.returns-in_err-bit-clause-reads
+returns-in_err-bit-clause-reads g c =
+    Reads-same (bit-unsigned g.E.Endianness.order 8 (omega arith)) (exit (λ n. gives (nat_eq n 1)) c.from_residual.result c.from_residual.ensures.1 c.in_err-bit.ensures.reads)
+
+pub returns-clause-reads : goal.returns-clause-reads
+returns-clause-reads g c =
+    Reads-same (bit-unsigned g.E.Endianness.order 8 (omega arith)) (Reads-chain-ok _ (λ n. gives (nat_eq n 1)) c.in_ok-bit.ensures.reads (Reads-gives _ _))
