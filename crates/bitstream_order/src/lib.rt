@@ -6,7 +6,6 @@ pub mod lent;
 pub mod order;
 pub mod port;
 pub mod refusals;
-pub mod scatter;
 pub mod seek;
 pub mod send;
 pub mod sign;

@@ -28,13 +28,9 @@ requests_made writer = requests_count writer.port
 abbrev pub queued_bits : {W E : Type 0} → BitWriter W E → ℕ
 queued_bits writer = writer.queued
 
--- a call for a word of n bits made two requests at most, one where it filled fewer than two bytes, and none where
--- it filled none
+-- a call for a word of n bits made one request at most, and none where it filled no byte
 abbrev pub AsksForWord : {W E : Type 0} → ℕ → BitWriter W E → BitWriter W E → Type 0
-AsksForWord n old new =
-    (requests_made new ≤ requests_made old + 2)
-    × (queued_bits old + n < 16 → requests_made new ≤ requests_made old + 1)
-    × (queued_bits old + n < 8 → requests_made new ≡ requests_made old)
+AsksForWord n old new = (requests_made new ≤ requests_made old + 1) × (queued_bits old + n < 8 → requests_made new ≡ requests_made old)
 
 -- a writer to which nothing was written, by what its stream tells
 abbrev pub fresh_writer : Option (List ℕ) → List GName → WriterState

@@ -11,7 +11,7 @@ use crate::width::count_bits;
 use bitstream_count::count::{BitCount, Count, SignedCount};
 use bitstream_count::error::Error;
 use bitstream_number::number::{Numeric, SignedInteger, UnsignedInteger, Width};
-use bitstream_order::gather::{one_byte, whole_bytes};
+use bitstream_order::gather::{take_bits, unused_bits};
 use bitstream_order::order::Endianness;
 use bitstream_order::port::Port;
 use bitstream_order::sign::signed_of;
@@ -95,25 +95,18 @@ impl<R: Source, E: Endianness> BitReader<R, E> {
         ensures asks { AsksForWord bits self.old self.new }
     {
         let queued = self.queued;
-        let shared = (bits - queued) % 8;
         let queue = U::from_u8(self.queue);
         self.queue = 0;
         self.queued = 0;
         self.failed = true;
         self.taken.add(queued as u64);
-        let count = (bits - queued) / 8;
-        let value = whole_bytes::<R, E, U>(&mut self.port, queue, queued, count)?;
-        self.taken.add(8 * count as u64);
-        if shared == 0 {
-            self.failed = false;
-            return Ok(value);
-        }
-        let byte = one_byte(&mut self.port)?;
+        let more = bits - queued;
+        let (value, left) = take_bits::<R, E, U>(&mut self.port, queue, queued, more)?;
         self.failed = false;
-        self.taken.add(shared as u64);
-        self.queue = E::rest(byte, 8, shared);
-        self.queued = 8 - shared;
-        Ok(E::put(value, bits - shared, E::first(byte, 8, shared), shared))
+        self.taken.add(more as u64);
+        self.queue = left;
+        self.queued = unused_bits(more);
+        Ok(value)
     }
 }
 
