@@ -101,8 +101,9 @@ impl<S: Source> Port<S> {
     ///
     /// # Errors
     ///
-    /// `EndOfInput` where the stream refuses with `UnexpectedEof`, `OutOfMemory` where it refuses
-    /// with that kind, and else `Stream` with its kind. No byte is counted as fetched then.
+    /// `EndOfInput` where the stream refuses with `UnexpectedEof`, `OutOfMemory` where it refuses with
+    /// that kind, and else `Stream` with its kind. No byte is counted as fetched then.
+    #[inline(always)]
     pub fn fetch(&mut self, buf: &mut [u8]) -> Result<(), Error>
         ensures fetches { Fetches (MayRefuse S.remaining S.refuses)
             (port_state S.remaining S.reference_names self.old) buf.new result
@@ -128,8 +129,9 @@ impl<S: Target> Port<S> {
     ///
     /// # Errors
     ///
-    /// `OutOfMemory` where the stream refuses with that kind, and else `Stream` with its kind. No
-    /// byte is counted as sent then.
+    /// `OutOfMemory` where the stream refuses with that kind, and else `Stream` with its kind. No byte
+    /// is counted as sent then.
+    #[inline(always)]
     pub fn send(&mut self, bytes: &[u8]) -> Result<(), Error>
         ensures { Sends (MayRefuseSend S.refuses)
             (port_state S.contents S.reference_names self.old) bytes.now result

@@ -12,6 +12,7 @@ use bitstream_count::error::Error;
 use bitstream_number::number::{Numeric, Primitive, UnsignedInteger};
 
 /// Returns a byte with at most 16 others behind it, and zeros behind these.
+#[inline(always)]
 fn behind(byte: u8, others: &[u8]) -> [u8; 17]
     requires { length others.now ≤ 16 }
     ensures { (zeros : List ℕ) × (result ≡ byte ∷ others.now ++ zeros) }
@@ -28,6 +29,7 @@ fn behind(byte: u8, others: &[u8]) -> [u8; 17]
 /// # Errors
 ///
 /// As [`Port::send`]: none of these bits are counted as sent then.
+#[inline(always)]
 pub fn send_front<T: Target, E: Endianness, U: UnsignedInteger>(
     port: &mut Port<T>,
     queue: u8,

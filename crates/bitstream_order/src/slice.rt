@@ -41,6 +41,7 @@ impl<'a> Source for Slice<'a> {
 
     ghost refuses = { slice_refuses };
 
+    #[inline(always)]
     fn read_exact(&mut self, buf: &mut [u8]) -> io::Result<()> {
         let bytes = self.bytes;
         if bytes.len() < buf.len() {

@@ -50,6 +50,7 @@ impl<W: Write> Target for W {
 
     ghost refuses = { λ _ _ _ _. Unit {0} };
 
+    #[inline(always)]
     fn write_all(&mut self, bytes: &[u8]) -> io::Result<()> {
         Write::write_all(self, bytes)
     }
@@ -67,6 +68,7 @@ impl<'a, T: Target> Target for Lent<'a, T> {
     ghost refuses = { λ before wanted kind after.
         T.refuses before.at.now wanted kind after.at.now };
 
+    #[inline(always)]
     fn write_all(&mut self, bytes: &[u8]) -> io::Result<()> {
         Target::write_all(&mut *self.at, bytes)
     }

@@ -86,6 +86,7 @@ impl<R: Source, E: Endianness> BitReader<R, E> {
     }
 
     /// Reads a word of more bits than the queue has.
+    #[inline(always)]
     fn fetch_word<U: UnsignedInteger>(&mut self, bits: u32) -> Result<U, Error>
         requires fine { self.old.failed ≡ false }
         requires more { self.old.queued < bits }
@@ -115,6 +116,7 @@ impl<R: Source, E: Endianness> BitRead for BitReader<R, E> {
 
     ghost source = { reader_source R.remaining R.refuses R.reference_names E.order };
 
+    #[inline(always)]
     fn read_unsigned_counted<C: Count, U: UnsignedInteger>(&mut self, bits: C) -> Result<U, Error>
         ensures reads { Reads ⟦<Self as BitRead>⟧.source
             (unsigned_entry E.order U.BITS_SIZE (C.number bits))
@@ -139,6 +141,7 @@ impl<R: Source, E: Endianness> BitRead for BitReader<R, E> {
         Ok(U::from_u8(first))
     }
 
+    #[inline(always)]
     fn read_signed_counted<C: SignedCount, S: SignedInteger>(&mut self, bits: C) -> Result<S, Error>
         ensures reads { Reads ⟦<Self as BitRead>⟧.source
             (signed_entry E.order S.BITS_SIZE (C.number bits))
@@ -148,6 +151,7 @@ impl<R: Source, E: Endianness> BitRead for BitReader<R, E> {
         self.read_signed_var(bits.bits())
     }
 
+    #[inline(always)]
     fn read_bit(&mut self) -> Result<bool, Error>
         ensures reads { Reads ⟦<BitReader<R, E> as BitRead>⟧.source bit_entry self.old result self.new }
         ensures asks { AsksForWord 1 self.old self.new }
@@ -156,6 +160,7 @@ impl<R: Source, E: Endianness> BitRead for BitReader<R, E> {
         Ok(bit == 1)
     }
 
+    #[inline(always)]
     fn read_unsigned_var<U: UnsignedInteger>(&mut self, bits: u32) -> Result<U, Error>
         ensures reads { Reads ⟦<Self as BitRead>⟧.source
             (unsigned_entry E.order U.BITS_SIZE bits)
@@ -165,6 +170,7 @@ impl<R: Source, E: Endianness> BitRead for BitReader<R, E> {
         self.read_unsigned_counted(BitCount::unknown(bits))
     }
 
+    #[inline(always)]
     fn read_unsigned<B: Width, U: UnsignedInteger>(&mut self) -> Result<U, Error>
         ensures reads { Reads ⟦<BitReader<R, E> as BitRead>⟧.source
             (unsigned_entry E.order U.BITS_SIZE B.BITS) self.old (seen U.value result) self.new }
@@ -173,6 +179,7 @@ impl<R: Source, E: Endianness> BitRead for BitReader<R, E> {
         self.read_unsigned_var(B::BITS)
     }
 
+    #[inline(always)]
     fn read_signed_var<S: SignedInteger>(&mut self, bits: u32) -> Result<S, Error>
         ensures reads { Reads ⟦<BitReader<R, E> as BitRead>⟧.source
             (signed_entry E.order S.BITS_SIZE bits) self.old (seen S.integer result) self.new }
@@ -188,6 +195,7 @@ impl<R: Source, E: Endianness> BitRead for BitReader<R, E> {
         Ok(signed_of(word, bits))
     }
 
+    #[inline(always)]
     fn read_signed<B: Width, S: SignedInteger>(&mut self) -> Result<S, Error>
         ensures reads { Reads ⟦<BitReader<R, E> as BitRead>⟧.source
             (signed_entry E.order S.BITS_SIZE B.BITS) self.old (seen S.integer result) self.new }

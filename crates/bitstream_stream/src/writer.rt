@@ -72,6 +72,7 @@ impl<W: Target, E: Endianness> BitWriter<W, E> {
     }
 
     /// Writes the n lowest bits of a value.
+    #[inline(always)]
     fn push<U: UnsignedInteger>(&mut self, value: U, n: u32) -> Result<(), Error>
         requires sound { self.old.failed ≡ false }
         requires room { n ≤ U.BITS_SIZE }
@@ -110,6 +111,7 @@ impl<W: Target, E: Endianness> BitWrite for BitWriter<W, E> {
 
     ghost sink = { writer_sink W.contents W.refuses W.reference_names E.order };
 
+    #[inline(always)]
     fn write_unsigned_counted<C: Count, U: UnsignedInteger>(
         &mut self,
         count: C,
@@ -128,6 +130,7 @@ impl<W: Target, E: Endianness> BitWrite for BitWriter<W, E> {
         self.push(value, bits)
     }
 
+    #[inline(always)]
     fn write_signed_counted<C: SignedCount, S: SignedInteger>(
         &mut self,
         count: C,
@@ -141,6 +144,7 @@ impl<W: Target, E: Endianness> BitWrite for BitWriter<W, E> {
         self.write_signed_var(count.bits(), value)
     }
 
+    #[inline(always)]
     fn write_unsigned_var<U: UnsignedInteger>(&mut self, bits: u32, value: U) -> Result<(), Error>
         ensures writes { Writes ⟦<Self as BitWrite>⟧.sink
             (unsigned E.order U.BITS_SIZE bits (U.value value))
@@ -150,6 +154,7 @@ impl<W: Target, E: Endianness> BitWrite for BitWriter<W, E> {
         self.write_unsigned_counted(BitCount::unknown(bits), value)
     }
 
+    #[inline(always)]
     fn write_unsigned<B: Width, U: UnsignedInteger>(&mut self, value: U) -> Result<(), Error>
         ensures writes { Writes ⟦<Self as BitWrite>⟧.sink
             (unsigned E.order U.BITS_SIZE B.BITS (U.value value))
@@ -159,6 +164,7 @@ impl<W: Target, E: Endianness> BitWrite for BitWriter<W, E> {
         self.write_unsigned_var(B::BITS, value)
     }
 
+    #[inline(always)]
     fn write_signed_var<S: SignedInteger>(&mut self, bits: u32, value: S) -> Result<(), Error>
         ensures writes { Writes ⟦<Self as BitWrite>⟧.sink
             (signed E.order S.BITS_SIZE bits (S.integer value))
@@ -172,6 +178,7 @@ impl<W: Target, E: Endianness> BitWrite for BitWriter<W, E> {
         self.push(complement(value, bits), bits)
     }
 
+    #[inline(always)]
     fn write_signed<B: Width, S: SignedInteger>(&mut self, value: S) -> Result<(), Error>
         ensures writes { Writes ⟦<Self as BitWrite>⟧.sink
             (signed E.order S.BITS_SIZE B.BITS (S.integer value))
@@ -199,6 +206,7 @@ impl<W: Target, E: Endianness> BitWrite for BitWriter<W, E> {
         self.write_unsigned_var(count_bits(C::MAX), count.bits())
     }
 
+    #[inline(always)]
     fn write_bit(&mut self, bit: bool) -> Result<(), Error>
         ensures writes { Writes ⟦<Self as BitWrite>⟧.sink (one_bit bit)
             self.old result self.new }
