@@ -1,0 +1,137 @@
+//! Functions for C that read and write as a benchmark asks, over bytes in memory. What each does with
+//! its items it answers as one number, and where a call is refused it answers 2^64 - 1.
+#![tactic(auto)]
+
+mod missing;
+mod mix;
+mod reading;
+mod writing;
+
+use crate::reading::{read_bits, read_signed, read_unsigned, read_wide};
+use crate::writing::{write_bits, write_signed, write_unsigned, write_wide};
+use bitstream_io::{BE, Endianness, LE, Slice, Source};
+
+/// Reads unsigned numbers of up to 128 bits.
+fn read_any<R: Source + Drop, E: Endianness>(width: u32, source: R, count: u64) -> u64 {
+    if width > 64 {
+        read_wide::<R, E>(width, source, count)
+    } else {
+        read_unsigned::<R, E>(width, source, count)
+    }
+}
+
+/// Writes unsigned numbers of up to 128 bits.
+fn write_any<E: Endianness>(width: u32, count: u64, seed: u64, out: &mut [u8]) -> u64 {
+    if width > 64 {
+        write_wide::<E>(width, count, seed, out)
+    } else {
+        write_unsigned::<E>(width, count, seed, out)
+    }
+}
+
+/// Reads bits from a slice's bytes.
+#[unsafe(no_mangle)]
+pub extern "C" fn bench_read_bits(order: u32, data: &[u8], count: u64) -> u64 {
+    if order == 0 {
+        read_bits::<_, BE>(data, count)
+    } else {
+        read_bits::<_, LE>(data, count)
+    }
+}
+
+/// Reads unsigned numbers from a slice's bytes.
+#[unsafe(no_mangle)]
+pub extern "C" fn bench_read_unsigned(order: u32, width: u32, data: &[u8], count: u64) -> u64 {
+    if order == 0 {
+        read_any::<_, BE>(width, data, count)
+    } else {
+        read_any::<_, LE>(width, data, count)
+    }
+}
+
+/// Reads signed numbers from a slice's bytes.
+#[unsafe(no_mangle)]
+pub extern "C" fn bench_read_signed(order: u32, width: u32, data: &[u8], count: u64) -> u64 {
+    if order == 0 {
+        read_signed::<_, BE>(width, data, count)
+    } else {
+        read_signed::<_, LE>(width, data, count)
+    }
+}
+
+/// Reads bits from a `Slice`.
+#[unsafe(no_mangle)]
+pub extern "C" fn bench_read_bits_slice(order: u32, data: &[u8], count: u64) -> u64 {
+    if order == 0 {
+        read_bits::<_, BE>(Slice::new(data), count)
+    } else {
+        read_bits::<_, LE>(Slice::new(data), count)
+    }
+}
+
+/// Reads unsigned numbers from a `Slice`.
+#[unsafe(no_mangle)]
+pub extern "C" fn bench_read_unsigned_slice(
+    order: u32,
+    width: u32,
+    data: &[u8],
+    count: u64,
+) -> u64 {
+    if order == 0 {
+        read_any::<_, BE>(width, Slice::new(data), count)
+    } else {
+        read_any::<_, LE>(width, Slice::new(data), count)
+    }
+}
+
+/// Reads signed numbers from a `Slice`.
+#[unsafe(no_mangle)]
+pub extern "C" fn bench_read_signed_slice(order: u32, width: u32, data: &[u8], count: u64) -> u64 {
+    if order == 0 {
+        read_signed::<_, BE>(width, Slice::new(data), count)
+    } else {
+        read_signed::<_, LE>(width, Slice::new(data), count)
+    }
+}
+
+/// Writes bits.
+#[unsafe(no_mangle)]
+pub extern "C" fn bench_write_bits(order: u32, count: u64, seed: u64, out: &mut [u8]) -> u64 {
+    if order == 0 {
+        write_bits::<BE>(count, seed, out)
+    } else {
+        write_bits::<LE>(count, seed, out)
+    }
+}
+
+/// Writes unsigned numbers.
+#[unsafe(no_mangle)]
+pub extern "C" fn bench_write_unsigned(
+    order: u32,
+    width: u32,
+    count: u64,
+    seed: u64,
+    out: &mut [u8],
+) -> u64 {
+    if order == 0 {
+        write_any::<BE>(width, count, seed, out)
+    } else {
+        write_any::<LE>(width, count, seed, out)
+    }
+}
+
+/// Writes signed numbers.
+#[unsafe(no_mangle)]
+pub extern "C" fn bench_write_signed(
+    order: u32,
+    width: u32,
+    count: u64,
+    seed: u64,
+    out: &mut [u8],
+) -> u64 {
+    if order == 0 {
+        write_signed::<BE>(width, count, seed, out)
+    } else {
+        write_signed::<LE>(width, count, seed, out)
+    }
+}

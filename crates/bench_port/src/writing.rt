@@ -1,0 +1,96 @@
+//! Writing, in either order.
+
+use crate::mix::{bytes_of, stepped};
+use bitstream_io::{BitWrite, BitWriter, Endianness};
+
+/// Writes so many bits. Returns the number of bytes written.
+pub(crate) fn write_bits<E: Endianness>(count: u64, seed: u64, out: &mut [u8]) -> u64 {
+    let mut writer = BitWriter::<&mut [u8], E>::new(out);
+    let mut state = seed;
+    for _item in 0..count {
+        state = stepped(state);
+        if writer.write_bit(state >> 63 == 1).is_err() {
+            return u64::MAX;
+        }
+    }
+    if writer.byte_align().is_err() {
+        return u64::MAX;
+    }
+    bytes_of(count)
+}
+
+/// Writes so many unsigned numbers of up to 64 bits. Returns the number of bytes written.
+pub(crate) fn write_unsigned<E: Endianness>(
+    width: u32,
+    count: u64,
+    seed: u64,
+    out: &mut [u8],
+) -> u64 {
+    if width == 0 || width > 64 {
+        return u64::MAX;
+    }
+    let mut writer = BitWriter::<&mut [u8], E>::new(out);
+    let mut state = seed;
+    for _item in 0..count {
+        state = stepped(state);
+        if writer
+            .write_unsigned_var::<u64>(width, state >> (64 - width))
+            .is_err()
+        {
+            return u64::MAX;
+        }
+    }
+    if writer.byte_align().is_err() {
+        return u64::MAX;
+    }
+    bytes_of(count.saturating_mul(u64::from(width)))
+}
+
+/// Writes so many unsigned numbers of more than 64 bits. Returns the number of bytes written.
+pub(crate) fn write_wide<E: Endianness>(width: u32, count: u64, seed: u64, out: &mut [u8]) -> u64 {
+    if width < 64 || width > 128 {
+        return u64::MAX;
+    }
+    let mut writer = BitWriter::<&mut [u8], E>::new(out);
+    let mut state = seed;
+    for _item in 0..count {
+        state = stepped(state);
+        if writer
+            .write_unsigned_var::<u128>(width, u128::from(state) << (width - 64))
+            .is_err()
+        {
+            return u64::MAX;
+        }
+    }
+    if writer.byte_align().is_err() {
+        return u64::MAX;
+    }
+    bytes_of(count.saturating_mul(u64::from(width)))
+}
+
+/// Writes so many signed numbers of up to 64 bits. Returns the number of bytes written.
+pub(crate) fn write_signed<E: Endianness>(
+    width: u32,
+    count: u64,
+    seed: u64,
+    out: &mut [u8],
+) -> u64 {
+    if width == 0 || width > 64 {
+        return u64::MAX;
+    }
+    let mut writer = BitWriter::<&mut [u8], E>::new(out);
+    let mut state = seed;
+    for _item in 0..count {
+        state = stepped(state);
+        if writer
+            .write_signed_var::<i64>(width, state.cast_signed() >> (64 - width))
+            .is_err()
+        {
+            return u64::MAX;
+        }
+    }
+    if writer.byte_align().is_err() {
+        return u64::MAX;
+    }
+    bytes_of(count.saturating_mul(u64::from(width)))
+}
