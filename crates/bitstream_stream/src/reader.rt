@@ -60,7 +60,7 @@ impl<R: Source, E: Endianness> BitReader<R, E> {
 
     /// Returns a reader of a stream's bytes. Nothing is asked of the stream yet.
     pub fn new(reader: R) -> BitReader<R, E>
-        ensures state { ⟦<BitReader<R, E> as BitRead>⟧.source.state result
+        ensures state { ⟦<Self as BitRead>⟧.source.state result
             ≡ new_reader_state (R.remaining reader) (R.reference_names reader) }
         ensures requests { requests_made result ≡ 0 }
     {
@@ -78,7 +78,7 @@ impl<R: Source, E: Endianness> BitReader<R, E> {
     pub fn endian(reader: R, _endian: E) -> BitReader<R, E>
     where
         E: Drop,
-        ensures state { ⟦<BitReader<R, E> as BitRead>⟧.source.state result
+        ensures state { ⟦<Self as BitRead>⟧.source.state result
             ≡ new_reader_state (R.remaining reader) (R.reference_names reader) }
         ensures requests { requests_made result ≡ 0 }
     {
@@ -91,7 +91,7 @@ impl<R: Source, E: Endianness> BitReader<R, E> {
         requires fine { self.old.failed ≡ false }
         requires more { self.old.queued < bits }
         requires room { bits ≤ U.BITS_SIZE }
-        ensures reads { Reads ⟦<BitReader<R, E> as BitRead>⟧.source
+        ensures reads { Reads ⟦<Self as BitRead>⟧.source
             (unsigned_entry E.order U.BITS_SIZE bits) self.old (seen U.value result) self.new }
         ensures asks { AsksForWord bits self.old self.new }
     {
@@ -153,7 +153,7 @@ impl<R: Source, E: Endianness> BitRead for BitReader<R, E> {
 
     #[inline(always)]
     fn read_bit(&mut self) -> Result<bool, Error>
-        ensures reads { Reads ⟦<BitReader<R, E> as BitRead>⟧.source bit_entry self.old result self.new }
+        ensures reads { Reads ⟦<Self as BitRead>⟧.source bit_entry self.old result self.new }
         ensures asks { AsksForWord 1 self.old self.new }
     {
         let bit: u8 = self.read_unsigned_var(1)?;
@@ -172,7 +172,7 @@ impl<R: Source, E: Endianness> BitRead for BitReader<R, E> {
 
     #[inline(always)]
     fn read_unsigned<B: Width, U: UnsignedInteger>(&mut self) -> Result<U, Error>
-        ensures reads { Reads ⟦<BitReader<R, E> as BitRead>⟧.source
+        ensures reads { Reads ⟦<Self as BitRead>⟧.source
             (unsigned_entry E.order U.BITS_SIZE B.BITS) self.old (seen U.value result) self.new }
         ensures asks { AsksForWord B.BITS self.old self.new }
     {
@@ -181,7 +181,7 @@ impl<R: Source, E: Endianness> BitRead for BitReader<R, E> {
 
     #[inline(always)]
     fn read_signed_var<S: SignedInteger>(&mut self, bits: u32) -> Result<S, Error>
-        ensures reads { Reads ⟦<BitReader<R, E> as BitRead>⟧.source
+        ensures reads { Reads ⟦<Self as BitRead>⟧.source
             (signed_entry E.order S.BITS_SIZE bits) self.old (seen S.integer result) self.new }
         ensures asks { AsksForWord bits self.old self.new }
     {
@@ -197,7 +197,7 @@ impl<R: Source, E: Endianness> BitRead for BitReader<R, E> {
 
     #[inline(always)]
     fn read_signed<B: Width, S: SignedInteger>(&mut self) -> Result<S, Error>
-        ensures reads { Reads ⟦<BitReader<R, E> as BitRead>⟧.source
+        ensures reads { Reads ⟦<Self as BitRead>⟧.source
             (signed_entry E.order S.BITS_SIZE B.BITS) self.old (seen S.integer result) self.new }
         ensures asks { AsksForWord B.BITS self.old self.new }
     {
@@ -207,7 +207,7 @@ impl<R: Source, E: Endianness> BitRead for BitReader<R, E> {
     fn read_const<B: Width, V: Width, F: From<Error> + Drop>(&mut self, err: F) -> Result<(), F>
         requires word { B.BITS ≤ 32 }
         requires value { (V.BITS < 2 ^ B.BITS) ⊎ (B.BITS ≡ 0) }
-        ensures reads { ReadsConst ⟦<BitReader<R, E> as BitRead>⟧.source F.from_gives
+        ensures reads { ReadsConst ⟦<Self as BitRead>⟧.source F.from_gives
             (const_entry E.order B.BITS V.BITS) err self.old result self.new }
         ensures asks { AsksForWord B.BITS self.old self.new }
     {
@@ -218,7 +218,7 @@ impl<R: Source, E: Endianness> BitRead for BitReader<R, E> {
     fn read_count<C: Count>(&mut self) -> Result<C, Error>
         requires some { 0 < C.MAX }
         requires full { IsTrue (is_full 32 C.MAX) }
-        ensures reads { Reads ⟦<BitReader<R, E> as BitRead>⟧.source
+        ensures reads { Reads ⟦<Self as BitRead>⟧.source
             (count_entry E.order C.MAX) self.old (seen C.number result) self.new }
         ensures asks { AsksForWord (count_width C.MAX) self.old self.new }
     {

@@ -191,7 +191,7 @@ impl<W: Target, E: Endianness> BitWrite for BitWriter<W, E> {
     fn write_const<B: Width, V: Width>(&mut self) -> Result<(), Error>
         requires word { B.BITS ≤ 32 }
         requires value { (V.BITS < 2 ^ B.BITS) ⊎ (B.BITS ≡ 0) }
-        ensures writes { Writes ⟦<BitWriter<W, E> as BitWrite>⟧.sink
+        ensures writes { Writes ⟦<Self as BitWrite>⟧.sink
             (plain (word E.order B.BITS V.BITS)) self.old result self.new }
         ensures asks { AsksForWord B.BITS self.old self.new }
     {
@@ -199,7 +199,7 @@ impl<W: Target, E: Endianness> BitWrite for BitWriter<W, E> {
     }
 
     fn write_count<C: Count>(&mut self, count: C) -> Result<(), Error>
-        ensures writes { Writes ⟦<BitWriter<W, E> as BitWrite>⟧.sink
+        ensures writes { Writes ⟦<Self as BitWrite>⟧.sink
             (count_entry E.order C.MAX (C.number count)) self.old result self.new }
         ensures asks { AsksForWord (count_width C.MAX) self.old self.new }
     {
