@@ -2,21 +2,21 @@
 use Rattle.std.specs.Prelude.{false, Bool, IsErr, IsErrAnd, ◌*◌, ◌%◌}
 use Rattle.std.specs.List.{AllByRecursion}
 use Rattle.std.specs.Borrow.{GName}
-use Rattle.std.specs.declared.io.ErrorKind.{ErrorKind}
-use Rattle.std.proofs.Common.{◌≡◌, ℕ, ◌+◌, ◌<◌, ◌≤◌, List, [], ◌∷◌, ◌++◌, length, drop, get_or, Option, None, Result, Ok, Err, refl, sym, ap, subst, ◌∙◌, arith, inl, inr, ◌⊎◌, add-one, drop-cons, append-nil, length-append}
+use Rattle.std.specs.Io.KnownBytes.{Appends}
+use Rattle.std.proofs.Common.{◌≡◌, ℕ, ◌+◌, ◌<◌, ◌≤◌, List, [], ◌∷◌, ◌++◌, length, drop, get_or, Option, None, Result, Ok, Err, refl, sym, ap, subst, ◌∙◌, arith, inl, inr, ◌⊎◌, add-one, drop-cons, append-nil, append_assoc, length-append}
 use Rattle.std.proofs.lemmas.List.{drop_all, length-replicate}
 use Rattle.std.proofs.lemmas.List.Elements.{recursion_from_All}
 use Rattle.bitstream_io.specs.Word.{Order, word, bits}
 use Rattle.bitstream_io.proofs.WordLemmas.{length-word, length-bits}
 use Rattle.bitstream_io.specs.Error.{Error}
 use Rattle.bitstream_io.specs.Entry.{WriteEntry}
-use Rattle.bitstream_io.specs.Refusal.{Refusal, MayRefuseSend}
+use Rattle.bitstream_io.specs.Refusal.{Refusal}
 use Rattle.bitstream_io.proofs.TakeLemmas.{word-none}
 use Rattle.bitstream_io.specs.Alignment.{to_boundary}
 use Rattle.bitstream_io.specs.Run.{accepted, refusal_if_any, write_run, write_refusals}
 use Rattle.bitstream_io.specs.Sink.{Sink, IsBeyond, Appended, WriteFault, Writes, WritesAll, was_failed, was_refused, passed_limit, had_fault, did_write}
 use Rattle.bitstream_io.specs.WriteTable.{align}
-use Rattle.bitstream_io.specs.Carries.{WriterState, Carries}
+use Rattle.bitstream_io.specs.Carries.{WriterState, Carries, Fills}
 use Rattle.bitstream_io.specs.Writer.{fresh_writer}
 use Rattle.bitstream_io.proofs.SinkParts.{WriteFault-behind, WriteFault-longer}
 use Rattle.bitstream_io.proofs.WriteParts.{all_none, all_err, all_more}
@@ -60,12 +60,12 @@ Appended-trans K s t z x y h k = record {
 -- what follows bits that were added
 WritesBits-later : {S : Type 0} (K : Sink S) (x y : List Bool) (old mid : S) (r : Result (Unit {0}) Error) (new : S) → Appended K old x mid → WritesBits K y mid r new → WritesBits K (x ++ y) old r new
 WritesBits-later K x y old mid (Ok done) new h k = Appended-trans K old mid new x y h k
-WritesBits-later K x y old mid (Err e) new h k = WriteFault-behind K old mid new e x y (x ++ y) h k (omega (arith, length-append x y))
+WritesBits-later K x y old mid (Err e) new h k = WriteFault-behind K old mid new e x y h k
 
 -- a refusal of the first bits is one of all
 WritesBits-first : {S : Type 0} (K : Sink S) (x y : List Bool) (old : S) (r : Result (Unit {0}) Error) (new : S) → IsErr r → WritesBits K x old r new → WritesBits K (x ++ y) old r new
 WritesBits-first K x y old (Ok done) new h k = absurd (cc)
-WritesBits-first K x y old (Err e) new h k = WriteFault-longer K old new e x (x ++ y) k (omega (arith, length-append x y))
+WritesBits-first K x y old (Err e) new h k = WriteFault-longer K old new e x y k
 
 accepted-word : (r : Result (List Bool) Error) → refusal_if_any r ≡ None → r ≡ Ok (accepted r)
 accepted-word (Ok w) h = refl
@@ -199,18 +199,28 @@ Packs-refused contents may o fields (Ok vs) output (Err e) f h (inr is) = absurd
 Packs-refused contents may o fields (Err x) output (Err e) f h (inl memory) = (refl, inr (h ∙ memory))
 Packs-refused contents may o fields (Err x) output (Err e) f h (inr is) = (let same : x ≡ f = cc in (refl, inl (h ∙ sym same)))
 
--- a refused request of a writer, as one of its stream
-pub RefusedBytes-from : {S : Type 0} (K : Sink S) (may : Refusal → Type 0) (fields : List Field) (vs : List FieldValue) (old new : S) (error : Error) (f : Fault) → ((x : Refusal) → K.may x → may x) → K.len old ≡ 0
-    → WriteFault K old (packed K.order fields vs (K.len old)) error new → f ≡ fault 0 (write_reason error) → RefusedBytes may K.order fields vs f
-RefusedBytes-from K may fields vs old new error f is none h why = record {
-  refusal = h.refusal;
-  allowed = is h.refusal h.allowed;
-  reason = why ∙ ap (λ (e : Error). fault 0 (write_reason e)) h.answer;
-  some =
-      (let size : length (packed K.order fields vs (K.len old)) ≡ length (packed K.order fields vs 0) = ap (λ (n : ℕ). length (packed K.order fields vs n)) none in
-      omega (arith, h.full, size, none));
-}
+-- the bytes that bits filled, of a new writer
+pub filled : (o : Order) (held : Option (List ℕ)) (reference_names : List GName) (s : WriterState) → s ≡ fresh_writer held reference_names → (x : List Bool) (known : Option (List ℕ)) → Fills o s x known
+    → (bytes : List ℕ) × Appends held known bytes × (rest : List Bool) × (x ≡ bits o bytes ++ rest)
+filled o held reference_names s fresh x known h =
+    let f : Fills o (fresh_writer held reference_names) x known = subst (λ (u : WriterState). Fills o u x known) fresh h in
+    (f.bytes, f.grows, f.rest, ap (λ (u : List Bool). u ++ x) (sym (word-none o 0)) ∙ f.word)
 
--- a refusal of a target that is seen through another state is one of that target
-pub MayRefuseSend-seen : {T S : Type 0} (f : S → T) (refuses : T → ℕ → ErrorKind → T → Type 0) (x : Refusal) → MayRefuseSend (λ s n kind t. refuses (f s) n kind (f t)) x → MayRefuseSend refuses x
-MayRefuseSend-seen f refuses x h = record { before = f h.before; after = f h.after; left = h.left; refused = h.refused }
+-- a refused request of a writer, as one of its stream
+pub RefusedBytes-from : {S : Type 0} (K : Sink S) (may : Refusal → Type 0) (fields : List Field) (vs : List FieldValue) (held : Option (List ℕ)) (old new : S) (error : Error) (f : Fault) → ((x : Refusal) → K.may x → may x) → K.len old ≡ 0
+    → ((x : List Bool) (known : Option (List ℕ)) → K.fills old x known → (bytes : List ℕ) × Appends held known bytes × (rest : List Bool) × (x ≡ bits K.order bytes ++ rest))
+    → WriteFault K old (packed K.order fields vs (K.len old)) error new → f ≡ fault 0 (write_reason error) → RefusedBytes may K.order fields vs held f (K.contents new)
+RefusedBytes-from K may fields vs held old new error f is none fills h why =
+    let whole : packed K.order fields vs (K.len old) ≡ packed K.order fields vs 0 = ap (packed K.order fields vs) none in
+    let went = fills h.front h.refusal.before h.before in
+    record {
+      refusal = h.refusal;
+      allowed = is h.refusal h.allowed;
+      reason = why ∙ ap (λ (e : Error). fault 0 (write_reason e)) h.answer;
+      some = omega (arith, h.full, ap length whole, none);
+      bytes = went.0;
+      grows = went.1;
+      rest = went.2 ++ h.back;
+      begins = sym whole ∙ h.parts ∙ ap (λ (u : List Bool). u ++ h.back) went.3 ∙ append_assoc (bits K.order went.0) went.2 h.back;
+      after = h.after;
+    }

@@ -76,6 +76,8 @@ UnpacksKnown-from o may allowed fields known reference_names (Err f) t is demand
   allowed = is h.refusal h.allowed;
   reason = h.reason;
   gone = h.gone;
+  loses = h.loses;
+  after = h.after;
   stops = h.stops;
   ended = λ end xs told.
       h.ended end xs told ∙ ap Stops (sym (h.reason ∙ ap (λ (kind : ErrorKind). fault h.field (read_reason (read_refusal_of kind))) end.kind));
@@ -83,7 +85,7 @@ UnpacksKnown-from o may allowed fields known reference_names (Err f) t is demand
 
 -- a refusal of a stream that is seen through another state is one of that stream
 pub MayRefuse-seen : {R S : Type 0} (f : S → R) (known : R → Option (List ℕ)) (refuses : R → ℕ → ErrorKind → R → Type 0) (x : Refusal) → MayRefuse (λ s. known (f s)) (λ s n kind t. refuses (f s) n kind (f t)) x → MayRefuse known refuses x
-MayRefuse-seen f known refuses x h = record { before = f h.before; after = f h.after; left = h.left; refused = h.refused }
+MayRefuse-seen f known refuses x h = record { old = f h.old; new = f h.new; before = h.before; after = h.after; refused = h.refused }
 
 -- what the calls of a new reader come to
 pub Unpacks-from : {R : Type 0} (K : BitSource R) (allowed : Refusal → Type 0) (fields : List Field) (known : Option (List ℕ)) (reference_names : List GName) (old new : R) (result : Result (List ℕ) Fault) → ((x : Refusal) → K.may x → allowed x)

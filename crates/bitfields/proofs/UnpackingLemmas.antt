@@ -151,6 +151,8 @@ pub record StoppedFields (o : Order) (may : Refusal → Type 0) (k : ℕ) (field
   pub allowed : may refusal
   pub reason : f ≡ fault field (read_reason (read_refusal_of refusal.kind))
   pub gone : List ℕ
+  pub loses : Consumes old.bytes refusal.before gone
+  pub after : new.bytes ≡ refusal.after
   pub fetched : new.fetched ≡ old.fetched + length gone
   pub reference_names : new.reference_names ≡ old.reference_names
   pub stops : unpacked o k fields old.taken (old.held ++ bits o gone) ≡ Stops (fault field BitsEnded)
@@ -223,6 +225,8 @@ StoppedFields-later o may k f fs v why s t z h x =
       allowed = x.allowed;
       reason = x.reason;
       gone = h.gone ++ x.gone;
+      loses = Consumes-trans s.bytes t.bytes x.refusal.before h.gone x.gone h.loses x.loses;
+      after = x.after;
       fetched = omega (arith, h.fetched, x.fetched, length-append h.gone x.gone);
       reference_names = x.reference_names ∙ h.reference_names;
       stops = ap (unpacked o k (f ∷ fs) s.taken) whole ∙ first_then o k f fs v s t h (t.held ++ bits o x.gone) ∙ ap (values_and (value_list v)) x.stops;
@@ -267,6 +271,8 @@ StoppedFields-here o may k f fs x s t h =
       allowed = h.allowed;
       reason = ap (λ (e : Error). fault k (read_reason e)) same;
       gone = h.gone;
+      loses = h.loses;
+      after = h.after;
       fetched = h.fetched;
       reference_names = h.reference_names;
       stops = unpacked-short o k f fs s.taken (s.held ++ bits o h.gone) h.few;

@@ -53,17 +53,23 @@ pub record PackedBytes (o : Order) (fields : List Field) (vs : List FieldValue) 
   pub grows : Appends old new bytes
   pub says : bits o bytes ≡ packed o fields vs 0
 
--- the stream refused a request to hand on bytes, as it may refuse, and there were bytes to hand on
-pub record RefusedBytes (may : Refusal → Type 0) (o : Order) (fields : List Field) (vs : List FieldValue) (f : Fault) : Type 0 where
+-- The stream refused a request to hand on bytes, as it may refuse, and there were bytes to hand on. Those that it took before are the
+-- first of them, and it is as the refusal left it.
+pub record RefusedBytes (may : Refusal → Type 0) (o : Order) (fields : List Field) (vs : List FieldValue) (old : Option (List ℕ)) (f : Fault) (new : Option (List ℕ)) : Type 0 where
   pub refusal : Refusal
   pub allowed : may refusal
   pub reason : f ≡ fault 0 (write_reason (refusal_of refusal.kind))
   pub some : 8 ≤ length (packed o fields vs 0)
+  pub bytes : List ℕ
+  pub grows : Appends old refusal.before bytes
+  pub rest : List Bool
+  pub begins : packed o fields vs 0 ≡ bits o bytes ++ rest
+  pub after : new ≡ refusal.after
 
 -- The values were packed, or the first fault of the input was answered and the stream left as it was. Else memory was refused, and the
 -- stream left as it was, or the stream refused a request.
 abbrev pub Packs : {W : Type 0} → (W → Option (List ℕ)) → (Refusal → Type 0) → Order → List Field → Result (List FieldValue) Fault → W → Result (Unit {0}) Fault → W → Type 0
 Packs contents may o fields (Ok vs) old (Ok done) new = PackedBytes o fields vs (contents old) (contents new)
-Packs contents may o fields (Ok vs) old (Err f) new = ((f ≡ fault 0 OutOfMemory) × (new ≡ old)) ⊎ RefusedBytes may o fields vs f
+Packs contents may o fields (Ok vs) old (Err f) new = ((f ≡ fault 0 OutOfMemory) × (new ≡ old)) ⊎ RefusedBytes may o fields vs (contents old) f (contents new)
 Packs contents may o fields (Err f) old (Ok done) new = ⊥
 Packs contents may o fields (Err f) old (Err g) new = (new ≡ old) × ((g ≡ f) ⊎ (g ≡ fault 0 OutOfMemory))

@@ -129,14 +129,16 @@ pub record StarvedBytes (o : Order) (fields : List Field) (old : Option (List �
   pub value : FieldValue
   pub says : unpacked o 1 (front ++ here ∷ []) 0 (bits o gone) ≡ Unpacks (values ++ value ∷ []) len
 
--- The stream refused a request for a field, as it may refuse. The bytes fetched until then end within that field; and where the
--- refusal was a true end, so do all bytes of the stream.
-pub record StoppedBytes (may : Refusal → Type 0) (o : Order) (fields : List Field) (old : Option (List ℕ)) (f : Fault) : Type 0 where
+-- The stream refused a request for a field, as it may refuse. The bytes taken until then end within that field, and the stream is as
+-- the refusal left it; where that was a true end, all bytes of the stream end so.
+pub record StoppedBytes (may : Refusal → Type 0) (o : Order) (fields : List Field) (old : Option (List ℕ)) (f : Fault) (new : Option (List ℕ)) : Type 0 where
   pub field : ℕ
   pub refusal : Refusal
   pub allowed : may refusal
   pub reason : f ≡ fault field (read_reason (read_refusal_of refusal.kind))
   pub gone : List ℕ
+  pub loses : Consumes old refusal.before gone
+  pub after : new ≡ refusal.after
   pub stops : unpacked o 1 fields 0 (bits o gone) ≡ Stops (fault field BitsEnded)
   pub ended : IsTrueEnd refusal → (xs : List ℕ) → old ≡ Some xs → unpacked o 1 fields 0 (bits o xs) ≡ Stops f
 
@@ -144,7 +146,7 @@ pub record StoppedBytes (may : Refusal → Type 0) (o : Order) (fields : List Fi
 abbrev pub UnpacksBytes : {R : Type 0} → (R → Option (List ℕ)) → (Refusal → Type 0) → Order → List Field → R → Result (List ℕ) Fault → R → Type 0
 UnpacksBytes known may o fields old (Ok text) new = UnpackedBytes o fields (known old) text (known new)
 UnpacksBytes known may o fields old (Err f) new =
-    ToldBytes o fields (known old) f (known new) ⊎ StarvedBytes o fields (known old) f (known new) ⊎ StoppedBytes may o fields (known old) f
+    ToldBytes o fields (known old) f (known new) ⊎ StarvedBytes o fields (known old) f (known new) ⊎ StoppedBytes may o fields (known old) f (known new)
 
 -- all bytes of a stream say the values whose lines are printed
 pub record SaidBytes (o : Order) (fields : List Field) (xs text : List ℕ) : Type 0 where

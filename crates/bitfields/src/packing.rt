@@ -1,7 +1,7 @@
 //! Packing: the words of an input's values, and a last alignment.
 
 ghost use Rattle.std.specs.Prelude.{◌≡◌, false, None, [], ◌∷◌, ◌++◌};
-ghost use Rattle.bitstream_io.specs.Refusal.{MayRefuseSend};
+ghost use Rattle.bitstream_io.specs.Refusal.{MayRefuse};
 ghost use Rattle.bitstream_io.specs.Sink.{Writes, WritesAll};
 ghost use Rattle.bitstream_io.specs.WriteTable.{align};
 ghost use Rattle.bitfields.specs.Packing.{field_write, field_writes, packed, WritesBits, write_reason as write_reason_of, Packs};
@@ -18,14 +18,14 @@ use std::alloc::Global;
 /// Packs the values that an input spells for a layout: writes the bytes of the fields' words, the last of them filled with zeros.
 ///
 /// All values are read before the first byte is written: where `values` refuses the input, or memory for the values is refused, the
-/// stream is as it was. After that only the stream refuses, as `StreamFault` or `OutOfMemory` (field 0).
+/// stream is as it was. After that only the stream refuses, as `StreamFault` or `OutOfMemory` (field 0), and is as that left it.
 pub fn pack<E: Endianness, W: Target>(
     alloc: Global,
     layout: &Layout,
     input: &[u8],
     output: &mut W,
 ) -> Result<(), Fault>
-    ensures { Packs W.contents (MayRefuseSend W.refuses) E.order layout.now (values_of 1 layout.now (lines_of input.now))
+    ensures { Packs W.contents (MayRefuse W.contents W.refuses) E.order layout.now (values_of 1 layout.now (lines_of input.now))
         output.old result output.new }
 {
     let values = values(alloc, layout, input)?;

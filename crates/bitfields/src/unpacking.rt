@@ -15,7 +15,7 @@ use bitstream_io::{BitRead, BitReader, Endianness, Error, Lent, Source};
 use std::alloc::{AllocError, Global};
 
 /// Unpacks the fields of a layout from the first byte of a stream on: the line of each value, ended by LF. No byte after the last
-/// field's is asked for.
+/// field's is asked for, and after a refused request the stream is as that left it.
 ///
 /// Refused as `BitsEnded` at the first field whose bits are not all there, as `StreamFault` or `OutOfMemory` at the field for which the
 /// stream refused a request, and as `OutOfMemory` at the field for whose line no memory was left. Where each refusal of the stream is an

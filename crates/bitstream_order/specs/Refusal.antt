@@ -1,35 +1,30 @@
 -- One refused request of a stream.
-use Rattle.std.specs.Prelude.{◌≡◌, ℕ, ◌<◌, List, length, Option, option_map, Some, None}
+use Rattle.std.specs.Prelude.{◌≡◌, ℕ, ◌<◌, List, length, Option, Some}
 use Rattle.std.specs.declared.io.ErrorKind.{ErrorKind}
 use Rattle.std.specs.declared.io.ErrorKind.TheVariants.{UnexpectedEof}
 
--- a refused request: with which kind, for how many bytes, and how many were left, where the stream tells
+-- A refused request: with which kind, for how many bytes, and what the stream told before it and after it of
+-- its bytes: those left to read, or those that it holds.
 pub record Refusal : Type 0 where
   pub kind : ErrorKind
   pub wanted : ℕ
-  pub left : Option ℕ
+  pub before : Option (List ℕ)
+  pub after : Option (List ℕ)
 
 -- an end, with fewer bytes left than were asked for
 pub record IsTrueEnd (refusal : Refusal) : Type 0 where
-  pub left : ℕ
+  pub left : List ℕ
   pub kind : refusal.kind ≡ UnexpectedEof
-  pub told : refusal.left ≡ Some left
-  pub few : left < refusal.wanted
+  pub told : refusal.before ≡ Some left
+  pub few : length left < refusal.wanted
 
--- how many bytes are left, where the stream tells
-abbrev pub bytes_left : Option (List ℕ) → Option ℕ
-bytes_left bytes = option_map (λ xs. length xs) bytes
-
--- a refusal that a source may make, by what it says of its requests
-pub record MayRefuse {S : Type 0} (remaining : S → Option (List ℕ)) (refuses : S → ℕ → ErrorKind → S → Type 0) (refusal : Refusal) : Type 0 where
-  pub before : S
-  pub after : S
-  pub left : refusal.left ≡ bytes_left (remaining before)
-  pub refused : refuses before refusal.wanted refusal.kind after
-
--- a refusal that a target may make, by what it says of its requests: of how many bytes fit, it tells nothing
-abbrev pub MayRefuseSend : {T : Type 0} → (T → ℕ → ErrorKind → T → Type 0) → Refusal → Type 0
-MayRefuseSend {T} refuses = MayRefuse {S = T} (λ _. None) refuses
+-- a refusal that a stream may make, by what it tells of its bytes and says of its requests
+pub record MayRefuse {S : Type 0} (known : S → Option (List ℕ)) (refuses : S → ℕ → ErrorKind → S → Type 0) (refusal : Refusal) : Type 0 where
+  pub old : S
+  pub new : S
+  pub before : refusal.before ≡ known old
+  pub after : refusal.after ≡ known new
+  pub refused : refuses old refusal.wanted refusal.kind new
 
 -- refusals that are all true ends
 abbrev pub TrueEnds : (Refusal → Type 0) → Type 0

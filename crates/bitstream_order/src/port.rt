@@ -1,8 +1,8 @@
 //! A stream, with counts of what was asked of it that clauses alone read.
-ghost use Rattle.std.specs.Prelude.{◌≡◌, [], ◌∷◌, None};
+ghost use Rattle.std.specs.Prelude.{◌≡◌, [], ◌∷◌};
 ghost use Rattle.std.specs.IoError.{error_kind};
 ghost use Rattle.bitstream_order.specs.Fault.{read_refusal_of, refusal_of};
-ghost use Rattle.bitstream_order.specs.Refusal.{Refusal, MayRefuse, MayRefuseSend, bytes_left};
+ghost use Rattle.bitstream_order.specs.Refusal.{Refusal, MayRefuse};
 ghost use Rattle.bitstream_order.specs.Port.{port_state, Fetches, Sends};
 
 use crate::refusals::Refusals;
@@ -49,6 +49,7 @@ fn read_refusal(error: io::Error) -> Error
 fn note_read<S: Source>(
     refusals: &mut Refusals,
     _before: &Snapshot<S>,
+    _after: &S,
     _wanted: usize,
     _error: &io::Error,
 )
@@ -56,7 +57,8 @@ fn note_read<S: Source>(
     requires { by ≡ record {
       kind = error_kind _error.now;
       wanted = _wanted;
-      left = bytes_left (S.remaining _before.now.value);
+      before = S.remaining _before.now.value;
+      after = S.remaining _after.now;
     } }
     ensures { refusals.new.list ≡ by ∷ refusals.old.list }
 {
@@ -67,11 +69,17 @@ fn note_read<S: Source>(
 fn note_write<S: Target>(
     refusals: &mut Refusals,
     _before: &Snapshot<S>,
+    _after: &S,
     _wanted: usize,
     _error: &io::Error,
 )
     ghost by: { Refusal }
-    requires { by ≡ record { kind = error_kind _error.now; wanted = _wanted; left = None } }
+    requires { by ≡ record {
+      kind = error_kind _error.now;
+      wanted = _wanted;
+      before = S.contents _before.now.value;
+      after = S.contents _after.now;
+    } }
     ensures { refusals.new.list ≡ by ∷ refusals.old.list }
 {
     refusals.push(0);
@@ -117,7 +125,13 @@ impl<S: Source> Port<S> {
                 Ok(())
             }
             Err(refused) => {
-                note_read(&mut self.refusals, &before, buf.len(), &refused);
+                note_read(
+                    &mut self.refusals,
+                    &before,
+                    &self.stream,
+                    buf.len(),
+                    &refused,
+                );
                 Err(read_refusal(refused))
             }
         }
@@ -133,7 +147,7 @@ impl<S: Target> Port<S> {
     /// is counted as sent then.
     #[inline(always)]
     pub fn send(&mut self, bytes: &[u8]) -> Result<(), Error>
-        ensures { Sends (MayRefuseSend S.refuses)
+        ensures { Sends (MayRefuse S.contents S.refuses)
             (port_state S.contents S.reference_names self.old) bytes.now result
             (port_state S.contents S.reference_names self.new) }
     {
@@ -145,7 +159,13 @@ impl<S: Target> Port<S> {
                 Ok(())
             }
             Err(refused) => {
-                note_write(&mut self.refusals, &before, bytes.len(), &refused);
+                note_write(
+                    &mut self.refusals,
+                    &before,
+                    &self.stream,
+                    bytes.len(),
+                    &refused,
+                );
                 Err(refusal(refused))
             }
         }

@@ -1,6 +1,6 @@
 //! Words to the bytes of a stream.
 ghost use Rattle.std.specs.Prelude.{◌≡◌, ℕ, ◌+◌, ◌^◌, ◌<◌, ◌≤◌, ◌++◌, ◌∷◌, List, length, IfOk};
-ghost use Rattle.bitstream_order.specs.Refusal.{MayRefuseSend};
+ghost use Rattle.bitstream_order.specs.Refusal.{MayRefuse};
 ghost use Rattle.bitstream_number.specs.Word.{word};
 ghost use Rattle.bitstream_order.specs.Port.{port_state, requests_count};
 ghost use Rattle.bitstream_order.specs.SendBits.{SendsFront};
@@ -41,7 +41,7 @@ pub fn send_front<T: Target, E: Endianness, U: UnsignedInteger>(
     requires small { queue < 2 ^ queued }
     requires full { 8 ≤ queued + n }
     requires room { n ≤ U.BITS_SIZE }
-    ensures sends { SendsFront (MayRefuseSend T.refuses) E.order
+    ensures sends { SendsFront (MayRefuse T.contents T.refuses) E.order
         (word E.order queued queue) (word E.order n (U.value value))
         (port_state T.contents T.reference_names port.old) result
         (port_state T.contents T.reference_names port.new) }

@@ -202,6 +202,8 @@ ReadFault-behind o may e d w r x s t z demands holds later h behind k answer = r
     | inr all ↦ ap (λ l. e.reads s.taken l) all ∙ behind.short t.held k.short
   ];
   gone = h.gone ++ k.gone;
+  loses = Consumes-trans s.bytes t.bytes k.refusal.before h.gone k.gone h.loses k.loses;
+  after = k.after;
   fetched = let a = h.fetched in let b = k.fetched in let l = length-append h.gone k.gone in omega arith;
   few = ap (λ l. e.reads s.taken l) (ap (λ l. s.held ++ l) (bits-append o h.gone k.gone) ∙ sym (append_assoc s.held (bits o h.gone) (bits o k.gone)) ∙ ap (λ l. l ++ bits o k.gone) h.parts ∙ append_assoc w t.held (bits o k.gone))
       ∙ behind.short (t.held ++ bits o k.gone) k.few;
@@ -466,6 +468,8 @@ ReadFault-named k l same h = record {
   answer = h.answer;
   short = h.short;
   gone = h.gone;
+  loses = h.loses;
+  after = h.after;
   fetched = h.fetched;
   few = h.few;
   ended = h.ended;

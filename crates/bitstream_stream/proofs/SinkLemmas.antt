@@ -47,6 +47,11 @@ module _ {R S : Type 0} (f : R → S) (names : R → List GName) (K : Sink S) wh
     allowed = k.allowed;
     answer = k.answer;
     full = k.full;
+    front = k.front;
+    back = k.back;
+    parts = k.parts;
+    before = k.before;
+    after = k.after;
     whole = k.whole;
     least = k.least;
     most = k.most;

@@ -1,5 +1,5 @@
 -- A word written in parts.
-use Rattle.std.proofs.Common.{◌≡◌, ℕ, ◌+◌, ◌%◌, ◌≤◌, Bool, false, List, [], ◌∷◌, ◌++◌, length, replicate, Result, Ok, Err, refl, sym, ◌∙◌, ap, subst, append-nil, length-append, arith}
+use Rattle.std.proofs.Common.{◌≡◌, ℕ, ◌+◌, ◌%◌, ◌≤◌, Bool, false, List, [], ◌∷◌, ◌++◌, length, replicate, Result, Ok, Err, refl, sym, ◌∙◌, ap, subst, append-nil, append_assoc, length-append, arith}
 use Rattle.std.proofs.lemmas.List.{length-replicate}
 use Rattle.bitstream_number.specs.Word.{Order, word}
 use Rattle.bitstream_count.specs.Entry.{WriteEntry}
@@ -23,21 +23,27 @@ pub data Partly {S : Type 0} (K : Sink S) (old : S) (x : List Bool) (mid : S) : 
   begun : Begun K old x mid → Partly K old x mid
 
 -- what a fault behind some bits says of them all
-fault_full : (a b x y n : ℕ) → b ≡ a + x → 8 ≤ b % 8 + y → x + y ≤ n → 8 ≤ a % 8 + n
-fault_full a b x y n at full le = omega arith
+fault_full : (a b x y n : ℕ) → b ≡ a + x → 8 ≤ b % 8 + y → n ≡ x + y → 8 ≤ a % 8 + n
+fault_full a b x y n at full is = omega arith
 
 module _ {S : Type 0} (K : Sink S) where
-  -- a fault of a part of a word, behind some of it, is a fault of the word
-  pub WriteFault-behind : (old mid new : S) (d : Error) (x y w : List Bool) → Appended K old x mid → WriteFault K mid y d new → length x + length y ≤ length w → WriteFault K old w d new
-  WriteFault-behind old mid new d x y w h k le =
+  -- a fault of a word's last part is a fault of the word
+  pub WriteFault-behind : (old mid new : S) (d : Error) (x y : List Bool) → Appended K old x mid → WriteFault K mid y d new → WriteFault K old (x ++ y) d new
+  WriteFault-behind old mid new d x y h k =
       let at = K.appends_len old mid x h.grown in
+      let size = length-append x k.front in
       let least = k.least in
       let most = k.most in
       record {
         refusal = k.refusal;
         allowed = k.allowed;
         answer = k.answer;
-        full = fault_full (K.len old) (K.len mid) (length x) (length y) (length w) at k.full le;
+        full = fault_full (K.len old) (K.len mid) (length x) (length y) (length (x ++ y)) at k.full (length-append x y);
+        front = x ++ k.front;
+        back = k.back;
+        parts = ap (λ (l : List Bool). x ++ l) k.parts ∙ sym (append_assoc x k.front k.back);
+        before = K.fills_behind old mid x k.front k.refusal.before h.grown k.before;
+        after = k.after;
         whole = k.whole;
         least = omega arith;
         most = omega arith;
@@ -47,18 +53,23 @@ module _ {S : Type 0} (K : Sink S) where
       }
 
   -- a fault of a word's front is a fault of the word
-  pub WriteFault-longer : (old new : S) (d : Error) (y w : List Bool) → WriteFault K old y d new → length y ≤ length w → WriteFault K old w d new
-  WriteFault-longer old new d y w k le =
+  pub WriteFault-longer : (old new : S) (d : Error) (y z : List Bool) → WriteFault K old y d new → WriteFault K old (y ++ z) d new
+  WriteFault-longer old new d y z k =
       let full = k.full in
-      let most = k.most in
+      let size = length-append y z in
       record {
         refusal = k.refusal;
         allowed = k.allowed;
         answer = k.answer;
         full = omega arith;
+        front = k.front;
+        back = k.back ++ z;
+        parts = ap (λ (l : List Bool). l ++ z) k.parts ∙ append_assoc k.front k.back z;
+        before = k.before;
+        after = k.after;
         whole = k.whole;
         least = k.least;
-        most = omega arith;
+        most = k.most;
         refusals = k.refusals;
         broken = k.broken;
         reference_names = k.reference_names;
@@ -124,7 +135,7 @@ module _ {S : Type 0} (K : Sink S) where
       absurd (not_beyond K.limit _ _ room (omega (arith, ap length same, length-append y z)) b)
   stop_first e f old r r' new d y z (had_fault y' d' p en wi re k) q q' h h' room =
       let same : y' ≡ y = cc in
-      had_fault (y ++ z) d' p h' room (cc) (WriteFault-longer old new d' y' (y ++ z) k (omega (arith, ap length same, length-append y z)))
+      had_fault (y ++ z) d' p h' room (cc) (WriteFault-longer old new d' y z (subst (λ (l : List Bool). WriteFault K old l d' new) same k))
   stop_first e f old r r' new d y z (did_write y' w p en wi re a) q q' h h' room = cc
 
   -- a later one does
@@ -138,7 +149,7 @@ module _ {S : Type 0} (K : Sink S) where
   stop_later e f old mid r r' new d x y z b (had_fault y' d' p en wi re k) q q' h h' room =
       let same : y' ≡ y = cc in
       had_fault (x ++ (y ++ z)) d' b.was_sound h' room (cc)
-      (WriteFault-behind old mid new d' x y' (x ++ (y ++ z)) b.done k (omega (arith, ap length same, length-append y z, length-append x (y ++ z))))
+      (WriteFault-behind old mid new d' x (y ++ z) b.done (WriteFault-longer mid new d' y z (subst (λ (l : List Bool). WriteFault K mid l d' new) same k)))
   stop_later e f old mid r r' new d x y z b (did_write y' w p en wi re a) q q' h h' room = cc
 
   pub stop : {T V : Type 0} (e f : WriteEntry) (old mid : S) (r : Result T Error) (r' : Result V Error) (new : S) (d : Error) (x y z : List Bool)

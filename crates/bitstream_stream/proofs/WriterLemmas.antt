@@ -1,13 +1,14 @@
 -- A word behind the queue of a writer.
+use Rattle.std.specs.Io.KnownBytes.{Appends}
 use Rattle.std.proofs.KnownBytes.{Appends-nil}
-use Rattle.std.proofs.Common.{◌≡◌, ℕ, ◌+◌, ◌-◌, ◌*◌, ◌%◌, ◌^◌, ◌<◌, ◌≤◌, Bool, true, false, List, [], ◌∷◌, ◌++◌, length, take, Option, Result, Ok, Err, refl, sym, ap, ◌∙◌, subst, arith, append_assoc, append-nil}
+use Rattle.std.proofs.Common.{◌≡◌, ℕ, ◌+◌, ◌-◌, ◌*◌, ◌/◌, ◌%◌, ◌^◌, ◌<◌, ◌≤◌, Bool, true, false, List, [], ◌∷◌, ◌++◌, length, take, Option, Result, Ok, Err, refl, sym, ap, ◌∙◌, subst, arith, append_assoc, append-nil}
 use Rattle.bitstream_number.specs.Word.{Order, word, bits}
 use Rattle.bitstream_number.proofs.WordLemmas.{length-word}
 use Rattle.bitstream_count.specs.Entry.{WriteEntry}
 use Rattle.bitstream_count.specs.declared.error.Error.{Error}
 use Rattle.bitstream_order.specs.Parts.{piece, put_number}
-use Rattle.bitstream_order.specs.SendBits.{SendsBits, SendsRefused}
-use Rattle.bitstream_order.specs.Port.{PortState}
+use Rattle.bitstream_order.specs.SendBits.{SendsBits}
+use Rattle.bitstream_order.specs.Port.{PortState, SendRefused}
 use Rattle.bitstream_order.specs.Refusal.{Refusal}
 use Rattle.bitstream_order.proofs.TakeLemmas.{word-none}
 use Rattle.bitstream_order.proofs.PartLemmas.{put_word, put_below}
@@ -16,7 +17,7 @@ use Rattle.bitstream_stream.specs.Sink.{Writes, Appended, WriteFault, had_fault,
 use Rattle.bitstream_stream.specs.WriteTable.{bit}
 use Rattle.bitstream_stream.proofs.WriteLemmas.{word-bit}
 use mir.Val.{bool_byte}
-use Rattle.bitstream_stream.specs.Carries.{WriterState, Carries}
+use Rattle.bitstream_stream.specs.Carries.{WriterState, Carries, Fills}
 use Rattle.bitstream_stream.specs.Writer.{writer_state, AddsBits, queue_sink, Pushes}
 use Rattle.bitstream_stream.specs.declared.writer.BitWriter.{BitWriter}
 use Rattle.std.specs.Borrow.{GName}
@@ -67,24 +68,37 @@ pushed_bytes may o queued queue n v gone q p r old new h le cut sound = record {
 }
 
 -- a request was refused, and the queue was emptied
-fault_lengths : (a b gone queued n : ℕ) → b ≡ a + gone → 8 * gone ≤ queued + n → queued < 8 → 8 ≤ queued + n
-    → (8 ≤ (8 * a + queued) % 8 + n) × ((8 * b + 0) % 8 ≡ 0) × (8 * a + queued < 8 * b + 0 + 8) × (8 * b + 0 ≤ 8 * a + queued + n)
-fault_lengths a b gone queued n sent within few full = (omega arith, omega arith, omega arith, omega arith)
+fault_lengths : (a b queued n : ℕ) → b ≡ a → queued < 8 → 8 ≤ queued + n → (8 ≤ (8 * a + queued) % 8 + n) × ((8 * b + 0) % 8 ≡ 0) × (8 * a + queued + 0 < 8 * b + 0 + 8) × (8 * b + 0 ≤ 8 * a + queued + 0)
+fault_lengths a b queued n sent few full = (omega arith, omega arith, omega arith, omega arith)
 
-pub pushed_fault : (may : Refusal → Type 0) (o : Order) (queued queue n v : ℕ) (error : Error) (p r : PortState) (old new : Bool) (q : ℕ) → SendsRefused may (length (word o queued queue) + length (word o n v)) error p r → queued < 8 → 8 ≤ queued + n → new ≡ true
+-- no bits fill no byte
+fills_none : (o : Order) (a : WriterState) (known : Option (List ℕ)) → a.queued < 8 → known ≡ a.port.bytes → Fills o a [] known
+fills_none o a known few same = record {
+  bytes = [];
+  grows = subst (λ (b : Option (List ℕ)). Appends a.port.bytes b []) (sym same) (Appends-nil a.port.bytes);
+  rest = word o a.queued a.queue;
+  few = let len = length-word o a.queued a.queue in omega arith;
+  word = append-nil (word o a.queued a.queue);
+}
+
+pub pushed_fault : (may : Refusal → Type 0) (o : Order) (queued queue n v : ℕ) (error : Error) (p r : PortState) (old new : Bool) (q : ℕ) → SendRefused may error p ((length (word o queued queue) + length (word o n v)) / 8) r → queued < 8 → 8 ≤ queued + n → new ≡ true
     → WriteFault (queue_sink may o) (record { port = p; queued = queued; queue = queue; failed = old }) (word o n v) error (record { port = r; queued = 0; queue = q; failed = new })
 pushed_fault may o queued queue n v error p r old new q h few full broken =
     let is = length-word o n v in
-    let within : 8 * h.gone ≤ queued + n = let le = h.within in let first = length-word o queued queue in omega arith in
-    let lengths = fault_lengths p.sent r.sent h.gone queued n h.sent within few full in
+    let lengths = fault_lengths p.sent r.sent queued n h.sent few full in
     record {
       refusal = h.refusal;
       allowed = h.allowed;
       answer = h.answer;
       full = rw is lengths.0;
+      front = [];
+      back = word o n v;
+      parts = refl;
+      before = fills_none o (record { port = p; queued = queued; queue = queue; failed = old }) h.refusal.before few h.before;
+      after = h.after;
       whole = lengths.1;
       least = lengths.2;
-      most = rw is lengths.3;
+      most = lengths.3;
       refusals = h.refusals;
       broken = broken;
       reference_names = h.reference_names;

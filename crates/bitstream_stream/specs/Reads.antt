@@ -80,7 +80,8 @@ pub record TakesFront {A : Type 0} (o : Order) (entry : ReadEntry A) (old : Read
   pub failed : new.failed ≡ is_run_too_long result
 
 -- A request was refused, as the stream may refuse, and the reader has failed. The bits held were too few
--- for the call, and so were those with the bytes fetched for it; at a true end so were all bits left.
+-- for the call, and so were those with the bytes fetched for it; at a true end so were all bits left. The
+-- stream lost these bytes, and then is as the refusal left it.
 pub record ReadFault {A : Type 0} (o : Order) (may : Refusal → Type 0) (entry : ReadEntry A) (old : ReaderState) (result : Result A Error) (new : ReaderState) : Type 0 where
   pub fine : old.failed ≡ false
   pub refusal : Refusal
@@ -88,6 +89,8 @@ pub record ReadFault {A : Type 0} (o : Order) (may : Refusal → Type 0) (entry 
   pub answer : result ≡ Err (read_refusal_of refusal.kind)
   pub short : entry.reads old.taken old.held ≡ TooShort
   pub gone : List ℕ
+  pub loses : Consumes old.bytes refusal.before gone
+  pub after : new.bytes ≡ refusal.after
   pub fetched : new.fetched ≡ old.fetched + length gone
   pub few : entry.reads old.taken (old.held ++ bits o gone) ≡ TooShort
   pub ended : IsTrueEnd refusal → (xs : List ℕ) → old.bytes ≡ Some xs → entry.reads old.taken (old.held ++ bits o xs) ≡ TooShort

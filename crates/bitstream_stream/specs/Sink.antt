@@ -28,6 +28,9 @@ pub record Sink (S : Type 0) : Type 1 where
   pub order : Order
   -- the second state is the first with these bits behind it
   pub appends : S → List Bool → S → Type 0
+  -- the bytes that its stream holds, where it tells; and those it would, with these bits written behind the state
+  pub contents : S → Option (List ℕ)
+  pub fills : S → List Bool → Option (List ℕ) → Type 0
   -- how many bits were written
   pub len : S → ℕ
   -- the greatest number of bits, for a counter
@@ -41,6 +44,7 @@ pub record Sink (S : Type 0) : Type 1 where
   pub reference_names : S → List GName
   pub appends_nil : (s : S) → appends s [] s
   pub appends_trans : (s t u : S) (x y : List Bool) → appends s x t → appends t y u → appends s (x ++ y) u
+  pub fills_behind : (s t : S) (x y : List Bool) (known : Option (List ℕ)) → appends s x t → fills t y known → fills s (x ++ y) known
   pub within : (s : S) → IsWithin limit (len s)
   pub appends_len : (s t : S) (x : List Bool) → appends s x t → len t ≡ len s + length x
   pub limit_full : IsFullLimit limit
@@ -60,15 +64,21 @@ pub record Kept {S : Type 0} (K : Sink S) (old new : S) : Type 0 where
   pub reference_names : K.reference_names new ≡ K.reference_names old
 
 -- A request was refused, as the stream may refuse, and the sink has failed. The word x would have made a
--- byte full. Whole bytes were sent, those before the word and none but of its bits, and no bit waits.
+-- byte full. The bytes that a front of it filled were sent before the request, and no bit waits: the stream
+-- is as the refusal left it.
 pub record WriteFault {S : Type 0} (K : Sink S) (old : S) (x : List Bool) (error : Error) (new : S) : Type 0 where
   pub refusal : Refusal
   pub allowed : K.may refusal
   pub answer : error ≡ refusal_of refusal.kind
   pub full : 8 ≤ K.len old % 8 + length x
+  pub front : List Bool
+  pub back : List Bool
+  pub parts : x ≡ front ++ back
+  pub before : K.fills old front refusal.before
+  pub after : K.contents new ≡ refusal.after
   pub whole : K.len new % 8 ≡ 0
-  pub least : K.len old < K.len new + 8
-  pub most : K.len new ≤ K.len old + length x
+  pub least : K.len old + length front < K.len new + 8
+  pub most : K.len new ≤ K.len old + length front
   pub refusals : K.refusals new ≡ refusal ∷ K.refusals old
   pub broken : K.failed new ≡ true
   pub reference_names : K.reference_names new ≡ K.reference_names old
@@ -100,6 +110,8 @@ abbrev pub seen_sink : {R S : Type 0} → (R → S) → (R → List GName) → S
 seen_sink f names K = record {
   order = K.order;
   appends = λ a x b. K.appends (f a) x (f b);
+  contents = λ a. K.contents (f a);
+  fills = λ a x known. K.fills (f a) x known;
   len = λ a. K.len (f a);
   limit = K.limit;
   failed = λ a. K.failed (f a);
@@ -108,6 +120,7 @@ seen_sink f names K = record {
   reference_names = λ a. names a ++ K.reference_names (f a);
   appends_nil = λ a. K.appends_nil (f a);
   appends_trans = λ a b c x y p q. K.appends_trans (f a) (f b) (f c) x y p q;
+  fills_behind = λ a b x y known p q. K.fills_behind (f a) (f b) x y known p q;
   within = λ a. K.within (f a);
   appends_len = λ a b x p. K.appends_len (f a) (f b) x p;
   limit_full = K.limit_full;

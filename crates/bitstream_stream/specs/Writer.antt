@@ -5,9 +5,9 @@ use Rattle.std.specs.declared.io.ErrorKind.{ErrorKind}
 use Rattle.std.specs.Io.KnownBytes.{Appends}
 use Rattle.bitstream_number.specs.Word.{Order, bits}
 use Rattle.bitstream_order.specs.Port.{port_state, requests_count}
-use Rattle.bitstream_order.specs.Refusal.{Refusal, MayRefuseSend}
+use Rattle.bitstream_order.specs.Refusal.{Refusal, MayRefuse}
 use Rattle.bitstream_count.specs.declared.error.Error.{Error}
-use Rattle.bitstream_stream.specs.Carries.{WriterState, Carries, Carries-nil, Carries-trans, Carries-len}
+use Rattle.bitstream_stream.specs.Carries.{WriterState, Carries, Fills, Carries-nil, Carries-trans, Fills-behind, Carries-len}
 use Rattle.bitstream_stream.specs.Sink.{Sink, Appended, WriteFault, inner_sink}
 use Rattle.bitstream_stream.specs.declared.writer.BitWriter.{BitWriter}
 
@@ -46,6 +46,8 @@ abbrev pub queue_sink : (Refusal → Type 0) → Order → Sink WriterState
 queue_sink may o = record {
   order = o;
   appends = Carries o;
+  contents = λ a. a.port.bytes;
+  fills = Fills o;
   len = λ a. 8 * a.port.sent + a.queued;
   limit = None;
   failed = λ a. a.failed;
@@ -54,6 +56,7 @@ queue_sink may o = record {
   reference_names = λ a. a.port.reference_names;
   appends_nil = Carries-nil o;
   appends_trans = Carries-trans o;
+  fills_behind = Fills-behind o;
   within = λ _. tt;
   appends_len = Carries-len o;
   limit_full = tt;
@@ -72,4 +75,4 @@ Pushes may o x old (Err error) new = WriteFault (queue_sink may o) old x error n
 
 -- a writer as a sink
 abbrev pub writer_sink : {W E : Type 0} → (W → Option (List ℕ)) → (W → ℕ → ErrorKind → W → Type 0) → (W → List GName) → Order → Sink (BitWriter W E)
-writer_sink contents refuses reference_names o = inner_sink (writer_state contents reference_names) (queue_sink (MayRefuseSend refuses) o)
+writer_sink contents refuses reference_names o = inner_sink (writer_state contents reference_names) (queue_sink (MayRefuse contents refuses) o)

@@ -44,7 +44,7 @@ pub struct BitWriter<W, E> {
 
 impl<W: Target, E: Endianness> BitWriter<W, E> {
     ghost use Rattle.bitstream_number.specs.Word.{word};
-    ghost use Rattle.bitstream_order.specs.Refusal.{MayRefuseSend};
+    ghost use Rattle.bitstream_order.specs.Refusal.{MayRefuse};
     ghost use Rattle.bitstream_stream.specs.Writer.{writer_state, fresh_writer, AsksForWord, Pushes};
 
     /// Returns a writer to a stream. Nothing is asked of the stream yet.
@@ -76,7 +76,7 @@ impl<W: Target, E: Endianness> BitWriter<W, E> {
     fn push<U: UnsignedInteger>(&mut self, value: U, n: u32) -> Result<(), Error>
         requires sound { self.old.failed ≡ false }
         requires room { n ≤ U.BITS_SIZE }
-        ensures pushes { Pushes (MayRefuseSend W.refuses) E.order (word E.order n (U.value value))
+        ensures pushes { Pushes (MayRefuse W.contents W.refuses) E.order (word E.order n (U.value value))
             (writer_state W.contents W.reference_names self.old) result
             (writer_state W.contents W.reference_names self.new) }
         ensures asks { AsksForWord n self.old self.new }

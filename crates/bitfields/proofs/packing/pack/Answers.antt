@@ -1,10 +1,11 @@
 use Rattle.std.proofs.Common.{◌∷◌, ◌∙◌, ◌+◌, ◌*◌, inr, sym, ap, refl}
-use Rattle.bitstream_io.specs.Refusal.{MayRefuseSend}
+use Rattle.bitstream_io.specs.Refusal.{MayRefuse}
 use Rattle.bitstream_io.specs.Carries.{WriterState}
 use Rattle.bitstream_io.specs.Writer.{writer_state}
 use Rattle.bitfields.specs.Fault.{fault as fault_of}
 use Rattle.bitfields.proofs.MemoryLemmas.{value_expected, fault_expected}
-use Rattle.bitfields.proofs.PackingLemmas.{PackedBytes-from, heads, MayRefuseSend-seen, Packs-refused, RefusedBytes-from}
+use Rattle.bitfields.proofs.PackingLemmas.{PackedBytes-from, heads, Packs-refused, filled, RefusedBytes-from}
+use Rattle.bitfields.proofs.UnpackedBytes.{MayRefuse-seen}
 use Rattle.bitfields.proofs.packing.pack.Goals as goal
 
 pub returns-in-Ok : goal.returns-in-Ok
@@ -25,10 +26,12 @@ returns g c =
     let fresh = c.new-writer.ensures in
     let fault = c.in-Err.ensures.adds (ap (λ (s : WriterState). s.failed) fresh) refl in
     let none = ap (λ (s : WriterState). 8 * s.port.sent + s.queued) fresh in
-    let seen = MayRefuseSend-seen (λ l. l.at.now) g.W.Target.refuses in
-    let refused = RefusedBytes-from _ (MayRefuseSend g.W.Target.refuses) c.args.layout.now c.deref.result.now _ _ c.in-Err.error _ seen none fault (c.new-in-Err.ensures ∙ ap (fault_of 0) c.write_reason.ensures) in
-    rw ((value_expected c.in_ok-values.ensures.values), ← c.deref.ensures.value) (inr refused)
+    let place = heads c.new.result.at.ghost_name w.port.stream.at.ghost_name _ _ (fault.reference_names ∙ ap (λ (s : WriterState). s.port.reference_names) fresh) in
+    let tied = c.output-1.given.1 (sym c.new.ensures.name ∙ sym place) in
+    let seen = MayRefuse-seen (λ l. l.at.now) g.W.Target.contents g.W.Target.refuses in
+    let refused = RefusedBytes-from _ (MayRefuse g.W.Target.contents g.W.Target.refuses) c.args.layout.now c.deref.result.now _ _ _ c.in-Err.error _ seen none (filled o _ _ _ fresh) fault (c.new-in-Err.ensures ∙ ap (fault_of 0) c.write_reason.ensures) in
+    rw ((value_expected c.in_ok-values.ensures.values), tied, ← c.new.ensures.value, ← c.deref.ensures.value) (inr refused)
 
 pub returns-in_err-values : goal.returns-in_err-values
 returns-in_err-values g c =
-    Packs-refused g.W.Target.contents (MayRefuseSend g.W.Target.refuses) g.E.Endianness.order c.args.layout.now _ c.args.output.now c.from_residual.result c.in_err-values.field-0.0 c.from_residual.ensures.1 (fault_expected c.in_err-values.ensures.values)
+    Packs-refused g.W.Target.contents (MayRefuse g.W.Target.contents g.W.Target.refuses) g.E.Endianness.order c.args.layout.now _ c.args.output.now c.from_residual.result c.in_err-values.field-0.0 c.from_residual.ensures.1 (fault_expected c.in_err-values.ensures.values)

@@ -1,4 +1,4 @@
-use Rattle.bitstream_order.specs.Refusal.{MayRefuseSend}
+use Rattle.bitstream_order.specs.Refusal.{MayRefuse}
 use Rattle.bitstream_stream.specs.Writer.{writer_state, queue_sink}
 use Rattle.bitstream_stream.proofs.SinkLemmas.{inner}
 use Rattle.bitstream_stream.proofs.WriterLemmas.{pushes_bit}
@@ -7,5 +7,5 @@ use Rattle.bitstream_stream.proofs.writer.BitWriterBitWrite.write_bit.Goals as g
 pub returns-clause-writes : goal.returns-clause-writes
 returns-clause-writes g c =
     let o = g.E.Endianness.order in
-    inner (writer_state g.W.Target.contents g.W.Target.reference_names) (queue_sink (MayRefuseSend g.W.Target.refuses) o) _ _ _ _
+    inner (writer_state g.W.Target.contents g.W.Target.reference_names) (queue_sink (MayRefuse g.W.Target.contents g.W.Target.refuses) o) _ _ _ _
     (pushes_bit _ o c.args.bit _ _ _ _ c.from.ensures c.if-self.false c.push.ensures.pushes)

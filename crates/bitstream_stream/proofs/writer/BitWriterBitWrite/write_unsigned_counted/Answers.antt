@@ -1,4 +1,4 @@
-use Rattle.bitstream_order.specs.Refusal.{MayRefuseSend}
+use Rattle.bitstream_order.specs.Refusal.{MayRefuse}
 use Rattle.std.proofs.Common.{refl, Err, ap, ◌∙◌}
 use Rattle.std.proofs.lemmas.Result.{err_from_is_err_and}
 use Rattle.bitstream_stream.specs.Writer.{writer_state, queue_sink, writer_sink}
@@ -17,5 +17,5 @@ returns-in_err-check-clause-writes g c =
 pub returns-clause-writes : goal.returns-clause-writes
 returns-clause-writes g c =
     let o = g.E.Endianness.order in
-    inner (writer_state g.W.Target.contents g.W.Target.reference_names) (queue_sink (MayRefuseSend g.W.Target.refuses) o) _ _ _ _
+    inner (writer_state g.W.Target.contents g.W.Target.reference_names) (queue_sink (MayRefuse g.W.Target.contents g.W.Target.refuses) o) _ _ _ _
     (pushes_writes _ o _ _ _ _ _ c.if-self.false (rw (← c.bits-bits.ensures.value) (c.in_ok-check.ensures.word _ _)) c.push.ensures.pushes)
