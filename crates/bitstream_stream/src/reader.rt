@@ -157,7 +157,7 @@ impl<R: Source, E: Endianness> BitRead for BitReader<R, E> {
         ensures asks { AsksForWord 1 self.old self.new }
     {
         let bit: u8 = self.read_unsigned_var(1)?;
-        Ok(bit == 1)
+        Ok(bit % 2 == 1)
     }
 
     #[inline(always)]

@@ -1,6 +1,7 @@
-use Rattle.std.proofs.Common.{arith, nat_eq}
+use Rattle.std.proofs.Common.{arith, nat_eq, ◌≡◌, ◌%◌}
 use Rattle.bitstream_count.specs.Entry.{gives}
 use Rattle.bitstream_stream.proofs.ReadsLemmas.{Reads-same, Reads-chain-ok, Reads-gives, exit}
+use Rattle.bitstream_stream.proofs.SignedLemmas.{unsigned-below}
 use Rattle.bitstream_stream.proofs.TableLemmas.{bit-unsigned}
 use Rattle.bitstream_stream.proofs.reader.BitReaderBitRead.read_bit.Goals as goal
 
@@ -10,4 +11,6 @@ returns-in_err-bit-clause-reads g c =
 
 pub returns-clause-reads : goal.returns-clause-reads
 returns-clause-reads g c =
-    Reads-same (bit-unsigned g.E.Endianness.order 8 (omega arith)) (Reads-chain-ok _ (λ n. gives (nat_eq n 1)) c.in_ok-bit.ensures.reads (Reads-gives _ _))
+    let small = unsigned-below _ _ _ _ c.in_ok-bit.ensures.reads in
+    let same : c.in_ok-bit.bit % 2 ≡ c.in_ok-bit.bit = omega arith in
+    rw same (Reads-same (bit-unsigned g.E.Endianness.order 8 (omega arith)) (Reads-chain-ok _ (λ n. gives (nat_eq n 1)) c.in_ok-bit.ensures.reads (Reads-gives _ _)))
