@@ -21,6 +21,8 @@ mod refuse;
 #[cfg(test)]
 mod streams;
 pub mod sure;
+#[cfg(test)]
+mod words;
 
 pub use count::Count;
 pub use drip::Drip;

@@ -88,7 +88,7 @@ fn read_fixed_signed<R: BitRead>(
         Size::Bits16 => read_at!(alloc, reader, bits, i16, 1 3 8 9 15 16),
         Size::Bits32 => read_at!(alloc, reader, bits, i32, 1 4 7 16 31 32),
         Size::Bits64 => read_at!(alloc, reader, bits, i64, 1 5 12 63 64),
-        Size::Bits128 => read_at!(alloc, reader, bits, i128, 1 7 64 65 127),
+        Size::Bits128 => read_at!(alloc, reader, bits, i128, 1 7 64 65 127 128),
     }
 }
 
@@ -131,6 +131,6 @@ fn write_fixed_signed<W: BitWrite>(
         Size::Bits16 => write_at!(writer, bits, value, i16, 1 3 8 9 15 16),
         Size::Bits32 => write_at!(writer, bits, value, i32, 1 4 7 16 31 32),
         Size::Bits64 => write_at!(writer, bits, value, i64, 1 5 12 63 64),
-        Size::Bits128 => write_at!(writer, bits, value, i128, 1 7 64 65 127),
+        Size::Bits128 => write_at!(writer, bits, value, i128, 1 7 64 65 127 128),
     }
 }
