@@ -68,11 +68,11 @@ AreBytes-push : (bs : List ℕ) (b : ℕ) → AreBytes bs → b < 256 → AreByt
 AreBytes-push [] b h small = (small, tt)
 AreBytes-push (c ∷ bs) b h small = (h.0, AreBytes-push bs b h.1 small)
 
-AreBytes-reverse : (bs : List ℕ) → AreBytes bs → AreBytes (reverse bs)
+pub AreBytes-reverse : (bs : List ℕ) → AreBytes bs → AreBytes (reverse bs)
 AreBytes-reverse [] h = tt
 AreBytes-reverse (b ∷ bs) h = rw (reverse-cons b bs) (AreBytes-push (reverse bs) b (AreBytes-reverse bs h.1) h.0)
 
-AreBytes-from : (bs : List ℕ) → ((i : ℕ) → slice_index bs i < 256) → AreBytes bs
+pub AreBytes-from : (bs : List ℕ) → ((i : ℕ) → slice_index bs i < 256) → AreBytes bs
 AreBytes-from [] h = tt
 AreBytes-from (b ∷ bs) h = (h 0, AreBytes-from bs (λ i. h (suc i)))
 

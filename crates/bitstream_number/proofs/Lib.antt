@@ -1,3 +1,4 @@
+pub mod ByteLemmas
 pub mod Bytes
 pub mod Casts
 pub mod Masks
