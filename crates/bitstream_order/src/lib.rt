@@ -8,6 +8,7 @@ pub mod port;
 pub mod refusals;
 pub mod seek;
 pub mod send;
+pub mod shift;
 pub mod sign;
 pub mod slice;
 pub mod source;
