@@ -1,17 +1,20 @@
 //! A stream, with counts of what was asked of it that clauses alone read.
 ghost use Rattle.std.specs.Prelude.{◌≡◌, [], ◌∷◌};
+ghost use Rattle.std.specs.Io.KnownBytes.{Keeps};
+ghost use Rattle.std.specs.Io.Seek.{SeekMoves};
 ghost use Rattle.std.specs.IoError.{error_kind};
 ghost use Rattle.bitstream_order.specs.Fault.{read_refusal_of, refusal_of};
 ghost use Rattle.bitstream_order.specs.Refusal.{Refusal, MayRefuse};
-ghost use Rattle.bitstream_order.specs.Port.{port_state, Fetches, Sends};
+ghost use Rattle.bitstream_order.specs.Port.{port_state, held_stream, with_stream, Fetches, Sends, Seeks};
 
 use crate::refusals::Refusals;
+use crate::seek::SeekSource;
 use crate::source::Source;
 use crate::tally::Tally;
 use crate::target::Target;
 use bitstream_count::error::Error;
 use std::io;
-use std::io::ErrorKind;
+use std::io::{ErrorKind, SeekFrom};
 use std::snapshot::Snapshot;
 
 /// The one holder of a stream: nothing else asks the stream for bytes or sends bytes to it.
@@ -25,7 +28,7 @@ pub struct Port<S> {
     refusals: Refusals,
 }
 
-/// Returns the error for a write that the stream refused.
+/// Returns the error for a request that the stream refused and that was no read.
 fn refusal(error: io::Error) -> Error
     ensures { result ≡ refusal_of (error_kind error) }
 {
@@ -86,6 +89,9 @@ fn note_write<S: Target>(
 }
 
 impl<S> Port<S> {
+    ghost use Rattle.std.specs.Borrow.{Lends, sem};
+    ghost use Rattle.bitstream_order.specs.contracts.port.Port.{the_row};
+
     /// Returns a port to a stream of which nothing was asked yet.
     pub fn new(stream: S) -> Port<S>
         ensures stream { result.stream ≡ stream }
@@ -101,6 +107,22 @@ impl<S> Port<S> {
             requests: Tally::new(),
             refusals: Refusals::new(),
         }
+    }
+
+    /// Lends the stream. What is done to it there is not counted.
+    pub fn lend(&mut self) -> &mut S
+        ensures value { result.now ≡ held_stream self.old }
+        ensures* writes_back { sem 𝓛
+            (Lends (the_row S.row) S.row self.entry result (with_stream self.old)) }
+    {
+        &mut self.stream
+    }
+
+    /// Gives the stream up.
+    pub fn into_inner(self) -> S
+        ensures { result ≡ held_stream self }
+    {
+        self.stream
     }
 }
 
@@ -166,6 +188,60 @@ impl<S: Target> Port<S> {
                     bytes.len(),
                     &refused,
                 );
+                Err(refusal(refused))
+            }
+        }
+    }
+
+    /// Makes one request, which sends no bytes: the stream passes on what it holds back itself.
+    ///
+    /// # Errors
+    ///
+    /// As [`send`](Port::send) has them. The stream holds the same bytes then too.
+    pub fn flush(&mut self) -> Result<(), Error>
+        ensures sends { Sends (MayRefuse S.contents S.refuses)
+            (port_state S.contents S.reference_names self.old) [] result
+            (port_state S.contents S.reference_names self.new) }
+        ensures bytes { Keeps (S.contents (held_stream self.old))
+            (S.contents (held_stream self.new)) }
+    {
+        let before = Snapshot::of(&self.stream);
+        self.requests.add(1);
+        match self.stream.flush() {
+            Ok(()) => Ok(()),
+            Err(refused) => {
+                note_write(&mut self.refusals, &before, &self.stream, 0, &refused);
+                Err(refusal(refused))
+            }
+        }
+    }
+}
+
+impl<S: SeekSource> Port<S> {
+    /// Makes one request, which goes to a place, and returns how many bytes lie before it. From
+    /// there on the bytes fetched are counted anew.
+    ///
+    /// # Errors
+    ///
+    /// `OutOfMemory` where the stream refuses with that kind, and else `Stream` with its kind. The
+    /// stream stays where it was then.
+    pub fn seek(&mut self, to: SeekFrom) -> Result<u64, Error>
+        ensures seeks { Seeks (MayRefuse S.remaining S.refuses)
+            (port_state S.remaining S.reference_names self.old) result
+            (port_state S.remaining S.reference_names self.new) }
+        ensures moves { SeekMoves (S.position (held_stream self.old))
+            (S.position (held_stream self.new)) (S.bytes (held_stream self.old)) to result }
+        ensures bytes { Keeps (S.bytes (held_stream self.old)) (S.bytes (held_stream self.new)) }
+    {
+        let before = Snapshot::of(&self.stream);
+        self.requests.add(1);
+        match self.stream.seek(to) {
+            Ok(at) => {
+                self.fetched = Tally::new();
+                Ok(at)
+            }
+            Err(refused) => {
+                note_read(&mut self.refusals, &before, &self.stream, 0, &refused);
                 Err(refusal(refused))
             }
         }
