@@ -3,6 +3,8 @@ pub use Rattle.bitstream_number.proofs.WordLemmas
 pub use Rattle.bitstream_order.proofs.FaultLemmas
 pub use Rattle.bitstream_order.proofs.TakeLemmas
 pub use Rattle.bitstream_order.proofs.SliceLemmas as SliceEnds
+pub use Rattle.bitstream_stream.proofs.ByteReadsLemmas
+pub use Rattle.bitstream_stream.proofs.ByteWritesLemmas
 pub use Rattle.bitstream_stream.proofs.EntryLemmas
 pub use Rattle.bitstream_stream.proofs.ReaderLemmas
 pub use Rattle.bitstream_stream.proofs.ReadsLemmas

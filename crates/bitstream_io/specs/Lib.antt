@@ -16,6 +16,10 @@ pub use Rattle.bitstream_order.specs.Port
 pub use Rattle.bitstream_order.specs.Refusal
 pub use Rattle.bitstream_order.specs.Slice
 pub use Rattle.bitstream_stream.specs.Alignment
+pub use Rattle.bitstream_stream.specs.ByteReader
+pub use Rattle.bitstream_stream.specs.ByteReads
+pub use Rattle.bitstream_stream.specs.ByteSink
+pub use Rattle.bitstream_stream.specs.ByteWriter
 pub use Rattle.bitstream_stream.specs.Carries
 pub use Rattle.bitstream_stream.specs.ReadTable
 pub use Rattle.bitstream_stream.specs.Reader

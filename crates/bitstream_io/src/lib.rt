@@ -67,6 +67,14 @@ pub mod write {
     pub use bitstream_value::write::BitWriteExt;
 }
 
+/// Reading and writing whole bytes.
+pub mod bytes {
+    pub use bitstream_stream::byte_read::ByteRead;
+    pub use bitstream_stream::byte_reader::ByteReader;
+    pub use bitstream_stream::byte_write::ByteWrite;
+    pub use bitstream_stream::byte_writer::ByteWriter;
+}
+
 /// What is proved of the definitions alone: a function each, whose contract is the law.
 pub mod laws {
     pub use bitstream_count::laws::{
@@ -82,6 +90,7 @@ pub mod laws {
     pub use bitstream_stream::laws::{ends_are_known, slices_end, words_join};
 }
 
+pub use bytes::{ByteRead, ByteReader, ByteWrite, ByteWriter};
 pub use count::{
     BitCount, Checked, CheckedError, CheckedSigned, CheckedSignedFixed, CheckedUnsigned,
     CheckedUnsignedFixed, Count, FixedBitCount, FixedSignedBitCount, LsbMask, SignedBitCount,

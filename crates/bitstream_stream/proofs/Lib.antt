@@ -1,3 +1,5 @@
+pub mod ByteReadsLemmas
+pub mod ByteWritesLemmas
 pub mod ConstLemmas
 pub mod EntryLemmas
 pub mod LawLemmas

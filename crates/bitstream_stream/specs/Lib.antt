@@ -1,4 +1,8 @@
 pub mod Alignment
+pub mod ByteReader
+pub mod ByteReads
+pub mod ByteSink
+pub mod ByteWriter
 pub mod Carries
 pub mod ReadTable
 pub mod Reader

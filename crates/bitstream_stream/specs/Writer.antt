@@ -4,7 +4,7 @@ use Rattle.std.specs.Borrow.{GName}
 use Rattle.std.specs.declared.io.ErrorKind.{ErrorKind}
 use Rattle.std.specs.Io.KnownBytes.{Appends}
 use Rattle.bitstream_number.specs.Word.{Order, bits}
-use Rattle.bitstream_order.specs.Port.{port_state, requests_count}
+use Rattle.bitstream_order.specs.Port.{port_state, fresh_port, requests_count}
 use Rattle.bitstream_order.specs.Refusal.{Refusal, MayRefuse}
 use Rattle.bitstream_count.specs.declared.error.Error.{Error}
 use Rattle.bitstream_stream.specs.Carries.{WriterState, Carries, Fills, Carries-nil, Carries-trans, Fills-behind, Carries-len}
@@ -35,7 +35,7 @@ AsksForWord n old new = (requests_made new ≤ requests_made old + 1) × (queued
 -- a writer to which nothing was written, by what its stream tells
 abbrev pub fresh_writer : Option (List ℕ) → List GName → WriterState
 fresh_writer contents reference_names = record {
-  port = record { bytes = contents; fetched = 0; sent = 0; requests = 0; refusals = []; reference_names = reference_names };
+  port = fresh_port contents reference_names;
   queued = 0;
   queue = 0;
   failed = false;

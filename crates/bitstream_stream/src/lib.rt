@@ -1,6 +1,10 @@
-//! Readers and writers of bits.
+//! Readers and writers of bits and of bytes.
 #![tactic(auto)]
 
+pub mod byte_read;
+pub mod byte_reader;
+pub mod byte_write;
+pub mod byte_writer;
 mod check;
 pub mod laws;
 pub mod read;

@@ -1,0 +1,99 @@
+-- How writes of whole bytes compose.
+use Rattle.std.proofs.Common.{◌≡◌, ℕ, ◌+◌, ◌<◌, ◌≤◌, List, [], ◌∷◌, ◌++◌, length, take, replicate, Option, None, Result, Ok, Err, refl, sym, ap, ap₂, ◌∙◌, subst, length-append, arith}
+use Rattle.std.proofs.lemmas.List.{take-replicate, length-replicate, replicate-append-replicate}
+use Rattle.std.specs.Borrow.{GName, MutBor}
+use Rattle.std.specs.declared.io.ErrorKind.{ErrorKind}
+use Rattle.bitstream_count.specs.declared.error.Error.{Error}
+use Rattle.bitstream_number.specs.Word.{Order}
+use Rattle.bitstream_order.specs.Port.{Sends}
+use Rattle.bitstream_order.specs.Refusal.{MayRefuse}
+use Rattle.bitstream_stream.specs.Sink.{IsBeyond}
+use Rattle.bitstream_stream.specs.ByteSink.{ByteSink, BytesAppended, ByteWriteFault, ByteWrites, past_limit, met_refusal, wrote_bytes, lent_byte_sink}
+use Rattle.bitstream_stream.specs.ByteWriter.{byte_writer_state, byte_writer_sink}
+use Rattle.bitstream_stream.specs.declared.byte_writer.ByteWriter.{ByteWriter}
+
+module _ {S : Type 0} (K : ByteSink S) where
+  pub none_appended : (s : S) → BytesAppended K s [] s
+  none_appended s = record { grown = K.appends_nil s; refusals = refl; reference_names = refl }
+
+  pub more_appended : (x y : List ℕ) (s t u : S) → BytesAppended K s x t → BytesAppended K t y u → BytesAppended K s (x ++ y) u
+  more_appended x y s t u h k = record {
+    grown = K.appends_trans s t u x y h.grown k.grown;
+    refusals = k.refusals ∙ h.refusals;
+    reference_names = k.reference_names ∙ h.reference_names;
+  }
+
+  pub was_written : {T : Type 0} (x : List ℕ) (s : S) (done : T) (t : S) → ByteWrites K x s (Ok done) t → BytesAppended K s x t
+  was_written x s done t (past_limit b r h) = cc
+  was_written x s done t (met_refusal e w r h) = cc
+  was_written x s done t (wrote_bytes d w r h) = h
+
+  pub was_stopped : {T : Type 0} (x : List ℕ) (s : S) (e : Error) (t : S) → K.limit ≡ None → ByteWrites {T = T} K x s (Err e) t → ByteWriteFault K s (length x) e t
+  was_stopped x s e t none (past_limit b r h) = absurd (subst (λ l. IsBeyond l (K.len s + length x)) none b)
+  was_stopped {T = T} x s e t none (met_refusal d w r h) = let same : d ≡ e = cc in subst (λ y. ByteWriteFault K s (length x) y t) same h
+  was_stopped x s e t none (wrote_bytes d w r h) = cc
+
+  -- bytes that went before, of n in all
+  pub stopped_behind : (x : List ℕ) (m n : ℕ) (e : Error) (s t u : S) → length x + m ≤ n → BytesAppended K s x t → ByteWriteFault K t m e u → ByteWriteFault K s n e u
+  stopped_behind x m n e s t u le h k =
+      let far = K.appends_len s t x h.grown in
+      let least = k.least in
+      let most = k.most in
+      record {
+        refusal = k.refusal;
+        allowed = k.allowed;
+        answer = k.answer;
+        least = omega arith;
+        most = omega arith;
+        refusals = k.refusals ∙ ap (λ l. k.refusal ∷ l) h.refusals;
+        reference_names = k.reference_names ∙ h.reference_names;
+      }
+
+  -- zeros, a piece at a time
+  pub zeros_more : {T : Type 0} (k n size : ℕ) (s t u : S) (done : T) → n ≤ size → BytesAppended K s (replicate k 0) t → ByteWrites K (take n (replicate size 0)) t (Ok done) u → BytesAppended K s (replicate (k + n) 0) u
+  zeros_more k n size s t u done le h r =
+      let zeros : BytesAppended K t (replicate n 0) u = subst (λ x. BytesAppended K t x u) (take-replicate n size 0 le) (was_written (take n (replicate size 0)) t done u r) in
+      subst (λ x. BytesAppended K s x u) (replicate-append-replicate k n 0) (more_appended (replicate k 0) (replicate n 0) s t u h zeros)
+
+  pub zeros_stopped : {T : Type 0} (k n size all : ℕ) (e : Error) (s t u : S) → n ≤ size → k + n ≤ all → K.limit ≡ None → BytesAppended K s (replicate k 0) t → ByteWrites {T = T} K (take n (replicate size 0)) t (Err e) u
+      → ByteWriteFault K s (length (replicate {A = ℕ} all 0)) e u
+  zeros_stopped k n size all e s t u le room none h r =
+      let few : ByteWriteFault K t n e u = subst (λ m. ByteWriteFault K t m e u) (ap (λ (l : List ℕ). length l) (take-replicate n size 0 le) ∙ length-replicate n 0) (was_stopped (take n (replicate size 0)) t e u none r) in
+      subst (λ m. ByteWriteFault K s m e u) (sym (length-replicate all 0))
+      (stopped_behind (replicate k 0) n all e s t u (subst (λ (i : ℕ). i + n ≤ all) (sym (length-replicate k 0)) room) h few)
+
+-- a request to send some bytes is a write of them
+pub bytes_sent : {W E : Type 0} (contents : W → Option (List ℕ)) (refuses : W → ℕ → ErrorKind → W → Type 0) (reference_names : W → List GName) (o : Order) (x : List ℕ) (a b : ByteWriter W E) (r : Result (Unit {0}) Error) → 0 < length x
+    → Sends (MayRefuse contents refuses) (byte_writer_state contents reference_names a) x r (byte_writer_state contents reference_names b) → ByteWrites (byte_writer_sink contents refuses reference_names o) x a r b
+bytes_sent contents refuses reference_names o x a b (Ok done) some h = wrote_bytes done tt refl (record {
+  grown = record { grows = h.grows; sent = h.sent };
+  refusals = h.refusals;
+  reference_names = h.reference_names;
+})
+bytes_sent contents refuses reference_names o x a b (Err e) some h = met_refusal e tt refl (record {
+  refusal = h.refusal;
+  allowed = h.allowed;
+  answer = h.answer;
+  least = let same = h.sent in omega arith;
+  most = let same = h.sent in omega arith;
+  refusals = h.refusals;
+  reference_names = h.reference_names;
+})
+
+-- a call through a `&mut`
+module _ {S : Type 0} (K : ByteSink S) (a b : MutBor S) (same : b.ghost_name ≡ a.ghost_name) where
+  appended_lent : (x : List ℕ) → BytesAppended K a.now x b.now → BytesAppended (lent_byte_sink K) a x b
+  appended_lent x h = record { grown = h.grown; refusals = h.refusals; reference_names = ap₂ (λ (n : GName) l. n ∷ l) same h.reference_names }
+
+  pub writes_lent : {T : Type 0} (x : List ℕ) (r : Result T Error) → ByteWrites K x a.now r b.now → ByteWrites (lent_byte_sink K) x a r b
+  writes_lent x r (past_limit p q h) = past_limit p q (appended_lent [] h)
+  writes_lent x r (met_refusal e w q h) = met_refusal e w q (record {
+    refusal = h.refusal;
+    allowed = h.allowed;
+    answer = h.answer;
+    least = h.least;
+    most = h.most;
+    refusals = h.refusals;
+    reference_names = ap₂ (λ (n : GName) l. n ∷ l) same h.reference_names;
+  })
+  writes_lent x r (wrote_bytes d w q h) = wrote_bytes d w q (appended_lent x h)

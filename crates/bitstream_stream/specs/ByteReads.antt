@@ -1,0 +1,104 @@
+-- What one read of whole bytes does to a reader of bytes.
+use Rattle.std.specs.Prelude.{◌≡◌, ℕ, ◌+◌, Bool, true, false, List, ◌∷◌, ◌++◌, length, take, nat_le, if◌then◌else◌, Option, Some, Result, Ok, Err}
+use Rattle.std.specs.Borrow.{GName, MutBor}
+use Rattle.std.specs.Io.KnownBytes.{Consumes}
+use Rattle.bitstream_count.specs.declared.error.Error.{Error}
+use Rattle.bitstream_count.specs.declared.error.Error.TheVariants.{OutOfMemory}
+use Rattle.bitstream_count.specs.Entry.{Front, TooShort, Takes}
+use Rattle.bitstream_number.specs.Word.{Order}
+use Rattle.bitstream_order.specs.Fault.{read_refusal_of}
+use Rattle.bitstream_order.specs.Refusal.{Refusal, IsTrueEnd}
+
+pub record ByteReaderState : Type 0 where
+  -- the bytes left in the stream, where it tells them, and how many were taken so far
+  pub bytes : Option (List ℕ)
+  pub taken : ℕ
+  -- the requests of the stream that were refused, the last one first
+  pub refusals : List Refusal
+  -- the names of the references through which the stream is reached
+  pub reference_names : List GName
+
+-- what the states of a reader of bytes mean
+pub record ByteSource (R : Type 0) : Type 1 where
+  pub order : Order
+  pub state : R → ByteReaderState
+  -- the refusals that its stream may make
+  pub may : Refusal → Type 0
+
+-- a call that reads bytes: what it finds at the front of the bytes to read
+abbrev pub ByteReadEntry : Type 0 → Type 0
+ByteReadEntry A = List ℕ → Front A
+
+-- n bytes, whose answer is g of them
+abbrev pub byte_front : {A : Type 0} → ℕ → (List ℕ → Result A Error) → ByteReadEntry A
+byte_front n g bytes = if nat_le n (length bytes) then Takes n (g (take n bytes)) else TooShort
+
+-- n bytes, which are the answer
+unfoldable pub given_bytes : ℕ → ByteReadEntry (List ℕ)
+given_bytes n = byte_front n (λ bytes. Ok bytes)
+
+-- n bytes, whatever they are
+unfoldable pub skipped_bytes : ℕ → ByteReadEntry (Unit {0})
+skipped_bytes n = byte_front n (λ _. Ok tt)
+
+-- these bytes were taken, and no request was refused
+pub record TookBytes (old : ByteReaderState) (bytes : List ℕ) (new : ByteReaderState) : Type 0 where
+  pub loses : Consumes old.bytes new.bytes bytes
+  pub taken : new.taken ≡ old.taken + length bytes
+  pub refusals : new.refusals ≡ old.refusals
+  pub reference_names : new.reference_names ≡ old.reference_names
+
+-- The call takes its front, some bytes, and gives the front's answer: whatever bytes follow them, it is
+-- this one, and no shorter beginning of them has a front.
+pub record TakesByteFront {A : Type 0} (entry : ByteReadEntry A) (old : ByteReaderState) (result : Result A Error) (new : ByteReaderState) : Type 0 where
+  pub bytes : List ℕ
+  pub decides : (more : List ℕ) → entry (bytes ++ more) ≡ Takes (length bytes) result
+  pub needs : (front : List ℕ) (b : ℕ) (back : List ℕ) → bytes ≡ front ++ b ∷ back → entry front ≡ TooShort
+  pub took : TookBytes old bytes new
+
+-- A request was refused, as the stream may refuse. The bytes taken for the call were too few for it; at a
+-- true end so were all bytes left.
+pub record ByteReadFault {A : Type 0} (may : Refusal → Type 0) (entry : ByteReadEntry A) (old : ByteReaderState) (result : Result A Error) (new : ByteReaderState) : Type 0 where
+  pub refusal : Refusal
+  pub allowed : may refusal
+  pub answer : result ≡ Err (read_refusal_of refusal.kind)
+  pub gone : List ℕ
+  pub taken : new.taken ≡ old.taken + length gone
+  pub few : entry gone ≡ TooShort
+  pub ended : IsTrueEnd refusal → (xs : List ℕ) → old.bytes ≡ Some xs → entry xs ≡ TooShort
+  pub refusals : new.refusals ≡ refusal ∷ old.refusals
+  pub reference_names : new.reference_names ≡ old.reference_names
+
+-- Memory that the call asked for itself was refused. The bytes that were taken until then are no more than
+-- the call's front: no beginning of them has one.
+pub record ByteMemoryFault {A : Type 0} (entry : ByteReadEntry A) (old : ByteReaderState) (result : Result A Error) (new : ByteReaderState) : Type 0 where
+  pub answer : result ≡ Err OutOfMemory
+  pub bytes : List ℕ
+  pub needs : (front : List ℕ) (b : ℕ) (back : List ℕ) → bytes ≡ front ++ b ∷ back → entry front ≡ TooShort
+  pub took : TookBytes old bytes new
+
+-- one read of bytes, by what the call means; `grows` where the call asks for memory of its own
+pub data ByteReadOutcome {R A : Type 0} (K : ByteSource R) (grows : Bool) (entry : ByteReadEntry A) (old : R) (result : Result A Error) (new : R) : Type 0 where
+  takes_bytes : TakesByteFront entry (K.state old) result (K.state new) → ByteReadOutcome K grows entry old result new
+  meets_refusal : ByteReadFault K.may entry (K.state old) result (K.state new) → ByteReadOutcome K grows entry old result new
+  wants_memory : grows ≡ true → ByteMemoryFault entry (K.state old) result (K.state new) → ByteReadOutcome K grows entry old result new
+
+-- one read of bytes
+abbrev pub ByteReads : {R A : Type 0} → ByteSource R → ByteReadEntry A → R → Result A Error → R → Type 0
+ByteReads K entry old result new = ByteReadOutcome K false entry old result new
+
+-- one read of bytes that asks for memory of its own
+abbrev pub ByteReadsGrowing : {R A : Type 0} → ByteSource R → ByteReadEntry A → R → Result A Error → R → Type 0
+ByteReadsGrowing K entry old result new = ByteReadOutcome K true entry old result new
+
+-- a state, seen through a reference of this name
+abbrev pub lent_bytes : GName → ByteReaderState → ByteReaderState
+lent_bytes name s = record s { reference_names = name ∷ s.reference_names }
+
+-- a reader of bytes behind a `&mut`
+abbrev pub lent_byte_source : {R : Type 0} → ByteSource R → ByteSource (MutBor R)
+lent_byte_source K = record {
+  order = K.order;
+  state = λ r. lent_bytes r.ghost_name (K.state r.now);
+  may = K.may;
+}

@@ -1,0 +1,141 @@
+//! Calls that read whole bytes.
+ghost use Rattle.std.specs.Prelude.{◌≡◌, length};
+ghost use Rattle.bitstream_order.specs.Parts.{value_bytes};
+ghost use Rattle.bitstream_order.specs.TakeBits.{seen};
+ghost use Rattle.bitstream_stream.specs.ByteReads.{ByteSource, ByteReads, ByteReadsGrowing, given_bytes, skipped_bytes, lent_byte_source};
+
+use bitstream_count::error::Error;
+use bitstream_number::number::Primitive;
+use bitstream_order::order::Endianness;
+use std::alloc::Allocator;
+
+/// How many bytes [`ByteRead::read_to_vec`] asks for at a time.
+const PIECE: usize = 4096;
+
+/// Reads whole bytes.
+///
+/// # Errors
+///
+/// Where the stream beneath refuses a request, a call answers `EndOfInput`, `OutOfMemory` or
+/// `Stream` with the kind of the refusal. Nothing is remembered of it: the next call asks the
+/// stream again.
+///
+/// # Examples
+///
+/// ```
+/// use bitstream_io::{BE, ByteRead, ByteReader, Error, LE, Slice};
+///
+/// let mut reader = ByteReader::<_, BE>::new(Slice::new(&[0xb1, 0xed, 0x3b, 0xc1]));
+/// assert_eq!(rt; reader.read::<u16>()?, 0xb1ed);
+/// assert_eq!(rt; reader.read_as::<LE, u16>()?, 0xc13b);
+/// assert!(rt; matches!(reader.read::<u8>(), Err(Error::EndOfInput)));
+/// ```
+pub trait ByteRead {
+    // What the states of the reader mean.
+    ghost source: { ByteSource Self };
+
+    /// Reads a value of whole bytes, in the reader's order of bytes, and returns it.
+    ///
+    /// # Errors
+    ///
+    /// Those of the stream.
+    fn read<V: Primitive>(&mut self) -> Result<V, Error>
+        ensures reads { ByteReads source (given_bytes V.BYTES) self.old
+            (seen (value_bytes source.order V.be_bytes V.le_bytes) result) self.new };
+
+    /// Reads a value of whole bytes, in the order of bytes F, and returns it.
+    ///
+    /// # Errors
+    ///
+    /// Those of the stream.
+    fn read_as<F: Endianness, V: Primitive>(&mut self) -> Result<V, Error>
+        ensures reads { ByteReads source (given_bytes V.BYTES) self.old
+            (seen (value_bytes F.order V.be_bytes V.le_bytes) result) self.new };
+
+    /// Takes so many bytes, whatever they are.
+    ///
+    /// # Errors
+    ///
+    /// Those of the stream.
+    fn skip(&mut self, bytes: u32) -> Result<(), Error>
+        ensures reads { ByteReads source (skipped_bytes bytes) self.old result self.new };
+
+    /// Fills a buffer. For an empty one nothing is asked of the stream.
+    ///
+    /// # Errors
+    ///
+    /// Those of the stream. What the buffer holds then is not said.
+    fn read_bytes(&mut self, buf: &mut [u8]) -> Result<(), Error>
+        ensures reads { ByteReads source (given_bytes (length buf.old)) self.old
+            (seen (λ _. buf.new) result) self.new }
+    {
+        for i in 0..buf.len() {
+            let byte: [u8; 1] = self.read()?;
+            buf[i] = byte[0];
+        }
+        Ok(())
+    }
+
+    /// Reads as many bytes as V has, and returns them: `read_to_bytes::<[u8; 4]>()` gives an array
+    /// of four.
+    ///
+    /// # Errors
+    ///
+    /// Those of the stream.
+    fn read_to_bytes<V: Primitive>(&mut self) -> Result<V::Bytes, Error>
+        ensures reads { ByteReads source (given_bytes V.BYTES) self.old
+            (seen V.Bytes.items result) self.new }
+    {
+        let mut bytes = V::buffer();
+        self.read_bytes(V::as_bytes_mut(&mut bytes))?;
+        Ok(bytes)
+    }
+
+    /// Reads so many bytes, and returns them. Up to 4096 of them take one buffer of their size;
+    /// more are read 4096 at a time at most, and the buffer grows as they come. So a length that is
+    /// false costs no memory where the stream is short.
+    ///
+    /// # Errors
+    ///
+    /// Those of the stream, and `OutOfMemory` where memory for the bytes is refused.
+    fn read_to_vec<A: Allocator>(&mut self, alloc: A, bytes: usize) -> Result<Vec<u8, A>, Error>
+        ensures reads { ByteReadsGrowing source (given_bytes bytes) self.old
+            (seen (λ read. read.items) result) self.new }
+    {
+        let mut read = Vec::with_capacity(alloc, bytes.min(PIECE))?;
+        while read.len() < bytes {
+            let start = read.len();
+            read.resize(start + (bytes - start).min(PIECE), 0)?;
+            self.read_bytes(&mut read[start..])?;
+        }
+        Ok(read)
+    }
+}
+
+impl<R: ByteRead> ByteRead for &mut R {
+    ghost source = { lent_byte_source R.source };
+
+    fn read<V: Primitive>(&mut self) -> Result<V, Error> {
+        (**self).read()
+    }
+
+    fn read_as<F: Endianness, V: Primitive>(&mut self) -> Result<V, Error> {
+        (**self).read_as::<F, V>()
+    }
+
+    fn skip(&mut self, bytes: u32) -> Result<(), Error> {
+        (**self).skip(bytes)
+    }
+
+    fn read_bytes(&mut self, buf: &mut [u8]) -> Result<(), Error> {
+        (**self).read_bytes(buf)
+    }
+
+    fn read_to_bytes<V: Primitive>(&mut self) -> Result<V::Bytes, Error> {
+        (**self).read_to_bytes::<V>()
+    }
+
+    fn read_to_vec<A: Allocator>(&mut self, alloc: A, bytes: usize) -> Result<Vec<u8, A>, Error> {
+        (**self).read_to_vec(alloc, bytes)
+    }
+}

@@ -1,0 +1,111 @@
+//! A reader of bytes over a stream.
+ghost use Rattle.std.specs.Prelude.{◌≡◌, length};
+ghost use Rattle.bitstream_order.specs.Parts.{value_bytes};
+ghost use Rattle.bitstream_order.specs.Port.{fresh_port};
+ghost use Rattle.bitstream_order.specs.TakeBits.{seen};
+ghost use Rattle.bitstream_stream.specs.ByteReads.{ByteReads, given_bytes, skipped_bytes};
+
+use crate::byte_read::ByteRead;
+use bitstream_count::error::Error;
+use bitstream_number::number::Primitive;
+use bitstream_order::order::Endianness;
+use bitstream_order::port::Port;
+use bitstream_order::seek::SeekSource;
+use bitstream_order::source::Source;
+use std::io;
+use std::io::{Seek, SeekFrom};
+use std::marker::PhantomData;
+
+/// How many bytes are skipped at a time.
+const PIECE: usize = 256;
+
+/// Reads whole bytes from a stream, and holds none back.
+///
+/// # Examples
+///
+/// ```
+/// use bitstream_io::{ByteRead, ByteReader, LE, Slice};
+///
+/// let mut reader = ByteReader::<_, LE>::new(Slice::new(&[0x01, 0x02, 0x03, 0x04, 0x05]));
+/// assert_eq!(rt; reader.read::<u16>()?, 0x0201);
+/// reader.skip(1)?;
+/// assert_eq!(rt; reader.read_to_bytes::<[u8; 2]>()?, [0x04, 0x05]);
+/// ```
+#[derive(Drop)]
+pub struct ByteReader<R, E> {
+    port: Port<R>,
+    order: PhantomData<E>,
+}
+
+impl<R: Source, E: Endianness> ByteReader<R, E> {
+    ghost use Rattle.bitstream_stream.specs.ByteReader.{byte_reader_state};
+
+    /// Returns a reader of a stream's bytes. Nothing is asked of the stream yet.
+    pub fn new(reader: R) -> ByteReader<R, E>
+        ensures { ⟦<Self as ByteRead>⟧.source.state result
+            ≡ byte_reader_state (fresh_port (R.remaining reader) (R.reference_names reader)) }
+    {
+        ByteReader {
+            port: Port::new(reader),
+            order: PhantomData,
+        }
+    }
+
+    /// Returns a reader as [`new`](ByteReader::new) does, with its order as an argument.
+    pub fn endian(reader: R, _endian: E) -> ByteReader<R, E>
+    where
+        E: Drop,
+        ensures { ⟦<Self as ByteRead>⟧.source.state result
+            ≡ byte_reader_state (fresh_port (R.remaining reader) (R.reference_names reader)) }
+    {
+        ByteReader::new(reader)
+    }
+}
+
+impl<R: Source, E: Endianness> ByteRead for ByteReader<R, E> {
+    ghost use Rattle.bitstream_stream.specs.ByteReader.{byte_reader_source};
+
+    ghost source = { byte_reader_source R.remaining R.refuses R.reference_names E.order };
+
+    fn read<V: Primitive>(&mut self) -> Result<V, Error> {
+        self.read_as::<E, V>()
+    }
+
+    fn read_as<F: Endianness, V: Primitive>(&mut self) -> Result<V, Error> {
+        let bytes = self.read_to_bytes::<V>()?;
+        Ok(F::value_of_bytes(bytes))
+    }
+
+    fn skip(&mut self, bytes: u32) -> Result<(), Error> {
+        let mut skipped = [0u8; PIECE];
+        let mut left = bytes as usize;
+        while left > 0 {
+            let piece = left.min(PIECE);
+            self.read_bytes(&mut skipped[..piece])?;
+            left -= piece;
+        }
+        Ok(())
+    }
+
+    fn read_bytes(&mut self, buf: &mut [u8]) -> Result<(), Error> {
+        if buf.is_empty() {
+            return Ok(());
+        }
+        self.port.fetch(buf)
+    }
+}
+
+impl<R: SeekSource, E: Endianness> Seek for ByteReader<R, E> {
+    ghost use Rattle.bitstream_order.specs.Port.{held_stream};
+
+    ghost stream_position = { λ r. R.position (held_stream r.port) };
+
+    ghost stream_bytes = { λ r. R.bytes (held_stream r.port) };
+
+    fn seek(&mut self, to: SeekFrom) -> io::Result<u64> {
+        match self.port.seek(to) {
+            Ok(at) => Ok(at),
+            Err(error) => Err(io::Error::from(error)),
+        }
+    }
+}

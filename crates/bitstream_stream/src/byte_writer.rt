@@ -1,0 +1,91 @@
+//! A writer of bytes to a stream.
+ghost use Rattle.std.specs.Prelude.{◌≡◌};
+ghost use Rattle.bitstream_order.specs.Port.{fresh_port};
+
+use crate::byte_write::ByteWrite;
+use bitstream_count::error::Error;
+use bitstream_number::number::Primitive;
+use bitstream_order::order::Endianness;
+use bitstream_order::port::Port;
+use bitstream_order::target::Target;
+use std::marker::PhantomData;
+
+/// How many zeros are written at a time.
+const PIECE: usize = 256;
+
+/// Writes whole bytes to a stream, and holds none back.
+///
+/// # Examples
+///
+/// ```
+/// use bitstream_io::{ByteWrite, ByteWriter, LE};
+///
+/// let mut bytes = Vec::new(rt.alloc());
+/// let mut writer = ByteWriter::<_, LE>::new(&mut bytes);
+/// writer.write(0x0201_u16)?;
+/// writer.write_bytes(&[3, 4])?;
+/// assert_eq!(rt; bytes.as_slice(), [1, 2, 3, 4].as_slice());
+/// ```
+#[derive(Drop)]
+pub struct ByteWriter<W, E> {
+    port: Port<W>,
+    order: PhantomData<E>,
+}
+
+impl<W: Target, E: Endianness> ByteWriter<W, E> {
+    ghost use Rattle.bitstream_stream.specs.ByteWriter.{byte_writer_state};
+
+    /// Returns a writer to a stream. Nothing is asked of the stream yet.
+    pub fn new(stream: W) -> ByteWriter<W, E>
+        ensures { byte_writer_state W.contents W.reference_names result
+            ≡ fresh_port (W.contents stream) (W.reference_names stream) }
+    {
+        ByteWriter {
+            port: Port::new(stream),
+            order: PhantomData,
+        }
+    }
+
+    /// Returns a writer as [`new`](ByteWriter::new) does, with its order as an argument.
+    pub fn endian(stream: W, _endian: E) -> ByteWriter<W, E>
+    where
+        E: Drop,
+        ensures { byte_writer_state W.contents W.reference_names result
+            ≡ fresh_port (W.contents stream) (W.reference_names stream) }
+    {
+        ByteWriter::new(stream)
+    }
+}
+
+impl<W: Target, E: Endianness> ByteWrite for ByteWriter<W, E> {
+    ghost use Rattle.bitstream_stream.specs.ByteWriter.{byte_writer_sink};
+
+    ghost sink = { byte_writer_sink W.contents W.refuses W.reference_names E.order };
+
+    fn write<V: Primitive>(&mut self, value: V) -> Result<(), Error> {
+        self.write_as::<E, V>(value)
+    }
+
+    fn write_as<F: Endianness, V: Primitive>(&mut self, value: V) -> Result<(), Error> {
+        let bytes = F::value_to_bytes(value);
+        self.write_bytes(V::as_bytes(&bytes))
+    }
+
+    fn write_bytes(&mut self, bytes: &[u8]) -> Result<(), Error> {
+        if bytes.is_empty() {
+            return Ok(());
+        }
+        self.port.send(bytes)
+    }
+
+    fn pad(&mut self, bytes: u32) -> Result<(), Error> {
+        let zeros = [0u8; PIECE];
+        let mut left = bytes as usize;
+        while left > 0 {
+            let piece = left.min(PIECE);
+            self.write_bytes(&zeros[..piece])?;
+            left -= piece;
+        }
+        Ok(())
+    }
+}
