@@ -1,5 +1,6 @@
 -- How reads of whole bytes compose.
-use Rattle.std.proofs.Common.{◌≡◌, ℕ, ◌+◌, ◌<◌, ◌≤◌, inl, inr, Bool, true, false, List, [], ◌∷◌, ◌++◌, ◌-◌, length, take, drop, replicate, set, Option, Some, Result, Ok, Err, refl, sym, ap, ap₂, ◌∙◌, subst, append-nil, length-append, length-drop, length-take-le, arith}
+use Rattle.std.proofs.Common.{◌≡◌, ℕ, ◌+◌, ◌<◌, ◌≤◌, inl, inr, Bool, List, [], ◌∷◌, ◌++◌, ◌-◌, length, take, drop, replicate, set, Result, Ok, Err, refl, sym, ap, ap₂, ◌∙◌, subst, append-nil, length-append, length-drop, length-take-le, arith}
+use Rattle.std.specs.Io.KnownBytes.{Consumes}
 use Rattle.std.proofs.KnownBytes.{Consumes-nil, Consumes-trans}
 use Rattle.std.proofs.Math.Seq.{take-append_seam, drop-append_seam, take-length}
 use Rattle.std.proofs.lemmas.List.{nil_from_length, length-replicate, take_all}
@@ -9,17 +10,16 @@ use Rattle.std.proofs.lemmas.Bool.{le-leb, lt-leb, cases_lt}
 use Rattle.std.specs.Borrow.{GName, MutBor}
 use Rattle.std.specs.Result.{IsErrAnd}
 use Rattle.bitstream_count.specs.declared.error.Error.{Error}
-use Rattle.bitstream_count.specs.declared.error.Error.TheVariants.{EndOfInput, OutOfMemory}
+use Rattle.bitstream_count.specs.declared.error.Error.TheVariants.{OutOfMemory}
 use Rattle.bitstream_count.specs.Entry.{Front, TooShort, Takes}
-use Rattle.bitstream_order.specs.Fault.{read_refusal_of}
 use Rattle.bitstream_number.specs.Word.{Order, High, Low}
 use Rattle.bitstream_order.specs.Parts.{value_bytes}
 use Rattle.bitstream_order.specs.Port.{PortState, Fetched, FetchRefused, Fetches}
-use Rattle.bitstream_order.specs.Refusal.{Refusal, IsTrueEnd, TrueEnds}
+use Rattle.bitstream_order.specs.Refusal.{Refusal}
 use Rattle.bitstream_order.specs.TakeBits.{seen}
 use Rattle.bitstream_order.proofs.FaultLemmas.{end_few}
 use Rattle.bitstream_stream.specs.ByteReader.{byte_reader_state}
-use Rattle.bitstream_stream.specs.ByteReads.{ByteReaderState, ByteSource, byte_front, given_bytes, skipped_bytes, TookBytes, TakesByteFront, ByteReadFault, ByteMemoryFault, ByteReadOutcome, takes_bytes, meets_refusal, wants_memory, ByteReads, ByteReadsGrowing, lent_bytes, lent_byte_source}
+use Rattle.bitstream_stream.specs.ByteReads.{ByteReaderState, ByteSource, byte_front, given_bytes, skipped_bytes, TookBytes, TakesByteFront, ByteReadFault, ByteReadOutcome, takes_bytes, meets_refusal, wants_memory, ByteReads, ByteReadsGrowing, lent_bytes, lent_byte_source}
 use Rattle.bitstream_stream.proofs.ReadsLemmas.{Consumes-known}
 
 -- ---- fronts of n bytes
@@ -130,6 +130,8 @@ bytes_stop {K = K} a b n x e s t u le h (meets_refusal k) =
       allowed = k.allowed;
       answer = let answer = k.answer in cc;
       gone = x ++ k.gone;
+      loses = Consumes-trans (K.state s).bytes (K.state t).bytes k.refusal.before x k.gone took.loses k.loses;
+      after = k.after;
       taken = let i = took.taken in let j = k.taken in let l = length-append x k.gone in omega arith;
       few =
           let few = too_few b (λ w. Ok w) k.gone k.few in
@@ -168,6 +170,8 @@ bytes_skipped n (Err e) s t (meets_refusal h) = meets_refusal (record {
   allowed = h.allowed;
   answer = let answer = h.answer in cc;
   gone = h.gone;
+  loses = h.loses;
+  after = h.after;
   taken = h.taken;
   few = byte_front-none n (λ _. Ok tt) h.gone (too_few n (λ w. Ok w) h.gone h.few);
   ended = λ end xs known. byte_front-none n (λ _. Ok tt) xs (too_few n (λ w. Ok w) xs (h.ended end xs known));
@@ -188,6 +192,8 @@ refused_bytes may error n old new some h = record {
   allowed = h.allowed;
   answer = ap Err h.answer;
   gone = [];
+  loses = subst (λ b. Consumes old.bytes b []) (sym h.before) (Consumes-nil old.bytes);
+  after = h.after;
   taken = let same = h.fetched in omega arith;
   few = byte_front-none n (λ w. Ok w) [] some;
   ended = λ end xs known. byte_front-none n (λ w. Ok w) xs (end_few may error old new n xs h end known);
@@ -221,6 +227,8 @@ bytes_lent {K = K} s t same (meets_refusal h) = meets_refusal (record {
   allowed = h.allowed;
   answer = h.answer;
   gone = h.gone;
+  loses = h.loses;
+  after = h.after;
   taken = h.taken;
   few = h.few;
   ended = h.ended;

@@ -1,7 +1,9 @@
 -- How writes of whole bytes compose.
-use Rattle.std.proofs.Common.{◌≡◌, ℕ, ◌+◌, ◌<◌, ◌≤◌, List, [], ◌∷◌, ◌++◌, length, take, replicate, Option, None, Result, Ok, Err, refl, sym, ap, ap₂, ◌∙◌, subst, length-append, arith}
-use Rattle.std.proofs.lemmas.List.{take-replicate, length-replicate, replicate-append-replicate}
+use Rattle.std.proofs.Common.{◌≡◌, ℕ, ◌+◌, ◌-◌, ◌<◌, ◌≤◌, List, [], ◌∷◌, ◌++◌, append_assoc, length, take, replicate, Option, None, Result, Ok, Err, refl, sym, ap, ap₂, ◌∙◌, subst, length-append, arith}
+use Rattle.std.proofs.lemmas.List.{take-replicate, replicate-append-replicate}
+use Rattle.std.proofs.KnownBytes.{Appends-nil, Appends-trans}
 use Rattle.std.specs.Borrow.{GName, MutBor}
+use Rattle.std.specs.Io.KnownBytes.{Appends}
 use Rattle.std.specs.declared.io.ErrorKind.{ErrorKind}
 use Rattle.bitstream_count.specs.declared.error.Error.{Error}
 use Rattle.bitstream_number.specs.Word.{Order}
@@ -28,23 +30,25 @@ module _ {S : Type 0} (K : ByteSink S) where
   was_written x s done t (met_refusal e w r h) = cc
   was_written x s done t (wrote_bytes d w r h) = h
 
-  pub was_stopped : {T : Type 0} (x : List ℕ) (s : S) (e : Error) (t : S) → K.limit ≡ None → ByteWrites {T = T} K x s (Err e) t → ByteWriteFault K s (length x) e t
+  pub was_stopped : {T : Type 0} (x : List ℕ) (s : S) (e : Error) (t : S) → K.limit ≡ None → ByteWrites {T = T} K x s (Err e) t → ByteWriteFault K s x e t
   was_stopped x s e t none (past_limit b r h) = absurd (subst (λ l. IsBeyond l (K.len s + length x)) none b)
-  was_stopped {T = T} x s e t none (met_refusal d w r h) = let same : d ≡ e = cc in subst (λ y. ByteWriteFault K s (length x) y t) same h
+  was_stopped {T = T} x s e t none (met_refusal d w r h) = let same : d ≡ e = cc in subst (λ y. ByteWriteFault K s x y t) same h
   was_stopped x s e t none (wrote_bytes d w r h) = cc
 
-  -- bytes that went before, of n in all
-  pub stopped_behind : (x : List ℕ) (m n : ℕ) (e : Error) (s t u : S) → length x + m ≤ n → BytesAppended K s x t → ByteWriteFault K t m e u → ByteWriteFault K s n e u
-  stopped_behind x m n e s t u le h k =
-      let far = K.appends_len s t x h.grown in
-      let least = k.least in
-      let most = k.most in
+  -- bytes that went before, with others behind them
+  pub stopped_behind : (x y z : List ℕ) (e : Error) (s t u : S) → BytesAppended K s x t → ByteWriteFault K t y e u → ByteWriteFault K s (x ++ (y ++ z)) e u
+  stopped_behind x y z e s t u h k =
       record {
         refusal = k.refusal;
         allowed = k.allowed;
         answer = k.answer;
-        least = omega arith;
-        most = omega arith;
+        front = x ++ k.front;
+        back = k.back ++ z;
+        parts = ap (λ l. x ++ (l ++ z)) k.parts ∙ ap (λ l. x ++ l) (append_assoc k.front k.back z) ∙ sym (append_assoc x k.front (k.back ++ z));
+        some = let some = k.some in omega (arith, length-append k.back z);
+        before = Appends-trans (K.contents s) (K.contents t) k.refusal.before x k.front (K.grows s t x h.grown) k.before;
+        after = k.after;
+        sent = let far = K.appends_len s t x h.grown in let sent = k.sent in omega (arith, length-append x k.front);
         refusals = k.refusals ∙ ap (λ l. k.refusal ∷ l) h.refusals;
         reference_names = k.reference_names ∙ h.reference_names;
       }
@@ -56,11 +60,14 @@ module _ {S : Type 0} (K : ByteSink S) where
       subst (λ x. BytesAppended K s x u) (replicate-append-replicate k n 0) (more_appended (replicate k 0) (replicate n 0) s t u h zeros)
 
   pub zeros_stopped : {T : Type 0} (k n size all : ℕ) (e : Error) (s t u : S) → n ≤ size → k + n ≤ all → K.limit ≡ None → BytesAppended K s (replicate k 0) t → ByteWrites {T = T} K (take n (replicate size 0)) t (Err e) u
-      → ByteWriteFault K s (length (replicate {A = ℕ} all 0)) e u
+      → ByteWriteFault K s (replicate all 0) e u
   zeros_stopped k n size all e s t u le room none h r =
-      let few : ByteWriteFault K t n e u = subst (λ m. ByteWriteFault K t m e u) (ap (λ (l : List ℕ). length l) (take-replicate n size 0 le) ∙ length-replicate n 0) (was_stopped (take n (replicate size 0)) t e u none r) in
-      subst (λ m. ByteWriteFault K s m e u) (sym (length-replicate all 0))
-      (stopped_behind (replicate k 0) n all e s t u (subst (λ (i : ℕ). i + n ≤ all) (sym (length-replicate k 0)) room) h few)
+      let few : ByteWriteFault K t (replicate n 0) e u = subst (λ x. ByteWriteFault K t x e u) (take-replicate n size 0 le) (was_stopped (take n (replicate size 0)) t e u none r) in
+      let m = all - (k + n) in
+      let sum : k + (n + m) ≡ all = omega arith in
+      let zeros : replicate {A = ℕ} k 0 ++ (replicate n 0 ++ replicate m 0) ≡ replicate all 0 =
+      ap (λ (l : List ℕ). replicate k 0 ++ l) (replicate-append-replicate n m 0) ∙ replicate-append-replicate k (n + m) 0 ∙ ap (λ (i : ℕ). replicate i 0) sum in
+      subst (λ x. ByteWriteFault K s x e u) zeros (stopped_behind (replicate k 0) (replicate n 0) (replicate m 0) e s t u h few)
 
 -- a request to send some bytes is a write of them
 pub bytes_sent : {W E : Type 0} (contents : W → Option (List ℕ)) (refuses : W → ℕ → ErrorKind → W → Type 0) (reference_names : W → List GName) (o : Order) (x : List ℕ) (a b : ByteWriter W E) (r : Result (Unit {0}) Error) → 0 < length x
@@ -74,8 +81,13 @@ bytes_sent contents refuses reference_names o x a b (Err e) some h = met_refusal
   refusal = h.refusal;
   allowed = h.allowed;
   answer = h.answer;
-  least = let same = h.sent in omega arith;
-  most = let same = h.sent in omega arith;
+  front = [];
+  back = x;
+  parts = refl;
+  some = some;
+  before = subst (λ l. Appends (byte_writer_state contents reference_names a).bytes l []) (sym h.before) (Appends-nil (byte_writer_state contents reference_names a).bytes);
+  after = h.after;
+  sent = let same = h.sent in omega arith;
   refusals = h.refusals;
   reference_names = h.reference_names;
 })
@@ -91,8 +103,13 @@ module _ {S : Type 0} (K : ByteSink S) (a b : MutBor S) (same : b.ghost_name ≡
     refusal = h.refusal;
     allowed = h.allowed;
     answer = h.answer;
-    least = h.least;
-    most = h.most;
+    front = h.front;
+    back = h.back;
+    parts = h.parts;
+    some = h.some;
+    before = h.before;
+    after = h.after;
+    sent = h.sent;
     refusals = h.refusals;
     reference_names = ap₂ (λ (n : GName) l. n ∷ l) same h.reference_names;
   })

@@ -57,12 +57,14 @@ pub record TakesByteFront {A : Type 0} (entry : ByteReadEntry A) (old : ByteRead
   pub took : TookBytes old bytes new
 
 -- A request was refused, as the stream may refuse. The bytes taken for the call were too few for it; at a
--- true end so were all bytes left.
+-- true end so were all bytes left. The stream lost these bytes, and then is as the refusal left it.
 pub record ByteReadFault {A : Type 0} (may : Refusal → Type 0) (entry : ByteReadEntry A) (old : ByteReaderState) (result : Result A Error) (new : ByteReaderState) : Type 0 where
   pub refusal : Refusal
   pub allowed : may refusal
   pub answer : result ≡ Err (read_refusal_of refusal.kind)
   pub gone : List ℕ
+  pub loses : Consumes old.bytes refusal.before gone
+  pub after : new.bytes ≡ refusal.after
   pub taken : new.taken ≡ old.taken + length gone
   pub few : entry gone ≡ TooShort
   pub ended : IsTrueEnd refusal → (xs : List ℕ) → old.bytes ≡ Some xs → entry xs ≡ TooShort

@@ -1,6 +1,7 @@
 -- What a sink of bytes is, and what one write call does to it.
-use Rattle.std.specs.Prelude.{◌≡◌, ℕ, ◌+◌, ◌<◌, ◌≤◌, List, [], ◌∷◌, ◌++◌, length, Option, Result, Ok, Err}
+use Rattle.std.specs.Prelude.{◌≡◌, ℕ, ◌+◌, ◌<◌, List, [], ◌∷◌, ◌++◌, length, Option, Result, Ok, Err}
 use Rattle.std.specs.Borrow.{GName, MutBor}
+use Rattle.std.specs.Io.KnownBytes.{Appends}
 use Rattle.bitstream_number.specs.Word.{Order}
 use Rattle.bitstream_count.specs.declared.error.Error.{Error}
 use Rattle.bitstream_count.specs.declared.error.Error.TheVariants.{CounterOverflow}
@@ -13,6 +14,8 @@ pub record ByteSink (S : Type 0) : Type 1 where
   pub order : Order
   -- the second state is the first with these bytes behind it
   pub appends : S → List ℕ → S → Type 0
+  -- the bytes that its stream holds, where it tells
+  pub contents : S → Option (List ℕ)
   -- how many bytes were written
   pub len : S → ℕ
   -- the greatest number of bytes, for a counter
@@ -25,6 +28,7 @@ pub record ByteSink (S : Type 0) : Type 1 where
   pub reference_names : S → List GName
   pub appends_nil : (s : S) → appends s [] s
   pub appends_trans : (s t u : S) (x y : List ℕ) → appends s x t → appends t y u → appends s (x ++ y) u
+  pub grows : (s t : S) (x : List ℕ) → appends s x t → Appends (contents s) (contents t) x
   pub within : (s : S) → IsWithin limit (len s)
   pub appends_len : (s t : S) (x : List ℕ) → appends s x t → len t ≡ len s + length x
 
@@ -34,13 +38,19 @@ pub record BytesAppended {S : Type 0} (K : ByteSink S) (old : S) (bytes : List �
   pub refusals : K.refusals new ≡ K.refusals old
   pub reference_names : K.reference_names new ≡ K.reference_names old
 
--- a request was refused, as the stream may refuse, and fewer than so many bytes were sent before
-pub record ByteWriteFault {S : Type 0} (K : ByteSink S) (old : S) (count : ℕ) (error : Error) (new : S) : Type 0 where
+-- A request was refused, as the stream may refuse. A front of the bytes was sent before, and the stream is as the
+-- refusal left it.
+pub record ByteWriteFault {S : Type 0} (K : ByteSink S) (old : S) (bytes : List ℕ) (error : Error) (new : S) : Type 0 where
   pub refusal : Refusal
   pub allowed : K.may refusal
   pub answer : error ≡ refusal_of refusal.kind
-  pub least : K.len old ≤ K.len new
-  pub most : K.len new < K.len old + count
+  pub front : List ℕ
+  pub back : List ℕ
+  pub parts : bytes ≡ front ++ back
+  pub some : 0 < length back
+  pub before : Appends (K.contents old) refusal.before front
+  pub after : K.contents new ≡ refusal.after
+  pub sent : K.len new ≡ K.len old + length front
   pub refusals : K.refusals new ≡ refusal ∷ K.refusals old
   pub reference_names : K.reference_names new ≡ K.reference_names old
 
@@ -48,7 +58,7 @@ pub record ByteWriteFault {S : Type 0} (K : ByteSink S) (old : S) (count : ℕ) 
 pub data ByteWrites {S T : Type 0} (K : ByteSink S) (bytes : List ℕ) (old : S) (result : Result T Error) (new : S) : Type 0 where
   past_limit : IsBeyond K.limit (K.len old + length bytes) → result ≡ Err CounterOverflow → BytesAppended K old [] new
       → ByteWrites K bytes old result new
-  met_refusal : (error : Error) → IsWithin K.limit (K.len old + length bytes) → result ≡ Err error → ByteWriteFault K old (length bytes) error new
+  met_refusal : (error : Error) → IsWithin K.limit (K.len old + length bytes) → result ≡ Err error → ByteWriteFault K old bytes error new
       → ByteWrites K bytes old result new
   wrote_bytes : (done : T) → IsWithin K.limit (K.len old + length bytes) → result ≡ Ok done → BytesAppended K old bytes new
       → ByteWrites K bytes old result new
@@ -58,6 +68,7 @@ abbrev pub lent_byte_sink : {S : Type 0} → ByteSink S → ByteSink (MutBor S)
 lent_byte_sink K = record {
   order = K.order;
   appends = λ a x b. K.appends a.now x b.now;
+  contents = λ a. K.contents a.now;
   len = λ a. K.len a.now;
   limit = K.limit;
   refusals = λ a. K.refusals a.now;
@@ -65,6 +76,7 @@ lent_byte_sink K = record {
   reference_names = λ a. a.ghost_name ∷ K.reference_names a.now;
   appends_nil = λ a. K.appends_nil a.now;
   appends_trans = λ a b c x y p q. K.appends_trans a.now b.now c.now x y p q;
+  grows = λ a b x p. K.grows a.now b.now x p;
   within = λ a. K.within a.now;
   appends_len = λ a b x p. K.appends_len a.now b.now x p;
 }

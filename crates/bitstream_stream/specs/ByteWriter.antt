@@ -36,6 +36,7 @@ byte_writer_sink {W} {E} contents refuses reference_names o =
     record {
       order = o;
       appends = λ a x b. SentBytes (state a) x (state b);
+      contents = λ a. (state a).bytes;
       len = λ a. (state a).sent;
       limit = None;
       refusals = λ a. (state a).refusals;
@@ -43,6 +44,7 @@ byte_writer_sink {W} {E} contents refuses reference_names o =
       reference_names = λ a. (state a).reference_names;
       appends_nil = λ a. SentBytes-nil (state a);
       appends_trans = λ a b c x y p q. SentBytes-trans (state a) (state b) (state c) x y p q;
+      grows = λ a b x p. p.grows;
       within = λ _. tt;
       appends_len = λ a b x p. p.sent;
     }

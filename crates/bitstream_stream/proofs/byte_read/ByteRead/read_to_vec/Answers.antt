@@ -1,5 +1,5 @@
-use Rattle.std.proofs.Common.{rules, ◌≡◌, ◌+◌, ◌-◌, ◌≤◌, ℕ, List, [], ◌++◌, take, drop, replicate, length, length-append, length-drop, Ok, Err, refl, sym, ap, ◌∙◌, subst, arith, length-take-le}
-use Rattle.bitstream_stream.specs.ByteReads.{ByteReads, ByteReadsGrowing, given_bytes}
+use Rattle.std.proofs.Common.{rules, ◌≡◌, ◌+◌, ◌-◌, ◌≤◌, ℕ, [], ◌++◌, take, drop, replicate, length, length-append, length-drop, Ok, ap, ◌∙◌, arith, length-take-le}
+use Rattle.bitstream_stream.specs.ByteReads.{ByteReads, given_bytes}
 use Rattle.bitstream_stream.proofs.ReadsLemmas.{seen_err}
 use Rattle.bitstream_stream.proofs.ByteReadsLemmas.{bytes_took, bytes_none, bytes_more, bytes_stop, bytes_starved, tail_filled}
 use Rattle.bitstream_stream.proofs.byte_read.ByteRead.read_to_vec.Goals as goal

@@ -1,4 +1,4 @@
-use Rattle.std.proofs.Common.{rules, ◌≡◌, ◌+◌, ◌-◌, ◌≤◌, ℕ, List, [], ◌++◌, take, length, Ok, Err, refl, sym, ap, ◌∙◌, subst, arith, length-take-le}
+use Rattle.std.proofs.Common.{rules, ◌≡◌, ◌+◌, ◌≤◌, [], ◌++◌, take, length, Ok, Err, subst, arith, length-take-le}
 use Rattle.bitstream_stream.specs.ByteReads.{ByteReads, given_bytes}
 use Rattle.bitstream_stream.specs.ByteReader.{byte_reader_source}
 use Rattle.bitstream_stream.proofs.ByteReadsLemmas.{bytes_none, bytes_more, bytes_stop, bytes_skipped, left_by}

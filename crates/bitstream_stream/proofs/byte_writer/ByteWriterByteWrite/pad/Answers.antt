@@ -1,4 +1,4 @@
-use Rattle.std.proofs.Common.{rules, ◌≡◌, ◌+◌, ◌≤◌, ℕ, replicate, Err, refl, ap, ◌∙◌, subst, arith}
+use Rattle.std.proofs.Common.{rules, ◌≡◌, ◌+◌, ◌≤◌, replicate, Err, refl, ap, ◌∙◌, subst, arith}
 use Rattle.std.proofs.lemmas.Result.{err_from_is_err_and}
 use Rattle.bitstream_stream.specs.ByteSink.{BytesAppended, met_refusal, wrote_bytes}
 use Rattle.bitstream_stream.specs.ByteWriter.{byte_writer_sink}

@@ -1,6 +1,6 @@
 use Rattle.std.proofs.Common.{rules, ◌≡◌, [], refl}
 use Rattle.std.proofs.lemmas.List.{nil_from_length}
-use Rattle.bitstream_stream.specs.ByteSink.{ByteWrites, wrote_bytes}
+use Rattle.bitstream_stream.specs.ByteSink.{wrote_bytes}
 use Rattle.bitstream_stream.specs.ByteWriter.{byte_writer_sink}
 use Rattle.bitstream_stream.proofs.ByteWritesLemmas.{none_appended, bytes_sent}
 use Rattle.bitstream_stream.proofs.byte_writer.ByteWriterByteWrite.write_bytes.Goals as goal
