@@ -35,13 +35,13 @@ fn packs_a_sample(rt: HostRuntime) -> Result<(), Fail> {
     let sample = Sample {
         seconds: 0x12345,
         running: true,
-        temperature: 293,
+        temperature: -20,
         pressure: 101325,
     };
     let bytes = sample.pack(rt.alloc())?;
     assert_eq!(rt;
         bytes.as_slice(),
-        [0x12, 0x34, 0x5c, 0x95, 0x8b, 0xcd].as_slice()
+        [0x12, 0x34, 0x5f, 0xb1, 0x8b, 0xcd].as_slice()
     );
     assert_eq!(rt;
         heartbeat(rt.alloc(), 5, true)?.as_slice(),
@@ -55,7 +55,7 @@ fn reads_the_header_that_was_written(rt: HostRuntime) -> Result<(), Fail> {
     let header = Header {
         version: 5,
         acknowledge: true,
-        priority: 14,
+        priority: -2,
         length: 0x0203,
     };
     let mut bytes = Vec::new(rt.alloc());

@@ -1,10 +1,10 @@
 -- The header of a protocol's packets.
-use Rattle.std.specs.Prelude.{ℕ, ◌^◌, ◌<◌, List, [], ◌∷◌}
+use Rattle.std.specs.Prelude.{◌^◌, ◌<◌, List, [], ◌∷◌}
 use Rattle.bitstream_io.specs.Entry.{ReadEntry, WriteEntry, gives}
-use Rattle.bitstream_io.specs.ReadTable.{bit_entry, unsigned_entry}
+use Rattle.bitstream_io.specs.ReadTable.{bit_entry, signed_entry, unsigned_entry}
 use Rattle.bitstream_io.specs.Steps.{◌>>=◌}
-use Rattle.bitstream_io.specs.Word.{Order}
-use Rattle.bitstream_io.specs.WriteTable.{bit, unsigned}
+use Rattle.bitstream_io.specs.Word.{Order, FitsSignedBits}
+use Rattle.bitstream_io.specs.WriteTable.{bit, signed, unsigned}
 use Rattle.bitstream_callers.specs.declared.header.Header.{Header}
 
 -- the reads of a header, in order
@@ -12,7 +12,7 @@ abbrev pub header_entry : Order → ReadEntry Header
 header_entry o = do
   version ← unsigned_entry o 8 3
   acknowledge ← bit_entry
-  priority ← unsigned_entry o 8 4
+  priority ← signed_entry o 8 4
   length ← unsigned_entry o 16 16
   gives (record { version = version; acknowledge = acknowledge; priority = priority; length = length })
 
@@ -21,12 +21,12 @@ abbrev pub header_writes : Order → Header → List WriteEntry
 header_writes o header =
     unsigned o 8 3 header.version
     ∷ bit header.acknowledge
-    ∷ unsigned o 8 4 header.priority
+    ∷ signed o 8 4 header.priority
     ∷ unsigned o 16 16 header.length
     ∷ []
 
 -- each field fits its bits
 pub record Fits (header : Header) : Type 0 where
   pub version : header.version < 2 ^ 3
-  pub priority : header.priority < 2 ^ 4
+  pub priority : FitsSignedBits 4 header.priority
   pub length : header.length < 2 ^ 16

@@ -3,7 +3,7 @@ use Rattle.std.specs.Prelude.{Bool, List, [], ◌∷◌, ◌++◌}
 use Rattle.bitstream_io.specs.Entry.{WriteEntry}
 use Rattle.bitstream_io.specs.Run.{write_run}
 use Rattle.bitstream_io.specs.Word.{Order, High}
-use Rattle.bitstream_io.specs.WriteTable.{align, bit, unsigned}
+use Rattle.bitstream_io.specs.WriteTable.{align, bit, signed, unsigned}
 use Rattle.bitstream_callers.specs.declared.telemetry.Sample.{Sample}
 
 -- the writes of a sample, in order
@@ -11,7 +11,7 @@ abbrev pub sample_writes : Order → Sample → List WriteEntry
 sample_writes o sample =
     unsigned o 32 20 sample.seconds
     ∷ bit sample.running
-    ∷ unsigned o 16 9 sample.temperature
+    ∷ signed o 16 9 sample.temperature
     ∷ unsigned o 32 18 sample.pressure
     ∷ []
 

@@ -17,8 +17,8 @@ pub struct Header {
     pub version: u8,
     /// Whether the packet is to be acknowledged.
     pub acknowledge: bool,
-    /// How urgent the packet is, below 16.
-    pub priority: u8,
+    /// How urgent the packet is, from -8 to 7.
+    pub priority: i8,
     /// The bytes that follow.
     pub length: u16,
 }
@@ -44,7 +44,7 @@ impl Header {
         Ok(Header {
             version: reader.read::<Bits<3>, u8>()?,
             acknowledge: reader.read_bit()?,
-            priority: reader.read::<Bits<4>, u8>()?,
+            priority: reader.read::<Bits<4>, i8>()?,
             length: reader.read::<Bits<16>, u16>()?,
         })
     }
@@ -56,11 +56,12 @@ impl Header {
     /// `Checked` for a field that its bits do not hold: the fields before it are written then. Else as
     /// the sink has them.
     pub fn write<W: BitWrite>(&self, writer: &mut W) -> Result<(), Error>
-        ensures { WritesAll W.sink (header_writes W.sink.order self.now) writer.old result writer.new }
+        ensures { WritesAll W.sink (header_writes W.sink.order self.now)
+            writer.old result writer.new }
     {
         writer.write::<Bits<3>, u8>(self.version)?;
         writer.write_bit(self.acknowledge)?;
-        writer.write::<Bits<4>, u8>(self.priority)?;
+        writer.write::<Bits<4>, i8>(self.priority)?;
         writer.write::<Bits<16>, u16>(self.length)
     }
 }

@@ -14,8 +14,8 @@ pub struct Sample {
     pub seconds: u32,
     /// Whether the engine runs.
     pub running: bool,
-    /// Kelvin, below 2^9.
-    pub temperature: u16,
+    /// Degrees Celsius, from -2^8 to 2^8 - 1.
+    pub temperature: i16,
     /// Thousandths of a bar, below 2^18.
     pub pressure: u32,
 }
@@ -41,11 +41,12 @@ impl Sample {
     /// `Checked` for a field that its bits do not hold: the fields before it are written then. Else as
     /// the sink has them.
     pub fn write<W: BitWrite>(&self, writer: &mut W) -> Result<(), Error>
-        ensures { WritesAll W.sink (sample_writes W.sink.order self.now) writer.old result writer.new }
+        ensures { WritesAll W.sink (sample_writes W.sink.order self.now)
+            writer.old result writer.new }
     {
         writer.write::<Bits<20>, u32>(self.seconds)?;
         writer.write_bit(self.running)?;
-        writer.write::<Bits<9>, u16>(self.temperature)?;
+        writer.write::<Bits<9>, i16>(self.temperature)?;
         writer.write::<Bits<18>, u32>(self.pressure)
     }
 

@@ -1,17 +1,16 @@
 -- What is written is read back: the read of a value finds the value in the word that its write made.
 -- A caller's proof is `search (goes_back, FACTS)`, where the facts say that the values fit their widths.
-use Rattle.std.proofs.Common.{◌≡◌, ℕ, ℤ, ◌+◌, ◌^◌, ◌<◌, ◌≤◌, Bool, true, List, [], ◌∷◌, ◌++◌, length, Result, Ok, refl, ap, ◌∙◌, append-nil, arith}
+use Rattle.std.proofs.Common.{◌≡◌, ℕ, ℤ, ◌+◌, ◌^◌, ◌<◌, ◌≤◌, Bool, true, List, [], ◌∷◌, ◌++◌, length, Ok, refl, ◌∙◌, arith}
 use Rattle.std.proofs.Math.Nat.{mod-eq_of_lt}
 use Rattle.std.specs.Prelude.{nat_le}
 use Rattle.std.proofs.lemmas.Bool.{le-leb, ne_eqb}
 use Rattle.std.proofs.lemmas.Bool.Decides.{nat_tests}
-use Rattle.bitstream_count.specs.declared.error.Error.{Error}
 use Rattle.bitstream_count.specs.Entry.{ReadEntry, WriteEntry, Takes, chain, gives}
 use Rattle.bitstream_number.specs.Word.{Order, number, word, signed_number, signed_word, FitsSignedBits}
 use Rattle.bitstream_number.proofs.SignedLemmas.{signed_number-signed_word}
 use Rattle.bitstream_number.proofs.WordLemmas.{length-word, number-word}
 use Rattle.bitstream_stream.specs.ReadTable.{first_bit, bit_entry, unsigned_entry, signed_entry}
-use Rattle.bitstream_stream.specs.Run.{accepted, write_run}
+use Rattle.bitstream_stream.specs.Run.{write_run}
 use Rattle.bitstream_stream.specs.WriteTable.{bit, unsigned, signed}
 use Rattle.bitstream_stream.proofs.EntryLemmas.{word_front-some}
 use Rattle.bitstream_stream.proofs.ReadsLemmas.{chain_decides}

@@ -1,12 +1,16 @@
 -- Reads one after another, as the proof of a caller goes through them: `search (reads, FACTS)`, where the
--- facts are the clauses of the calls.
-use Rattle.std.specs.Prelude.{nat_le}
-use Rattle.std.proofs.Common.{◌≡◌, ℕ, ℤ, ◌+◌, ◌-◌, ◌*◌, ◌<◌, ◌≤◌, Bool, true, List, length, take, drop, Option, Some, Result, Ok, Err, refl, subst, sym, ap, ◌∙◌, arith, inl, inr, length-drop}
+-- facts are the clauses of the calls; and `search few_reads` where a function makes up to four calls.
+use borrow.Author.Rules.{sfits_of}
+use Rattle.std.specs.Prelude.{nat_le, if◌then◌else◌, ◌==◌}
+use Rattle.std.proofs.Common.{◌≡◌, ℕ, ℤ, SFits, to_z, of_z, Continue, Break, ◌+◌, ◌-◌, ◌*◌, ◌<◌, ◌≤◌, Bool, true, List, length, take, drop, Option, Some, Result, Ok, Err, refl, subst, ap, ◌∙◌, arith, inl, inr, length-drop}
 use Rattle.std.proofs.lemmas.Bool.{le-leb, lt-leb, cases_lt}
 use Rattle.std.proofs.lemmas.Bool.Decides.{nat_tests}
 use Rattle.std.proofs.lemmas.List.{drop-drop}
+use Rattle.std.proofs.lemmas.Int.{to_z-of_z}
 use Rattle.std.specs.Borrow.{GName}
-use Rattle.std.specs.Result.{IsErr, IsErrAnd}
+use Rattle.std.specs.Int.{Width, w8, w16, w32, w64, w128}
+use Rattle.std.specs.Result.{IsErrAnd, result_from_control_flow}
+use Rattle.std.specs.declared.ops.ControlFlow.{ControlFlow}
 use Rattle.bitstream_count.specs.declared.error.Error.{Error}
 use Rattle.bitstream_count.specs.declared.error.Error.TheVariants.{EndOfInput}
 use Rattle.bitstream_count.specs.Entry.{ReadEntry, TooShort, Takes, chain, gives}
@@ -14,7 +18,7 @@ use Rattle.bitstream_number.specs.Word.{Order, number, signed_number, bits}
 use Rattle.bitstream_number.proofs.WordLemmas.{length-bits}
 use Rattle.bitstream_order.specs.Refusal.{TrueEnds}
 use Rattle.bitstream_stream.specs.Reader.{new_reader_state}
-use Rattle.bitstream_stream.specs.Reads.{BitSource, ReadOutcome, Reads, sure_answer}
+use Rattle.bitstream_stream.specs.Reads.{BitSource, Reads, sure_answer}
 use Rattle.bitstream_stream.specs.ReadTable.{first_bit, bit_entry, unsigned_entry, signed_entry}
 use Rattle.bitstream_stream.proofs.EntryLemmas.{chain-ok, chain-none}
 use Rattle.bitstream_stream.proofs.ReadsLemmas.{Reads-chain-ok, Reads-gives, exit}
@@ -26,8 +30,33 @@ use Rattle.bitstream_value.proofs.SureLemmas.{IsWord, unsigned-word, truth-word,
 
 -- ---- what a function did that read
 
--- each read that answered with a value, up to one whose error a `?` returned, or to the end
-pub ruleset reads = (Reads-chain-ok, Reads-gives, exit)
+-- the machine's integers of so many bits
+abbrev pub width_of : ℕ → Width
+width_of size = if size == 8 then w8 else if size == 16 then w16 else if size == 32 then w32 else if size == 64 then w64 else w128
+
+-- a read whose answer a `?` looked at, and what follows it, or the end; a proof's record has these facts
+module _ {R A B : Type 0} {K : BitSource R} {e : ReadEntry A} (f : A → ReadEntry B) {r : Result B Error} {s t : R} {answer : Result A Error} {flow : ControlFlow _ A} where
+  pub then_read : {z : R} {a : A} → Reads K e s answer t → answer ≡ result_from_control_flow flow → flow ≡ Continue a → Reads K (f a) t r z → Reads K (chain e f) s r z
+  then_read h p q k = Reads-chain-ok e f (subst (λ x. Reads K e s x t) (p ∙ ap result_from_control_flow q) h) k
+
+  pub end_read : {x : _} → Reads K e s answer t → answer ≡ result_from_control_flow flow → flow ≡ Break x → IsErrAnd r (λ y. y ≡ x.0) → Reads K (chain e f) s r t
+  end_read h p q k = exit f r k (subst (λ x. Reads K e s x t) (p ∙ ap result_from_control_flow q) h)
+
+-- a number of a signed type, which stands behind the read as what its bits say
+module _ {R B : Type 0} {K : BitSource R} (o : Order) (size n : ℕ) (f : ℤ → ReadEntry B) {r : Result B Error} {s t z : R} {x : ℤ} where
+  pub next_signed_read : Reads K (signed_entry o size n) s (Ok x) t → SFits (width_of size) x
+      → Reads K (f (to_z (width_of size) (of_z (width_of size) x))) t r z → Reads K (chain (signed_entry o size n) f) s r z
+  next_signed_read h fits k = Reads-chain-ok _ f h (subst (λ y. Reads K (f y) t r z) (to_z-of_z _ x fits) k)
+
+  pub then_signed_read : {answer : Result ℤ Error} {flow : ControlFlow _ ℤ} → Reads K (signed_entry o size n) s answer t → answer ≡ result_from_control_flow flow → flow ≡ Continue x → SFits (width_of size) x
+      → Reads K (f (to_z (width_of size) (of_z (width_of size) x))) t r z → Reads K (chain (signed_entry o size n) f) s r z
+  then_signed_read h p q fits k = then_read f h p q (subst (λ y. Reads K (f y) t r z) (to_z-of_z _ x fits) k)
+
+-- each read that answered with a value, up to one whose error a `?` returned, or to the end: by the clauses
+-- of the calls, which are listed; and by the fields of a proof's record, where the calls are few
+pub ruleset reads = (next_signed_read, Reads-chain-ok, exit, Reads-gives, sfits_of)
+
+pub ruleset few_reads = (then_signed_read, then_read, end_read, Reads-gives, sfits_of)
 
 -- ---- what the reads of fields find in bits that are all known
 

@@ -1,8 +1,12 @@
 -- Writes one after another, as the proof of a caller goes through them: `search (writes, FACTS)`, where the
--- facts are the clauses of the calls.
-use Rattle.std.proofs.Common.{◌≡◌, ℕ, ◌+◌, ◌*◌, ◌%◌, Bool, List, [], ◌∷◌, ◌++◌, length, Option, Some, Result, Ok, Err, replicate, refl, sym, ap, ◌∙◌, subst, arith, inl, inr, false}
+-- facts are the clauses of the calls; and `search few_writes` where a function makes up to four calls.
+use borrow.Author.Rules.{sfits_of}
+use Rattle.std.proofs.Common.{◌≡◌, ℕ, ℤ, SFits, to_z, of_z, Continue, Break, ◌+◌, ◌*◌, ◌%◌, Bool, List, [], ◌∷◌, ◌++◌, length, Option, Some, Result, Ok, Err, replicate, refl, sym, ap, ◌∙◌, subst, inl, inr, false}
+use Rattle.std.proofs.lemmas.Int.{to_z-of_z}
 use Rattle.std.specs.Borrow.{GName}
-use Rattle.std.specs.Result.{IsErrAnd}
+use Rattle.std.specs.Int.{Width}
+use Rattle.std.specs.Result.{IsErrAnd, result_from_control_flow}
+use Rattle.std.specs.declared.ops.ControlFlow.{ControlFlow}
 use Rattle.std.specs.declared.io.ErrorKind.{ErrorKind}
 use Rattle.bitstream_count.specs.declared.error.Error.{Error}
 use Rattle.bitstream_count.specs.Entry.{WriteEntry}
@@ -16,7 +20,7 @@ use Rattle.bitstream_stream.proofs.WriteParts.{all_append, all_none, all_err, al
 use Rattle.bitstream_stream.proofs.WriteLemmas.{padded}
 use Rattle.bitstream_stream.proofs.WriterLemmas.{adds_bits}
 use Rattle.bitstream_stream.specs.Alignment.{to_boundary}
-use Rattle.bitstream_stream.specs.WriteTable.{align}
+use Rattle.bitstream_stream.specs.WriteTable.{align, signed}
 use Rattle.std.proofs.lemmas.List.{length-replicate}
 
 -- ---- what a function did that wrote
@@ -41,7 +45,63 @@ module _ {S : Type 0} (K : Sink S) (e : WriteEntry) (es : List WriteEntry) (r : 
   pub stop_write : (x : Error) (s t : S) → IsErrAnd r (λ y. y ≡ x) → WritesAll K (e ∷ []) s (Err x) t → WritesAll K (e ∷ es) s r t
   stop_write x s t h k = stop_call x s t h (one_of_all K e s (Err x) t k)
 
-pub ruleset writes = (next_call, next_write, stop_call, stop_write, all_one, all_none)
+  -- a call whose answer a `?` looked at, and what follows it; a proof's record has these facts
+  pub then_call : (s t z : S) (answer : Result (Unit {0}) Error) (flow : ControlFlow _ (Unit {0})) → Writes K e s answer t → answer ≡ result_from_control_flow flow → flow ≡ Continue tt → WritesAll K es t r z → WritesAll K (e ∷ es) s r z
+  then_call s t z answer flow h p q k = next_call s t z (subst (λ x. Writes K e s x t) (p ∙ ap result_from_control_flow q) h) k
+
+  pub then_write : (s t z : S) (answer : Result (Unit {0}) Error) (flow : ControlFlow _ (Unit {0})) → WritesAll K (e ∷ []) s answer t → answer ≡ result_from_control_flow flow → flow ≡ Continue tt → WritesAll K es t r z → WritesAll K (e ∷ es) s r z
+  then_write s t z answer flow h p q k = next_write s t z (subst (λ x. WritesAll K (e ∷ []) s x t) (p ∙ ap result_from_control_flow q) h) k
+
+  -- and one whose error it returned
+  pub end_call : (s t : S) (answer : Result (Unit {0}) Error) (flow : ControlFlow _ (Unit {0})) (x : _) → Writes K e s answer t → answer ≡ result_from_control_flow flow → flow ≡ Break x → IsErrAnd r (λ y. y ≡ x.0) → WritesAll K (e ∷ es) s r t
+  end_call s t answer flow x h p q k = stop_call x.0 s t k (subst (λ y. Writes K e s y t) (p ∙ ap result_from_control_flow q) h)
+
+  pub end_write : (s t : S) (answer : Result (Unit {0}) Error) (flow : ControlFlow _ (Unit {0})) (x : _) → WritesAll K (e ∷ []) s answer t → answer ≡ result_from_control_flow flow → flow ≡ Break x → IsErrAnd r (λ y. y ≡ x.0) → WritesAll K (e ∷ es) s r t
+  end_write s t answer flow x h p q k = stop_write x.0 s t k (subst (λ y. WritesAll K (e ∷ []) s y t) (p ∙ ap result_from_control_flow q) h)
+
+-- ---- a number of a signed type, which a call has as what its bits say
+
+module _ {S : Type 0} (K : Sink S) (o : Order) (size n : ℕ) (w : Width) (x : ℤ) (s t : S) (r : Result (Unit {0}) Error) where
+  pub signed_call : Writes K (signed o size n (to_z w (of_z w x))) s r t → SFits w x → Writes K (signed o size n x) s r t
+  signed_call h fits = subst (λ z. Writes K (signed o size n z) s r t) (to_z-of_z w x fits) h
+
+  pub signed_value : WritesAll K (signed o size n (to_z w (of_z w x)) ∷ []) s r t → SFits w x → WritesAll K (signed o size n x ∷ []) s r t
+  signed_value h fits = subst (λ z. WritesAll K (signed o size n z ∷ []) s r t) (to_z-of_z w x fits) h
+
+module _ {S : Type 0} (K : Sink S) (o : Order) (size n : ℕ) (x : ℤ) (es : List WriteEntry) (r : Result (Unit {0}) Error) (w : Width) (s t : S) where
+  pub next_signed_call : (z : S) → Writes {T = Unit {0}} K (signed o size n (to_z w (of_z w x))) s (Ok tt) t → SFits w x → WritesAll K es t r z → WritesAll K (signed o size n x ∷ es) s r z
+  next_signed_call z h fits k = next_call K _ es r s t z (signed_call K o size n w x s t (Ok tt) h fits) k
+
+  pub next_signed : (z : S) → WritesAll K (signed o size n (to_z w (of_z w x)) ∷ []) s (Ok tt) t → SFits w x → WritesAll K es t r z → WritesAll K (signed o size n x ∷ es) s r z
+  next_signed z h fits k = next_write K _ es r s t z (signed_value K o size n w x s t (Ok tt) h fits) k
+
+  pub stop_signed_call : (e : Error) → IsErrAnd r (λ y. y ≡ e) → Writes {T = Unit {0}} K (signed o size n (to_z w (of_z w x))) s (Err e) t → SFits w x → WritesAll K (signed o size n x ∷ es) s r t
+  stop_signed_call e k h fits = stop_call K _ es r e s t k (signed_call K o size n w x s t (Err e) h fits)
+
+  pub stop_signed : (e : Error) → IsErrAnd r (λ y. y ≡ e) → WritesAll K (signed o size n (to_z w (of_z w x)) ∷ []) s (Err e) t → SFits w x → WritesAll K (signed o size n x ∷ es) s r t
+  stop_signed e k h fits = stop_write K _ es r e s t k (signed_value K o size n w x s t (Err e) h fits)
+
+  pub then_signed_call : (z : S) (answer : Result (Unit {0}) Error) (flow : ControlFlow _ (Unit {0})) → Writes K (signed o size n (to_z w (of_z w x))) s answer t → SFits w x
+      → answer ≡ result_from_control_flow flow → flow ≡ Continue tt → WritesAll K es t r z → WritesAll K (signed o size n x ∷ es) s r z
+  then_signed_call z answer flow h fits p q k = then_call K _ es r s t z answer flow (signed_call K o size n w x s t answer h fits) p q k
+
+  pub then_signed : (z : S) (answer : Result (Unit {0}) Error) (flow : ControlFlow _ (Unit {0})) → WritesAll K (signed o size n (to_z w (of_z w x)) ∷ []) s answer t → SFits w x
+      → answer ≡ result_from_control_flow flow → flow ≡ Continue tt → WritesAll K es t r z → WritesAll K (signed o size n x ∷ es) s r z
+  then_signed z answer flow h fits p q k = then_write K _ es r s t z answer flow (signed_value K o size n w x s t answer h fits) p q k
+
+  pub end_signed_call : (answer : Result (Unit {0}) Error) (flow : ControlFlow _ (Unit {0})) (e : _) → Writes K (signed o size n (to_z w (of_z w x))) s answer t → SFits w x
+      → answer ≡ result_from_control_flow flow → flow ≡ Break e → IsErrAnd r (λ y. y ≡ e.0) → WritesAll K (signed o size n x ∷ es) s r t
+  end_signed_call answer flow e h fits p q k = end_call K _ es r s t answer flow e (signed_call K o size n w x s t answer h fits) p q k
+
+  pub end_signed : (answer : Result (Unit {0}) Error) (flow : ControlFlow _ (Unit {0})) (e : _) → WritesAll K (signed o size n (to_z w (of_z w x)) ∷ []) s answer t → SFits w x
+      → answer ≡ result_from_control_flow flow → flow ≡ Break e → IsErrAnd r (λ y. y ≡ e.0) → WritesAll K (signed o size n x ∷ es) s r t
+  end_signed answer flow e h fits p q k = end_write K _ es r s t answer flow e (signed_value K o size n w x s t answer h fits) p q k
+
+-- each call that answered `Ok`, up to one whose error a `?` returned, or to the last: by the clauses of the
+-- calls, which are listed; and by the fields of a proof's record, where the calls are few
+pub ruleset writes = (next_call, next_write, stop_call, stop_write, next_signed, next_signed_call, stop_signed, stop_signed_call, all_one, all_none, signed_call, signed_value, sfits_of)
+
+pub ruleset few_writes = (then_call, then_write, end_call, end_write, then_signed, end_signed, then_signed_call, end_signed_call, all_one, signed_value, signed_call, sfits_of)
 
 -- ---- the words that were written
 
@@ -101,6 +161,19 @@ module _ {W E : Type 0} (held : W → Option (List ℕ)) (refuses : W → ℕ �
 -- the bytes of a stream that held none
 pub whole_bytes : {o : Order} {known : Option (List ℕ)} {x : List Bool} {xs : List ℕ} → known ≡ Some [] → AddsBits o known x (Some xs) → bits o xs ≡ x
 whole_bytes {o = o} {x = x} {xs = xs} none h = let k = subst (λ z. AddsBits o z x (Some xs)) none h in ap (bits o) k.grows ∙ k.bits
+
+-- what a stream holds then that held no bytes, and through which references it is reached
+pub record Packed (held : Option (List ℕ)) (reached : List GName) (o : Order) (x : List Bool) (names : List GName) : Type 0 where
+  pub whole : {xs : List ℕ} → held ≡ Some xs → bits o xs ≡ x
+  pub reached_as : reached ≡ names
+
+pub packed_stream : {W E : Type 0} (held : W → Option (List ℕ)) {refuses : W → ℕ → ErrorKind → W → Type 0} (reference_names : W → List GName) {o : Order} (es : List WriteEntry) {known : Option (List ℕ)} {names : List GName} (a : BitWriter W E) {m b : BitWriter W E}
+    → known ≡ Some [] → writer_state held reference_names a ≡ fresh_writer known names → WritesAll (writer_sink held refuses reference_names o) es a (Ok tt) m → Writes {T = Unit {0}} (writer_sink held refuses reference_names o) align m (Ok tt) b
+    → Packed (held b.port.stream) (reference_names b.port.stream) o (write_run (es ++ align ∷ []) 0) names
+packed_stream held {refuses = refuses} reference_names {o = o} es {known = known} {names = names} a {m = m} {b = b} none fresh h k = record {
+  whole = λ {xs} is. whole_bytes none (subst (AddsBits o known (write_run (es ++ align ∷ []) 0)) is (bytes_added held refuses reference_names o es known names a m b fresh h k));
+  reached_as = names_kept held refuses reference_names o es known names a m b fresh h k;
+}
 
 -- the first of the references through which a stream is reached
 pub first_name : {m n : GName} {k l : List GName} → m ∷ l ≡ n ∷ k → m ≡ n
