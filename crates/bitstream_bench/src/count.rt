@@ -37,7 +37,8 @@ impl<S: Read> Read for Count<S> {
 
     fn read(&mut self, buf: &mut [u8]) -> io::Result<usize>
         ensures bound { ReadsAtMost result buf.new }
-        ensures bytes { ReadConsumes (S.remaining self.old.inner) (S.remaining self.new.inner) result buf.new }
+        ensures bytes { ReadConsumes (S.remaining self.old.inner) (S.remaining self.new.inner)
+            result buf.new }
         ensures requests { self.new.requests ≡ counted self.old.requests }
         ensures refused { self.new.refused ≡ counted_if_refused result self.old.refused }
     {
@@ -47,7 +48,8 @@ impl<S: Read> Read for Count<S> {
     }
 
     fn read_exact(&mut self, buf: &mut [u8]) -> io::Result<()>
-        ensures bytes { OnOk result (Consumes (S.remaining self.old.inner) (S.remaining self.new.inner) buf.new) }
+        ensures bytes { OnOk result (Consumes (S.remaining self.old.inner) (S.remaining self.new.inner)
+            buf.new) }
         ensures requests { self.new.requests ≡ counted self.old.requests }
         ensures refused { self.new.refused ≡ counted_if_refused result self.old.refused }
     {
@@ -62,7 +64,8 @@ impl<S: Write> Write for Count<S> {
 
     fn write(&mut self, buf: &[u8]) -> io::Result<usize>
         ensures bound { WritesAtMost result buf.now }
-        ensures bytes { WriteAppends (S.contents self.old.inner) (S.contents self.new.inner) result buf.now }
+        ensures bytes { WriteAppends (S.contents self.old.inner) (S.contents self.new.inner)
+            result buf.now }
         ensures requests { self.new.requests ≡ counted self.old.requests }
         ensures refused { self.new.refused ≡ counted_if_refused result self.old.refused }
     {
@@ -72,7 +75,8 @@ impl<S: Write> Write for Count<S> {
     }
 
     fn write_all(&mut self, buf: &[u8]) -> io::Result<()>
-        ensures bytes { OnOk result (Appends (S.contents self.old.inner) (S.contents self.new.inner) buf.now) }
+        ensures bytes { OnOk result (Appends (S.contents self.old.inner) (S.contents self.new.inner)
+            buf.now) }
         ensures requests { self.new.requests ≡ counted self.old.requests }
         ensures refused { self.new.refused ≡ counted_if_refused result self.old.refused }
     {

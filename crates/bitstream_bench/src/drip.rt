@@ -18,7 +18,8 @@ impl<S: Read> Read for Drip<S> {
 
     fn read(&mut self, buf: &mut [u8]) -> io::Result<usize>
         ensures bound { ReadsAtMost result buf.new }
-        ensures bytes { ReadConsumes (S.remaining self.old.inner) (S.remaining self.new.inner) result buf.new }
+        ensures bytes { ReadConsumes (S.remaining self.old.inner) (S.remaining self.new.inner)
+            result buf.new }
         ensures one { IfOk result (λ n. n ≤ 1) }
     {
         if buf.is_empty() {
@@ -34,7 +35,8 @@ impl<S: Write> Write for Drip<S> {
 
     fn write(&mut self, buf: &[u8]) -> io::Result<usize>
         ensures bound { WritesAtMost result buf.now }
-        ensures bytes { WriteAppends (S.contents self.old.inner) (S.contents self.new.inner) result buf.now }
+        ensures bytes { WriteAppends (S.contents self.old.inner) (S.contents self.new.inner)
+            result buf.now }
         ensures one { IfOk result (λ n. n ≤ 1) }
     {
         if buf.is_empty() {

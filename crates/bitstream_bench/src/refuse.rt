@@ -39,7 +39,8 @@ impl<S: Read> Read for Refuse<S> {
 
     fn read(&mut self, buf: &mut [u8]) -> io::Result<usize>
         ensures bound { ReadsAtMost result buf.new }
-        ensures bytes { ReadConsumes (S.remaining self.old.inner) (S.remaining self.new.inner) result buf.new }
+        ensures bytes { ReadConsumes (S.remaining self.old.inner) (S.remaining self.new.inner)
+            result buf.new }
         ensures refuses { self.old.left ≡ 0 → IsErrAnd result (λ e. error_kind e ≡ self.old.kind) }
         ensures untouched { self.old.left ≡ 0 → self.new.inner ≡ self.old.inner }
         ensures left { self.new.left ≡ self.old.left - 1 }
@@ -50,7 +51,8 @@ impl<S: Read> Read for Refuse<S> {
     }
 
     fn read_exact(&mut self, buf: &mut [u8]) -> io::Result<()>
-        ensures bytes { OnOk result (Consumes (S.remaining self.old.inner) (S.remaining self.new.inner) buf.new) }
+        ensures bytes { OnOk result (Consumes (S.remaining self.old.inner) (S.remaining self.new.inner)
+            buf.new) }
         ensures refuses { self.old.left ≡ 0 → IsErrAnd result (λ e. error_kind e ≡ self.old.kind) }
         ensures untouched { self.old.left ≡ 0 → self.new.inner ≡ self.old.inner }
         ensures left { self.new.left ≡ self.old.left - 1 }
@@ -65,7 +67,8 @@ impl<S: Write> Write for Refuse<S> {
 
     fn write(&mut self, buf: &[u8]) -> io::Result<usize>
         ensures bound { WritesAtMost result buf.now }
-        ensures bytes { WriteAppends (S.contents self.old.inner) (S.contents self.new.inner) result buf.now }
+        ensures bytes { WriteAppends (S.contents self.old.inner) (S.contents self.new.inner)
+            result buf.now }
         ensures refuses { self.old.left ≡ 0 → IsErrAnd result (λ e. error_kind e ≡ self.old.kind) }
         ensures untouched { self.old.left ≡ 0 → self.new.inner ≡ self.old.inner }
         ensures left { self.new.left ≡ self.old.left - 1 }
@@ -75,7 +78,8 @@ impl<S: Write> Write for Refuse<S> {
     }
 
     fn write_all(&mut self, buf: &[u8]) -> io::Result<()>
-        ensures bytes { OnOk result (Appends (S.contents self.old.inner) (S.contents self.new.inner) buf.now) }
+        ensures bytes { OnOk result (Appends (S.contents self.old.inner) (S.contents self.new.inner)
+            buf.now) }
         ensures refuses { self.old.left ≡ 0 → IsErrAnd result (λ e. error_kind e ≡ self.old.kind) }
         ensures untouched { self.old.left ≡ 0 → self.new.inner ≡ self.old.inner }
         ensures left { self.new.left ≡ self.old.left - 1 }

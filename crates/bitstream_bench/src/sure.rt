@@ -8,28 +8,43 @@ ghost use Rattle.bitstream_io.specs.Error.TheVariants.{EndOfInput};
 use bitstream_io::{BE, BitRead, BitReadExt, BitReader, Bits, Error, LE, Slice};
 use std::num::NonZero;
 
-/// The number of the first 12 bits.
+/// Returns the number of the first 12 bits.
+///
+/// # Errors
+///
+/// `EndOfInput` where there are fewer.
 pub fn first_word(bytes: &[u8]) -> Result<u16, Error>
-    ensures there { 12 ≤ 8 * length bytes.now → result ≡ Ok (number High (take 12 (bits High bytes.now))) }
+    ensures there { 12 ≤ 8 * length bytes.now
+        → result ≡ Ok (number High (take 12 (bits High bytes.now))) }
     ensures short { 8 * length bytes.now < 12 → result ≡ Err EndOfInput }
 {
     let mut reader = BitReader::<Slice, BE>::new(Slice::new(bytes));
     reader.read_unsigned_var(12)
 }
 
-/// The number that is one more than that of the first 4 bits.
+/// Returns the number that is one more than that of the first 4 bits.
+///
+/// # Errors
+///
+/// `EndOfInput` where there are fewer.
 pub fn first_track(bytes: &[u8]) -> Result<NonZero<u8>, Error>
-    ensures there { 4 ≤ 8 * length bytes.now →
-        IsOkAnd result (λ track. non_zero_u8_get track ≡ number Low (take 4 (bits Low bytes.now)) + 1) }
+    ensures there { 4 ≤ 8 * length bytes.now
+        → IsOkAnd result
+        (λ track. non_zero_u8_get track ≡ number Low (take 4 (bits Low bytes.now)) + 1) }
     ensures short { 8 * length bytes.now < 4 → result ≡ Err EndOfInput }
 {
     let mut reader = BitReader::<Slice, LE>::new(Slice::new(bytes));
     reader.read_var(4)
 }
 
-/// The numbers of the first three words of 9 bits.
+/// Returns the numbers of the first three words of 9 bits.
+///
+/// # Errors
+///
+/// `EndOfInput` where there are fewer.
 pub fn first_words(bytes: &[u8]) -> Result<[u16; 3], Error>
-    ensures there { 27 ≤ 8 * length bytes.now → result ≡ Ok (map (number High) (words 9 3 (bits High bytes.now))) }
+    ensures there { 27 ≤ 8 * length bytes.now
+        → result ≡ Ok (map (number High) (words 9 3 (bits High bytes.now))) }
     ensures short { 8 * length bytes.now < 27 → result ≡ Err EndOfInput }
 {
     let mut reader = BitReader::<Slice, BE>::new(Slice::new(bytes));

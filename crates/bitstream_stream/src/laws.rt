@@ -31,10 +31,12 @@ pub fn words_join()
 /// Over a stream that refuses only where its bytes end, a call of any reader answers as its front of
 /// the bits left says, and `EndOfInput` where they have none.
 pub fn ends_are_known<R: BitRead, A>()
-    ensures { (entry : ReadEntry A) (old new : R) (answer : Result A Error) (bytes : List ℕ) → TrueEnds R.source.may
+    ensures { (entry : ReadEntry A) (old new : R) (answer : Result A Error) (bytes : List ℕ)
+        → TrueEnds R.source.may
         → (R.source.state old).failed ≡ false → (R.source.state old).bytes ≡ Some bytes
         → Reads R.source entry old answer new
-        → answer ≡ sure_answer (entry.reads (R.source.state old).taken ((R.source.state old).held ++ bits_of R.source.order bytes)) }
+        → answer ≡ sure_answer (entry.reads (R.source.state old).taken
+        ((R.source.state old).held ++ bits_of R.source.order bytes)) }
 {}
 
 /// A [`Slice`] is such a stream.
