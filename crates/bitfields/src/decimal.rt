@@ -20,7 +20,11 @@ fn all_digits(text: &[u8]) -> bool
     text.iter().all(|b| b.is_ascii_digit())
 }
 
-/// The number that a text spells: `ValueMisspelt` where it is no decimal, else `ValueDoesNotFit` from 2^128 on.
+/// Returns the number that a text spells.
+///
+/// # Errors
+///
+/// `ValueMisspelt` where it is no decimal, else `ValueDoesNotFit` from 2^128 on.
 pub fn decimal(text: &[u8]) -> Result<u128, Reason>
     ensures { result ≡ decimal_below (2 ^ 128) text.now }
 {
@@ -38,7 +42,7 @@ pub fn decimal(text: &[u8]) -> Result<u128, Reason>
     Ok(value)
 }
 
-/// The number from low to high that a text spells, if it spells one.
+/// Returns the number from low to high that a text spells, if it spells one.
 pub fn decimal_between(low: u32, high: u32, text: &[u8]) -> Option<u32>
     ensures { result ≡ decimal_within low high text.now }
 {

@@ -37,7 +37,8 @@ pub enum Reason {
     OutOfMemory,
 }
 
-/// How a call fails: the status that the program ends with, the field (counted from 1, and 0 where none is named), and why.
+/// How a call fails: the status that the program ends with, the field (counted from 1, and 0 where
+/// none is named), and why.
 #[derive(Clone, Copy, Debug, PartialEq, Eq, Drop)]
 pub struct Fault {
     pub status: u8,
@@ -46,7 +47,7 @@ pub struct Fault {
 }
 
 impl Fault {
-    /// The fault of a field (0 where none is named), with the status of its reason.
+    /// Returns the fault of a field (0 where none is named), with the status of its reason.
     pub fn new(field: usize, reason: Reason) -> Fault
         ensures { result ≡ fault field reason }
     {
@@ -58,7 +59,8 @@ impl Fault {
     }
 }
 
-/// A refusal of a stream, which names no field: `OutOfMemory` where that is its kind, else `StreamFault`.
+/// A refusal of a stream, which names no field: `OutOfMemory` where that is its kind, else
+/// `StreamFault`.
 impl From<io::Error> for Fault {
     ghost use Rattle.std.specs.IoError.{error_kind};
     ghost use Rattle.bitfields.specs.Fault.{refusal_reason};
@@ -92,7 +94,7 @@ impl<T: Drop> From<AllocFailed<T>> for Fault {
 }
 
 impl Reason {
-    /// The status that a program ends with for this reason.
+    /// Returns the status that a program ends with for this reason.
     pub fn status(self) -> u8
         ensures { result ≡ reason_status self }
     {

@@ -14,7 +14,7 @@ pub enum Field {
     Align,
 }
 
-/// The field that a piece of a layout spells, if it spells one.
+/// Returns the field that a piece of a layout spells, if it spells one.
 pub fn parse_field(piece: &[u8]) -> Option<Field>
     ensures { result ≡ field_of piece.now }
 {

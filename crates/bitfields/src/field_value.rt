@@ -33,7 +33,13 @@ impl fmt::Display for FieldValue {
     }
 }
 
-/// The value of a field that the first of the lines spells; none where the field has no value.
+/// Returns the value of a field that the first of the lines spells, or none where the field has no
+/// value.
+///
+/// # Errors
+///
+/// `ValueMissing` where there is no line, `ValueMisspelt` where the line is no decimal,
+/// `ValueDoesNotFit` where the number takes more bits.
 pub fn value_in(field: Field, lines: &[&[u8]]) -> Result<Option<FieldValue>, Reason>
     requires { IsField field }
     ensures value { result ≡ value_in_of field (map (λ x. x.now) lines.now) }
@@ -63,6 +69,10 @@ fn decimal_of_width(width: u32, text: &[u8]) -> Result<u128, Reason>
 }
 
 /// Appends the line of a value: its text, and LF.
+///
+/// # Errors
+///
+/// Where memory is refused. A part of the line may stand then.
 pub fn print_value(lines: &mut String, value: FieldValue) -> Result<(), AllocError>
     ensures { OnOk result (string_bytes lines.new ≡ string_bytes lines.old ++ printed_line value) }
 {

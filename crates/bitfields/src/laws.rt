@@ -18,58 +18,83 @@ use crate::field_value::FieldValue;
 
 /// The texts of fields, joined by commas, spell these fields; and no other text does.
 pub fn layouts_are_spelt()
-    ensures spelt { (fields : List Field) → IsLayout fields → layout_of (layout_text fields) ≡ Ok fields }
-    ensures only { (text : List ℕ) (fields : List Field) → layout_of text ≡ Ok fields → IsLayout fields × (layout_text fields ≡ text) }
+    ensures spelt { (fields : List Field) → IsLayout fields
+        → layout_of (layout_text fields) ≡ Ok fields }
+    ensures only { (text : List ℕ) (fields : List Field) → layout_of text ≡ Ok fields
+        → IsLayout fields × (layout_text fields ≡ text) }
 {}
 
-/// Values that are spelt fit their fields; and the lines that are printed of values that fit spell these values.
+/// Values that are spelt fit their fields; and the lines that are printed of values that fit spell
+/// these values.
 pub fn values_are_spelt()
-    ensures fit { (k : ℕ) (fields : List Field) (rest : List (List ℕ)) (vs : List FieldValue) → values k fields rest ≡ Ok vs → Fit fields vs }
-    ensures spelt { (k : ℕ) (fields : List Field) (vs : List FieldValue) → All IsField fields → Fit fields vs → values k fields (lines (printed_lines vs)) ≡ Ok vs }
+    ensures fit { (k : ℕ) (fields : List Field) (rest : List (List ℕ)) (vs : List FieldValue)
+        → values k fields rest ≡ Ok vs → Fit fields vs }
+    ensures spelt { (k : ℕ) (fields : List Field) (vs : List FieldValue)
+        → All IsField fields → Fit fields vs
+        → values k fields (lines (printed_lines vs)) ≡ Ok vs }
 {}
 
 /// What is written of values that fit is unpacked as these values, whatever follows it.
 pub fn packed_values_are_unpacked()
-    ensures { (o : Order) (k : ℕ) (fields : List Field) (vs : List FieldValue) (at : ℕ) (rest : List Bool) → All IsField fields → Fit fields vs →
-        (let written = write_run (field_writes o fields vs) at in unpacked o k fields at (written ++ rest) ≡ Unpacks vs (at + length written)) }
+    ensures { (o : Order) (k : ℕ) (fields : List Field) (vs : List FieldValue) (at : ℕ) (rest : List Bool)
+        → All IsField fields → Fit fields vs
+        → (let written = write_run (field_writes o fields vs) at in
+        unpacked o k fields at (written ++ rest) ≡ Unpacks vs (at + length written)) }
 {}
 
 /// What was packed of an input's values is unpacked as the lines of this input, each ended by LF.
 pub fn packed_lines_are_unpacked()
-    ensures { (o : Order) (fields : List Field) (input : List ℕ) (vs : List FieldValue) (bytes : List ℕ) → IsLayout fields →
-        values 1 fields (lines input) ≡ Ok vs → bits o bytes ≡ packed o fields vs 0 →
-        (unpacked o 1 fields 0 (bits o bytes) ≡ Unpacks vs (length (write_run (field_writes o fields vs) 0))) × (printed_lines vs ≡ ended_lines (lines input)) }
+    ensures { (o : Order) (fields : List Field) (input : List ℕ) (vs : List FieldValue) (bytes : List ℕ)
+        → IsLayout fields → values 1 fields (lines input) ≡ Ok vs → bits o bytes ≡ packed o fields vs 0
+        → (unpacked o 1 fields 0 (bits o bytes)
+        ≡ Unpacks vs (length (write_run (field_writes o fields vs) 0)))
+        × (printed_lines vs ≡ ended_lines (lines input)) }
 {}
 
 /// Packing is the fields' write calls, none of which is refused, and a last alignment.
 pub fn packing_is_a_write_run()
-    ensures words { (o : Order) (fields : List Field) (vs : List FieldValue) (at : ℕ) → write_run (field_writes o fields vs ++ align ∷ []) at ≡ packed o fields vs at }
-    ensures accepted { (o : Order) (fields : List Field) (vs : List FieldValue) (at : ℕ) → All IsField fields → Fit fields vs →
-        All (λ r. r ≡ None) (write_refusals (field_writes o fields vs ++ align ∷ []) at) }
+    ensures words { (o : Order) (fields : List Field) (vs : List FieldValue) (at : ℕ)
+        → write_run (field_writes o fields vs ++ align ∷ []) at ≡ packed o fields vs at }
+    ensures accepted { (o : Order) (fields : List Field) (vs : List FieldValue) (at : ℕ)
+        → All IsField fields → Fit fields vs
+        → All (λ r. r ≡ None) (write_refusals (field_writes o fields vs ++ align ∷ []) at) }
 {}
 
 /// Unpacking is the fields' read calls, up to the first whose bits are too few.
 pub fn unpacking_is_a_read_run()
-    ensures { (o : Order) (k : ℕ) (fields : List Field) (at : ℕ) (bits : List Bool) → unpacked o k fields at bits ≡ answered k fields at (read_run (map (field_read o) fields) at bits) }
+    ensures { (o : Order) (k : ℕ) (fields : List Field) (at : ℕ) (bits : List Bool)
+        → unpacked o k fields at bits
+        ≡ answered k fields at (read_run (map (field_read o) fields) at bits) }
 {}
 
-/// The packed values are the words of the numbers, with zeros up to the next byte where a field asks for it and at the end.
+/// The packed values are the words of the numbers, with zeros up to the next byte where a field asks
+/// for it and at the end.
 pub fn packing_goes_by_fields()
-    ensures number { (o : Order) (n v : ℕ) (fields : List Field) (vs : List FieldValue) (at : ℕ) → n ≤ 128 → v < 2 ^ n →
-        packed o (Field.Unsigned n ∷ fields) (FieldValue.Unsigned v ∷ vs) at ≡ word o n v ++ packed o fields vs (at + n) }
-    ensures align { (o : Order) (fields : List Field) (vs : List FieldValue) (at : ℕ) →
-        packed o (Field.Align ∷ fields) vs at ≡ replicate (to_boundary at) false ++ packed o fields vs (at + to_boundary at) }
+    ensures number { (o : Order) (n v : ℕ) (fields : List Field) (vs : List FieldValue) (at : ℕ)
+        → n ≤ 128 → v < 2 ^ n
+        → packed o (Field.Unsigned n ∷ fields) (FieldValue.Unsigned v ∷ vs) at
+        ≡ word o n v ++ packed o fields vs (at + n) }
+    ensures align { (o : Order) (fields : List Field) (vs : List FieldValue) (at : ℕ)
+        → packed o (Field.Align ∷ fields) vs at
+        ≡ replicate (to_boundary at) false ++ packed o fields vs (at + to_boundary at) }
     ensures end { (o : Order) (at : ℕ) → packed o [] [] at ≡ replicate (to_boundary at) false }
 {}
 
-/// A field's word says its number, the bits of an alignment say nothing, and where a field has too few bits left, they ended.
+/// A field's word says its number, the bits of an alignment say nothing, and where a field has too
+/// few bits left, they ended.
 pub fn unpacking_goes_by_fields()
-    ensures number { (o : Order) (k n : ℕ) (fields : List Field) (at : ℕ) (w rest : List Bool) → n ≤ 128 → length w ≡ n →
-        unpacked o k (Field.Unsigned n ∷ fields) at (w ++ rest) ≡ values_and (FieldValue.Unsigned (number o w) ∷ []) (unpacked o (k + 1) fields (at + n) rest) }
-    ensures align { (o : Order) (k : ℕ) (fields : List Field) (at : ℕ) (w rest : List Bool) → length w ≡ to_boundary at →
-        unpacked o k (Field.Align ∷ fields) at (w ++ rest) ≡ unpacked o (k + 1) fields (at + to_boundary at) rest }
-    ensures few { (o : Order) (k n : ℕ) (fields : List Field) (at : ℕ) (bits : List Bool) → n ≤ 128 → length bits < n →
-        unpacked o k (Field.Unsigned n ∷ fields) at bits ≡ Stops (fault k Reason.BitsEnded) }
-    ensures few_to_align { (o : Order) (k : ℕ) (fields : List Field) (at : ℕ) (bits : List Bool) → length bits < to_boundary at →
-        unpacked o k (Field.Align ∷ fields) at bits ≡ Stops (fault k Reason.BitsEnded) }
+    ensures number { (o : Order) (k n : ℕ) (fields : List Field) (at : ℕ) (w rest : List Bool)
+        → n ≤ 128 → length w ≡ n
+        → unpacked o k (Field.Unsigned n ∷ fields) at (w ++ rest)
+        ≡ values_and (FieldValue.Unsigned (number o w) ∷ []) (unpacked o (k + 1) fields (at + n) rest) }
+    ensures align { (o : Order) (k : ℕ) (fields : List Field) (at : ℕ) (w rest : List Bool)
+        → length w ≡ to_boundary at
+        → unpacked o k (Field.Align ∷ fields) at (w ++ rest)
+        ≡ unpacked o (k + 1) fields (at + to_boundary at) rest }
+    ensures few { (o : Order) (k n : ℕ) (fields : List Field) (at : ℕ) (bits : List Bool)
+        → n ≤ 128 → length bits < n
+        → unpacked o k (Field.Unsigned n ∷ fields) at bits ≡ Stops (fault k Reason.BitsEnded) }
+    ensures few_to_align { (o : Order) (k : ℕ) (fields : List Field) (at : ℕ) (bits : List Bool)
+        → length bits < to_boundary at
+        → unpacked o k (Field.Align ∷ fields) at bits ≡ Stops (fault k Reason.BitsEnded) }
 {}

@@ -29,10 +29,12 @@ impl Model for Layout {
 
 const MOST_FIELDS: usize = 256;
 
-/// The layout that a text spells: 1 to 256 fields joined by commas.
+/// Returns the layout that a text spells: 1 to 256 fields joined by commas.
 ///
-/// Refused as `TooManyFields` (field 0) where there are more than 256 pieces between commas, and as `BadLayout` at the first piece
-/// that is no field. `OutOfMemory` (field 0) is the only other refusal.
+/// # Errors
+///
+/// `TooManyFields` (field 0) where there are more than 256 pieces between commas, `BadLayout` at the
+/// first piece that is no field, and `OutOfMemory` (field 0).
 pub fn parse_layout(alloc: Global, text: &str) -> Result<Layout, Fault>
     ensures { IsUnlessMemory (layout_of text.now) result }
 {

@@ -6,7 +6,12 @@ ghost use Rattle.bitfields.specs.Value.{lines as lines_of};
 
 use std::alloc::{AllocError, Global};
 
-/// The lines of an input: each is ended by LF, which the last may lack. An input of no bytes has no lines.
+/// Returns the lines of an input: each is ended by LF, which the last may lack. An input of no bytes
+/// has no lines.
+///
+/// # Errors
+///
+/// Where memory is refused.
 pub fn lines(alloc: Global, input: &[u8]) -> Result<Vec<&[u8]>, AllocError>
     ensures { IfOk result (λ v. map (λ x. x.now) v.items ≡ lines_of input.now) }
 {

@@ -15,18 +15,22 @@ use crate::value::{behind_value, values};
 use bitstream_io::{BitWrite, BitWriter, Endianness, Error, Lent, Target};
 use std::alloc::Global;
 
-/// Packs the values that an input spells for a layout: writes the bytes of the fields' words, the last of them filled with zeros.
+/// Packs the values that an input spells for a layout: writes the bytes of the fields' words, the
+/// last of them filled with zeros.
 ///
-/// All values are read before the first byte is written: where `values` refuses the input, or memory for the values is refused, the
-/// stream is as it was. After that only the stream refuses, as `StreamFault` or `OutOfMemory` (field 0), and is as that left it.
+/// # Errors
+///
+/// Those of [`values`]: the stream is as it was then, since all values are read before the first byte
+/// is written. After that `StreamFault` or `OutOfMemory` (field 0), as the stream refuses, which
+/// is as the refusal left it.
 pub fn pack<E: Endianness, W: Target>(
     alloc: Global,
     layout: &Layout,
     input: &[u8],
     output: &mut W,
 ) -> Result<(), Fault>
-    ensures { Packs W.contents (MayRefuse W.contents W.refuses) E.order layout.now (values_of 1 layout.now (lines_of input.now))
-        output.old result output.new }
+    ensures { Packs W.contents (MayRefuse W.contents W.refuses) E.order layout.now
+        (values_of 1 layout.now (lines_of input.now)) output.old result output.new }
 {
     let values = values(alloc, layout, input)?;
     let mut writer = BitWriter::<Lent<W>, E>::new(Lent::new(output));
@@ -36,8 +40,12 @@ pub fn pack<E: Endianness, W: Target>(
     }
 }
 
-/// Packs values that fit a layout: makes the write calls of the fields and aligns, up to the first call that is refused. A sink
-/// without a limit refuses none, unless its stream does or it has failed.
+/// Packs values that fit a layout: makes the write calls of the fields and aligns.
+///
+/// # Errors
+///
+/// The first call's that is refused; none is made after it. A sink without a limit refuses none,
+/// unless its stream does or it has failed.
 pub fn pack_to<W: BitWrite>(
     layout: &Layout,
     values: &[FieldValue],
@@ -46,8 +54,9 @@ pub fn pack_to<W: BitWrite>(
     requires fit { Fit layout.now values.now }
     ensures calls { WritesAll W.sink (field_writes W.sink.order layout.now values.now ++ align ∷ [])
         writer.old result writer.new }
-    ensures adds { W.sink.failed writer.old ≡ false → W.sink.limit ≡ None →
-        WritesBits W.sink (packed W.sink.order layout.now values.now (W.sink.len writer.old)) writer.old result writer.new }
+    ensures adds { W.sink.failed writer.old ≡ false → W.sink.limit ≡ None
+        → WritesBits W.sink (packed W.sink.order layout.now values.now (W.sink.len writer.old))
+        writer.old result writer.new }
 {
     append_fields(layout.fields(), values, writer)?;
     writer.byte_align()
@@ -59,7 +68,8 @@ fn append_fields<W: BitWrite>(
     writer: &mut W,
 ) -> Result<(), Error>
     requires fit { Fit fields.now values.now }
-    ensures { WritesAll W.sink (field_writes W.sink.order fields.now values.now) writer.old result writer.new }
+    ensures { WritesAll W.sink (field_writes W.sink.order fields.now values.now)
+        writer.old result writer.new }
 {
     let mut rest = values;
     for field in fields {
@@ -76,7 +86,8 @@ fn append_field<W: BitWrite>(
     writer: &mut W,
 ) -> Result<(), Error>
     requires fit { FitsField field values.now }
-    ensures { Writes W.sink (field_write W.sink.order field values.now) writer.old result writer.new }
+    ensures { Writes W.sink (field_write W.sink.order field values.now)
+        writer.old result writer.new }
 {
     match field {
         Field::Unsigned(width) => {

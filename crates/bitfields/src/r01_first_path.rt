@@ -7,7 +7,8 @@ use std::io::{ErrorKind, Read, Write};
 use std::process::Abort;
 use std::test::Fail;
 
-/// A call, what stands on its input, what it must write, the field and reason of its fault (none: empty), and its status.
+/// A call, what stands on its input, what it must write, the field and reason of its fault (none:
+/// empty), and its status.
 #[derive(Drop)]
 struct Row(&'static str, &'static [u8], &'static [u8], &'static str, u8);
 

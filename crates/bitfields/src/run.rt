@@ -29,11 +29,13 @@ pub enum NamedOrder {
     Little,
 }
 
-/// Runs the program on its arguments, without the program's name, and answers the status that it ends with: 0, or that of a fault,
-/// whose line is then printed on `faults`. A line that can't be printed leaves the status as it is.
+/// Runs the program on its arguments, without the program's name, and returns the status that it ends
+/// with: 0, or that of a fault, whose line is then printed on `faults`. A line that can't be printed
+/// leaves the status as it is.
 ///
-/// The output is written and flushed only where the whole layout succeeded: at a status of 2, 3 or 4 nothing was written, and at a
-/// status of 5 only where it was the output that refused. Nothing is printed on `faults` at a status of 0.
+/// The output is written and flushed only where the whole layout succeeded: at a status of 2, 3 or 4
+/// nothing was written, and at a status of 5 only where it was the output that refused. Nothing is
+/// printed on `faults` at a status of 0.
 pub fn run<R: Read, W: Write, X: Write>(
     alloc: Global,
     words: &[String],
@@ -50,7 +52,7 @@ pub fn run<R: Read, W: Write, X: Write>(
     }
 }
 
-/// Prints the line of a fault, and answers its status. A line that can't be printed is passed over.
+/// Prints the line of a fault, and returns its status. A line that can't be printed is passed over.
 pub fn report<X: Write>(fault: Fault, faults: &mut X) -> u8
     ensures status { result ≡ fault.status }
     ensures line { Reports X.contents fault faults.old faults.new }
@@ -65,7 +67,8 @@ fn call<R: Read, W: Write>(
     input: &mut R,
     output: &mut W,
 ) -> Result<(), Fault>
-    ensures { Calls R.remaining W.contents (request_of (map string_bytes words.now)) input.old output.old result input.new output.new }
+    ensures { Calls R.remaining W.contents (request_of (map string_bytes words.now))
+        input.old output.old result input.new output.new }
 {
     let [command, order, text] = words else {
         return Err(Fault::new(0, Reason::BadArguments));
@@ -124,7 +127,8 @@ fn perform<E: Endianness, R: Read, W: Write>(
     input: &mut R,
     output: &mut W,
 ) -> Result<(), Fault>
-    ensures { Performs R.remaining W.contents command E.order layout.now input.old output.old result input.new output.new }
+    ensures { Performs R.remaining W.contents command E.order layout.now
+        input.old output.old result input.new output.new }
 {
     match command {
         Command::Pack => pack_input::<E, R, W>(alloc, layout, input, output),
@@ -138,7 +142,8 @@ fn pack_input<E: Endianness, R: Read, W: Write>(
     input: &mut R,
     output: &mut W,
 ) -> Result<(), Fault>
-    ensures { PacksInput R.remaining W.contents E.order layout.now input.old output.old result input.new output.new }
+    ensures { PacksInput R.remaining W.contents E.order layout.now
+        input.old output.old result input.new output.new }
 {
     let mut bytes = Vec::new(alloc);
     input.read_to_end(&mut bytes)?;
@@ -153,7 +158,8 @@ fn unpack_input<E: Endianness, R: Read, W: Write>(
     input: &mut R,
     output: &mut W,
 ) -> Result<(), Fault>
-    ensures { UnpacksInput R.remaining W.contents E.order layout.now input.old output.old result input.new output.new }
+    ensures { UnpacksInput R.remaining W.contents E.order layout.now
+        input.old output.old result input.new output.new }
 {
     let lines = unpack::<E, R>(alloc, layout, input)?;
     output.write_all(&lines)?;

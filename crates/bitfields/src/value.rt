@@ -14,13 +14,16 @@ use crate::layout::Layout;
 use crate::lines::lines;
 use std::alloc::Global;
 
-/// The values that an input spells for the value fields of a layout, in their order.
+/// Returns the values that an input spells for the value fields of a layout, in their order.
 ///
-/// Refused at the first value field with a fault: as `ValueMissing` where its line is missing, as `ValueMisspelt` where the line is no
-/// decimal, and as `ValueDoesNotFit` where the number is too great; else as `ValueLeftOver` (field 0) where lines remain.
-/// `OutOfMemory` (field 0) is the only other refusal.
+/// # Errors
+///
+/// At the first value field with a fault: `ValueMissing` where its line is missing, `ValueMisspelt`
+/// where the line is no decimal, `ValueDoesNotFit` where the number is too great. Else
+/// `ValueLeftOver` (field 0) where lines remain, and `OutOfMemory` (field 0).
 pub fn values(alloc: Global, layout: &Layout, input: &[u8]) -> Result<Vec<FieldValue>, Fault>
-    ensures values { IsUnlessMemory (values_of 1 layout.now (lines_of input.now)) (seen (λ v. v.items) result) }
+    ensures values { IsUnlessMemory (values_of 1 layout.now (lines_of input.now))
+        (seen (λ v. v.items) result) }
     ensures fit { IfOk result (λ v. Fit layout.now v.items) }
 {
     let lines = lines(alloc, input)?;
@@ -29,7 +32,8 @@ pub fn values(alloc: Global, layout: &Layout, input: &[u8]) -> Result<Vec<FieldV
 
 fn read_values(alloc: Global, fields: &[Field], lines: &[&[u8]]) -> Result<Vec<FieldValue>, Fault>
     requires { IsLayout fields.now }
-    ensures { IsUnlessMemory (values_of 1 fields.now (map (λ x. x.now) lines.now)) (seen (λ v. v.items) result) }
+    ensures { IsUnlessMemory (values_of 1 fields.now (map (λ x. x.now) lines.now))
+        (seen (λ v. v.items) result) }
 {
     let mut values = Vec::new(alloc);
     let mut rest = lines;
@@ -57,7 +61,7 @@ fn push_value(values: &mut Vec<FieldValue>, value: Option<FieldValue>) -> Result
     Ok(())
 }
 
-/// How many values a field has, and so how many lines.
+/// Returns how many values a field has, and so how many lines.
 pub fn value_count(field: Field) -> usize
     ensures { result ≡ value_count_of field }
 {
@@ -67,7 +71,7 @@ pub fn value_count(field: Field) -> usize
     }
 }
 
-/// What follows the field's own lines, or its own values.
+/// Returns what follows the field's own lines, or its own values.
 pub fn behind_value<T>(field: Field, items: &[T]) -> &[T]
     requires { value_count_of field ≤ length items.now }
     ensures { result.now ≡ drop (value_count_of field) items.now }
