@@ -66,7 +66,7 @@ pub record Starved {R : Type 0} (K : BitSource R) (k : ℕ) (field : Field) (old
   pub answer : result ≡ Err (fault k OutOfMemory)
 
 -- a field's read call answered an error
-pub record Refused {R : Type 0} (K : BitSource R) (k : ℕ) (field : Field) (old : R) (result : Result (List FieldValue) Fault) (new : R) : Type 0 where
+pub record AnswersError {R : Type 0} (K : BitSource R) (k : ℕ) (field : Field) (old : R) (result : Result (List FieldValue) Fault) (new : R) : Type 0 where
   pub error : Error
   pub reads : Reads K (field_read K.order field) old (Err error) new
   pub answer : result ≡ Err (fault k (read_reason error))
@@ -76,7 +76,7 @@ pub record Refused {R : Type 0} (K : BitSource R) (k : ℕ) (field : Field) (old
 unfoldable pub ReadsFields : {R : Type 0} → BitSource R → ℕ → List Field → R → Result (List FieldValue) Fault → R → Type 0
 ReadsFields K k [] old result new = (result ≡ Ok []) × (new ≡ old)
 ReadsFields {R} K k (field ∷ fields) old result new =
-    Starved K k field old result new ⊎ Refused K k field old result new
+    Starved K k field old result new ⊎ AnswersError K k field old result new
     ⊎ ((v : Option FieldValue) × (mid : R) × (rest : Result (List FieldValue) Fault) × Reads K (field_read K.order field) old (Ok v) mid × ReadsFields K (k + 1) fields mid rest new × (result ≡ behind (value_list v) rest))
 
 -- the lines of values, or the fault

@@ -14,12 +14,16 @@ use crate::layout::Layout;
 use bitstream_io::{BitRead, BitReader, Endianness, Error, Lent, Source};
 use std::alloc::{AllocError, Global};
 
-/// Unpacks the fields of a layout from the first byte of a stream on: the line of each value, ended by LF. No byte after the last
-/// field's is asked for, and after a refused request the stream is as that left it.
+/// Unpacks the fields of a layout from the first byte of a stream on, and returns the line of each
+/// value, ended by LF. No byte after the last field's is asked for, and after a refused
+/// request the stream is as that left it.
 ///
-/// Refused as `BitsEnded` at the first field whose bits are not all there, as `StreamFault` or `OutOfMemory` at the field for which the
-/// stream refused a request, and as `OutOfMemory` at the field for whose line no memory was left. Where each refusal of the stream is an
-/// end with fewer bytes left than were asked for, as a `Slice` refuses, the refusals are exactly those of the bits; memory aside.
+/// # Errors
+///
+/// `BitsEnded` at the first field whose bits are not all there, `StreamFault` or `OutOfMemory` at the
+/// field for which the stream refused a request, `OutOfMemory` at the field for whose line no memory
+/// was left. Where each refusal of the stream is an end with fewer bytes left than were asked for, as
+/// a `Slice` refuses, the refusals are exactly those of the bits; memory aside.
 pub fn unpack<E: Endianness, R: Source>(
     alloc: Global,
     layout: &Layout,
@@ -27,17 +31,22 @@ pub fn unpack<E: Endianness, R: Source>(
 ) -> Result<Vec<u8>, Fault>
     ensures unpacks { UnpacksBytes R.remaining (MayRefuse R.remaining R.refuses) E.order layout.now
         input.old (seen (λ v. v.items) result) input.new }
-    ensures said { TrueEnds (MayRefuse R.remaining R.refuses) → (xs : List ℕ) → R.remaining input.old ≡ Some xs →
-        IsSaid E.order layout.now xs (seen (λ v. v.items) result) }
+    ensures said { TrueEnds (MayRefuse R.remaining R.refuses) → (xs : List ℕ)
+        → R.remaining input.old ≡ Some xs
+        → IsSaid E.order layout.now xs (seen (λ v. v.items) result) }
 {
     let mut reader = BitReader::<Lent<R>, E>::new(Lent::new(input));
     let lines = unpack_from(alloc, layout, &mut reader)?;
     Ok(lines.into_bytes())
 }
 
-/// Unpacks the fields of a layout from a reader: makes their read calls in order, and answers the line of each value, ended by LF.
+/// Unpacks the fields of a layout from a reader: makes their read calls in order, and returns the line
+/// of each value, ended by LF.
 ///
-/// Refused at the first field whose call answers an error, or for whose line no memory is left; no call is made after that.
+/// # Errors
+///
+/// At the first field whose call answers an error, or for whose line no memory is left; no call is
+/// made after that.
 pub fn unpack_from<R: BitRead>(
     alloc: Global,
     layout: &Layout,
@@ -98,7 +107,8 @@ fn read_reason(error: Error) -> Reason
 
 /// Appends the line of a field's value, if it has one.
 fn print_field(lines: &mut String, value: Option<FieldValue>) -> Result<(), AllocError>
-    ensures line { OnOk result (string_bytes lines.new ≡ string_bytes lines.old ++ printed_lines (value_list value)) }
+    ensures line { OnOk result
+        (string_bytes lines.new ≡ string_bytes lines.old ++ printed_lines (value_list value)) }
     ensures some { IsErr result → IsSome value }
 {
     match value {
