@@ -49,7 +49,6 @@ pub struct BitReader<R, E> {
     failed: bool,
     order: PhantomData<E>,
     ghost few: { queued < 8 },
-    ghost small: { queue < 2 ^ queued },
     ghost whole: { fetched_count port ≡ (taken.count + 7) / 8 },
     ghost back: { failed ≡ false → taken.count + queued ≡ 8 * fetched_count port },
     ghost empty: { failed ≡ true → queued ≡ 0 },
@@ -96,7 +95,7 @@ impl<R: Source, E: Endianness> BitReader<R, E> {
         ensures asks { AsksForWord bits self.old self.new }
     {
         let queued = self.queued;
-        let queue = U::from_u8(self.queue);
+        let queue = U::from_u8(E::first(self.queue, queued));
         self.queue = 0;
         self.queued = 0;
         self.failed = true;
@@ -134,9 +133,9 @@ impl<R: Source, E: Endianness> BitRead for BitReader<R, E> {
         if bits > queued {
             return self.fetch_word(bits);
         }
-        let first = E::first(self.queue, queued, bits);
+        let first = E::first(self.queue, bits);
         self.taken.add(bits as u64);
-        self.queue = E::rest(self.queue, queued, bits);
+        self.queue = E::rest(self.queue, bits);
         self.queued = queued - bits;
         Ok(U::from_u8(first))
     }

@@ -1,7 +1,7 @@
-use Rattle.std.proofs.Common.{arith, ◌≡◌, ◌+◌, ◌/◌, length, take, drop, ap, ap₂, sym, ◌∙◌}
+use Rattle.std.proofs.Common.{arith, ◌≡◌, ◌+◌, ◌/◌, length, take, drop, ap, sym, ◌∙◌}
 use Rattle.std.proofs.lemmas.List.{take-append-drop, length-take-le}
 use Rattle.bitstream_number.specs.Word.{bits}
-use Rattle.bitstream_order.specs.Parts.{piece}
+use Rattle.bitstream_order.specs.TakeBits.{unused}
 use Rattle.bitstream_order.proofs.PartLemmas.{first_below}
 use Rattle.bitstream_order.proofs.TakeLemmas.{takes_bits}
 use Rattle.bitstream_order.proofs.gather.take_bits.Goals as goal
@@ -23,4 +23,4 @@ returns-in-Ok-clause-takes g c =
     let is = c.of_bytes-value.ensures.word ∙ ap (bits g.E.Endianness.order) (g.met.U.Bytes.Buffer.items_law buf ∙ sym (take-append-drop count buf)) in
     takes_bits g.E.Endianness.order c.args.done _ c.args.n g.U.Numeric.BITS_SIZE _ _ _ _ (take count buf) (drop count buf) _ _ c.requires.below c.of_bytes-value.ensures.below
     (length-take-le count buf (omega arith)) (omega arith) c.in-Ok.ensures.fetches is c.front.ensures c.put.ensures
-    (c.cut-left.ensures ∙ ap₂ (λ k l. piece g.E.Endianness.order k (g.U.UnsignedInteger.value c.of_bytes-value.result) c.args.n l) c.BITS_SIZE.ensures c.unused_bits.ensures)
+    (c.byte_behind-left.ensures (unused c.args.n) (omega arith) (omega arith))
