@@ -5,7 +5,7 @@ ghost use Rattle.bitstream_io.specs.Sink.{inner_sink};
 
 use bitstream_io::{
     BE, BitCount, BitRead, BitReadExt, BitReader, BitWrite, BitWriteExt, BitWriter, Bits, Count,
-    Error, SignedCount, SignedInteger, UnsignedInteger,
+    Endianness, Error, LE, Primitive, SignedCount, SignedInteger, UnsignedInteger,
 };
 use std::test::Fail;
 
@@ -27,6 +27,14 @@ impl<R: BitRead> BitRead for OwnReader<R> {
         bits: C,
     ) -> Result<S, Error> {
         self.inner.read_signed_counted(bits)
+    }
+
+    fn read_to<V: Primitive>(&mut self) -> Result<V, Error> {
+        self.inner.read_to()
+    }
+
+    fn read_as_to<F: Endianness, V: Primitive>(&mut self) -> Result<V, Error> {
+        self.inner.read_as_to::<F, V>()
     }
 
     fn byte_aligned(&self) -> bool {
@@ -67,6 +75,14 @@ impl<W: BitWrite> BitWrite for OwnWriter<W> {
         self.inner.write_signed_counted(count, value)
     }
 
+    fn write_from<V: Primitive>(&mut self, value: V) -> Result<(), Error> {
+        self.inner.write_from(value)
+    }
+
+    fn write_as_from<F: Endianness, V: Primitive>(&mut self, value: V) -> Result<(), Error> {
+        self.inner.write_as_from::<F, V>(value)
+    }
+
     fn byte_aligned(&self) -> bool {
         self.inner.byte_aligned()
     }
@@ -84,14 +100,25 @@ fn writes_each<W: BitWrite>(writer: &mut W) -> Result<(), Error> {
     writer.write_const::<Bits<3>, Bits<6>>()?;
     writer.write_count(BitCount::<7>::new::<5>())?;
     writer.write_var::<[bool; 2]>(1, [true, false])?;
+    writer.byte_align()?;
+    writer.write_bit(true)?;
+    writer.write_bytes(&[0x1e, 0xd3])?;
+    writer.pad(130)?;
+    writer.write_as_from::<LE, u16>(0x1234)?;
     writer.byte_align()
 }
+
+/// What they write.
+const WRITTEN: [u8; 24] = [
+    0xce, 0x75, 0x80, 0x8f, 0x69, 0x80, 0, 0, 0, 0, 0, 0, 0, 0, 0, 0, 0, 0, 0, 0, 0, 0x06, 0x82,
+    0x40,
+];
 
 #[test]
 fn inherited_writes_are_the_same(rt: HostRuntime) -> Result<(), Fail> {
     let mut plain = Vec::new(rt.alloc());
     writes_each(&mut BitWriter::<_, BE>::new(&mut plain))?;
-    assert_eq!(rt; plain.as_slice(), [0xce, 0x75, 0x80].as_slice());
+    assert_eq!(rt; plain.as_slice(), WRITTEN.as_slice());
     let mut own = Vec::new(rt.alloc());
     writes_each(&mut OwnWriter {
         inner: BitWriter::<_, BE>::new(&mut own),
@@ -109,12 +136,19 @@ fn reads_each<R: BitRead>(reader: &mut R) -> Result<bool, Error> {
     let count: BitCount<7> = reader.read_count()?;
     let [yes, no] = reader.read_var::<[bool; 2]>(1)?;
     reader.byte_align();
-    Ok(first && unsigned == 9 && signed == -7 && count.bits() == 5 && yes && !no)
+    reader.skip(1)?;
+    let mut bytes = [0; 1];
+    reader.read_bytes(&mut bytes)?;
+    let more = reader.read_to_bytes::<[u8; 1]>()?;
+    reader.skip(130)?;
+    let bytes_read = bytes == [0x1e] && more == [0xd3] && reader.read_as_to::<LE, u16>()? == 0x1234;
+    reader.byte_align();
+    Ok(bytes_read && first && unsigned == 9 && signed == -7 && count.bits() == 5 && yes && !no)
 }
 
 #[test]
 fn inherited_reads_are_the_same(rt: HostRuntime) -> Result<(), Fail> {
-    let bytes = [0xce, 0x75, 0x80];
+    let bytes = WRITTEN;
     assert!(rt; reads_each(&mut BitReader::<_, BE>::new(&bytes[..]))?);
     let mut own = OwnReader {
         inner: BitReader::<_, BE>::new(&bytes[..]),

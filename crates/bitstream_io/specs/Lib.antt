@@ -11,7 +11,9 @@ pub use Rattle.bitstream_count.specs.Kind
 pub use Rattle.bitstream_order.specs.TakeBits
 pub use Rattle.bitstream_order.specs.Fault
 pub use Rattle.bitstream_order.specs.Parts
+pub use Rattle.bitstream_order.specs.Pieces
 pub use Rattle.bitstream_order.specs.SendBits
+pub use Rattle.bitstream_order.specs.Shift
 pub use Rattle.bitstream_order.specs.Port
 pub use Rattle.bitstream_order.specs.Refusal
 pub use Rattle.bitstream_order.specs.Slice

@@ -19,7 +19,7 @@ same_failed : {A B : Type 0} (f g : A → ReadEntry B) → ((a : A) → Same (f 
 same_failed f g same (Ok a) = (same a).on_failed
 same_failed f g same (Err e) = refl
 
-Same-chain : {A B : Type 0} (e : ReadEntry A) (f g : A → ReadEntry B) → ((a : A) → Same (f a) (g a)) → Same (chain e f) (chain e g)
+pub Same-chain : {A B : Type 0} (e : ReadEntry A) (f g : A → ReadEntry B) → ((a : A) → Same (f a) (g a)) → Same (chain e f) (chain e g)
 unfolding chain
 Same-chain e f g same = record { reads = λ p bits. same_then p bits f g same (e.reads p bits); on_failed = same_failed f g same e.on_failed }
 

@@ -1,5 +1,7 @@
 pub mod ByteReadsLemmas
 pub mod ByteWritesLemmas
+pub mod BytesLemmas
+pub mod BytesWritten
 pub mod ConstLemmas
 pub mod EntryLemmas
 pub mod LawLemmas

@@ -1,5 +1,5 @@
 -- Write calls, seen another way.
-use Rattle.std.proofs.Common.{◌≡◌, ℕ, ◌+◌, ◌*◌, ◌%◌, ◌<◌, ◌≤◌, ◌≢◌, true, false, List, [], ◌∷◌, ◌++◌, length, Option, Some, None, Result, Ok, Err, refl, sym, ◌∙◌, ap, ap₂, inl, inr, arith}
+use Rattle.std.proofs.Common.{◌≡◌, ℕ, ◌+◌, ◌*◌, ◌%◌, ◌<◌, ◌≤◌, ◌≢◌, Bool, IsTrue, true, false, List, [], ◌∷◌, ◌++◌, length, Option, Some, None, Result, Ok, Err, refl, sym, ◌∙◌, ap, ap₂, inl, inr, arith}
 use Rattle.std.proofs.lemmas.Bool.{cases_lt}
 use Rattle.std.specs.Borrow.{GName, MutBor}
 use Rattle.bitstream_count.specs.Entry.{WriteEntry}
@@ -26,6 +26,16 @@ last_byte most n len full le past off = omega arith
 
 past_seven : (most len : ℕ) → (len + 7 ≤ most → ⊥) → most < len + 7
 past_seven most len past = elim (cases_lt most (len + 7)) [ inl h ↦ h | inr h ↦ absurd (past h) ]
+
+-- a length that is not within the limit is past it
+pub past_limit : (limit : Option ℕ) (n : ℕ) → (IsWithin limit n → ⊥) → IsBeyond limit n
+past_limit None n past = past tt
+past_limit (Some most) n past = elim (cases_lt most n) [ inl h ↦ h | inr h ↦ absurd (past h) ]
+
+-- what a test that failed would have told
+pub untold : (A : Type 0) (r : Bool) → r ≡ false → (A → IsTrue r) → A → ⊥
+untold A true h f a = cc
+untold A false h f a = let t = f a in cc
 
 pub no_zeros : (limit : Option ℕ) → IsFullLimit limit → (len : ℕ) → IsWithin limit len → (IsWithin limit (len + 7) → ⊥) → len % 8 ≢ 0 → IsBeyond limit (len + to_boundary len)
 no_zeros None full len within past off = past tt

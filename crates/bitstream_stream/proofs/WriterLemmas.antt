@@ -81,9 +81,9 @@ fills_none o a known few same = record {
   word = append-nil (word o a.queued a.queue);
 }
 
-pub pushed_fault : (may : Refusal → Type 0) (o : Order) (queued queue n v : ℕ) (error : Error) (p r : PortState) (old new : Bool) (q : ℕ) → SendRefused may error p ((length (word o queued queue) + length (word o n v)) / 8) r → queued < 8 → 8 ≤ queued + n → new ≡ true
+pub pushed_fault : (may : Refusal → Type 0) (o : Order) (queued queue n v k : ℕ) (error : Error) (p r : PortState) (old new : Bool) (q : ℕ) → SendRefused may error p k r → queued < 8 → 8 ≤ queued + n → new ≡ true
     → WriteFault (queue_sink may o) (record { port = p; queued = queued; queue = queue; failed = old }) (word o n v) error (record { port = r; queued = 0; queue = q; failed = new })
-pushed_fault may o queued queue n v error p r old new q h few full broken =
+pushed_fault may o queued queue n v k error p r old new q h few full broken =
     let is = length-word o n v in
     let lengths = fault_lengths p.sent r.sent queued n h.sent few full in
     record {
@@ -103,6 +103,11 @@ pushed_fault may o queued queue n v error p r old new q h few full broken =
       broken = broken;
       reference_names = h.reference_names;
     }
+
+-- a push whose request was refused, and the writer was made to fail
+pub pushes_lost : (may : Refusal → Type 0) (o : Order) (x : List Bool) (error : Error) (result : Result (Unit {0}) Error) (p : PortState) (old new : WriterState) → result ≡ Err error → new ≡ record { port = p; queued = 0; queue = 0; failed = true }
+    → WriteFault (queue_sink may o) old x error (record { port = p; queued = 0; queue = 0; failed = true }) → Pushes may o x old result new
+pushes_lost may o x error result p old new answer is h = rw answer (subst (λ s. WriteFault (queue_sink may o) old x error s) (sym is) h)
 
 -- what a push does is what the call does
 pub pushes_writes : (may : Refusal → Type 0) (o : Order) (x : List Bool) (e : WriteEntry) (old : WriterState) (result : Result (Unit {0}) Error) (new : WriterState) → old.failed ≡ false → e ((queue_sink may o).len old) ≡ Ok x

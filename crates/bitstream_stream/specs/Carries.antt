@@ -1,5 +1,5 @@
 -- What a writer has sent, and the bits that wait behind it.
-use Rattle.std.specs.Prelude.{◌≡◌, ℕ, ◌+◌, ◌*◌, ◌<◌, Bool, Option, List, [], ◌++◌, length}
+use Rattle.std.specs.Prelude.{◌≡◌, ℕ, ◌+◌, ◌*◌, ◌<◌, Bool, true, Option, List, [], ◌++◌, length}
 use Rattle.std.specs.Io.KnownBytes.{Appends}
 use Rattle.std.proofs.Common.{sym, ap, ◌∙◌, add_assoc, add-zero, append-nil, append_assoc, length-append}
 use Rattle.std.proofs.KnownBytes.{Appends-nil, Appends-trans}
@@ -14,6 +14,10 @@ pub record WriterState : Type 0 where
   pub queued : ℕ
   pub queue : ℕ
   pub failed : Bool
+
+-- the same writer, which has failed: no bit waits any more
+abbrev pub lost : WriterState → WriterState
+lost s = record s { queued = 0; queue = 0; failed = true }
 
 -- whole bytes were sent, and the bits behind them are queued
 pub record Carries (o : Order) (a : WriterState) (x : List Bool) (b : WriterState) : Type 0 where

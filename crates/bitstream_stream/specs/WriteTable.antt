@@ -1,7 +1,7 @@
 -- The table of write calls: what each means behind so many bits written before.
 use Rattle.std.specs.Prelude.{ℕ, ℤ, pos, negsuc, ◌-◌, ◌^◌, ◌==◌, ◌||◌, nat_lt, if◌then◌else◌, Bool, false, List, [], ◌∷◌, replicate, Ok, Err}
 use Rattle.bitstream_stream.specs.Alignment.{to_boundary}
-use Rattle.bitstream_number.specs.Word.{Order, word, signed_word, count_width}
+use Rattle.bitstream_number.specs.Word.{Order, word, signed_word, bits, count_width}
 use Rattle.bitstream_count.specs.Entry.{WriteEntry}
 use Rattle.bitstream_count.specs.declared.error.Error.TheVariants.{Checked, NoSignBit}
 use Rattle.bitstream_count.specs.declared.checked_error.CheckedError.TheVariants.{ExcessiveBits, ExcessiveValue}
@@ -39,3 +39,11 @@ count o max n = plain (word o (count_width max) n)
 -- zeros up to a multiple of 8
 abbrev pub align : WriteEntry
 align len = Ok (replicate (to_boundary len) false)
+
+-- bytes
+abbrev pub buffer : Order → List ℕ → WriteEntry
+buffer o bytes = plain (bits o bytes)
+
+-- n zeros
+abbrev pub zeros : ℕ → WriteEntry
+zeros n = plain (replicate n false)

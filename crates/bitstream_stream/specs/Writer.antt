@@ -1,9 +1,10 @@
 -- What the states of a writer mean.
-use Rattle.std.specs.Prelude.{◌≡◌, ℕ, ◌+◌, ◌*◌, ◌≤◌, ◌<◌, Bool, false, List, Option, None, Result, Ok, Err}
+use Rattle.std.specs.Prelude.{◌≡◌, ℕ, ◌+◌, ◌*◌, ◌≤◌, ◌<◌, Bool, false, List, Option, None, OnOk, Result, Ok, Err}
 use Rattle.std.specs.Borrow.{GName}
 use Rattle.std.specs.declared.io.ErrorKind.{ErrorKind}
 use Rattle.std.specs.Io.KnownBytes.{Appends}
 use Rattle.bitstream_number.specs.Word.{Order, bits}
+use Rattle.bitstream_order.specs.Pieces.{pieces}
 use Rattle.bitstream_order.specs.Port.{port_state, fresh_port, requests_count}
 use Rattle.bitstream_order.specs.Refusal.{Refusal, MayRefuse}
 use Rattle.bitstream_count.specs.declared.error.Error.{Error}
@@ -31,6 +32,10 @@ queued_bits writer = writer.queued
 -- a call for a word of n bits made one request at most, and none where it filled no byte
 abbrev pub AsksForWord : {W E : Type 0} → ℕ → BitWriter W E → BitWriter W E → Type 0
 AsksForWord n old new = (requests_made new ≤ requests_made old + 1) × (queued_bits old + n < 8 → requests_made new ≡ requests_made old)
+
+-- a call for n bytes that was answered with a value made as many requests as these have pieces
+abbrev pub AsksForBytes : {W E A : Type 0} → ℕ → ℕ → BitWriter W E → Result A Error → BitWriter W E → Type 0
+AsksForBytes most n old result new = OnOk result (requests_made new ≡ requests_made old + pieces most (queued_bits old) n)
 
 -- a writer to which nothing was written, by what its stream tells
 abbrev pub fresh_writer : Option (List ℕ) → List GName → WriterState

@@ -1,13 +1,16 @@
 //! Calls that read bits.
-ghost use Rattle.std.specs.Prelude.{◌≡◌, ℕ, ◌+◌, ◌%◌, ◌^◌, ◌<◌, ◌≤◌, ◌⊎◌, ◌↔◌, false, Ok, IsTrue};
+ghost use Rattle.std.specs.Prelude.{◌≡◌, ℕ, ◌+◌, ◌%◌, ◌^◌, ◌<◌, ◌≤◌, ◌⊎◌, ◌↔◌, false, length, Ok, IsTrue};
+ghost use Rattle.bitstream_order.specs.Parts.{value_bytes};
 ghost use Rattle.bitstream_order.specs.TakeBits.{seen};
-ghost use Rattle.bitstream_stream.specs.Reads.{BitSource, Reads, ReadsConst, failing, lent_source};
-ghost use Rattle.bitstream_stream.specs.ReadTable.{bit_entry, unsigned_entry, signed_entry, const_entry, count_entry, align_entry, is_full};
+ghost use Rattle.bitstream_stream.specs.Reads.{BitSource, Reads, ReadsConst, ReadsGrowing, failing, lent_source};
+ghost use Rattle.bitstream_stream.specs.ReadTable.{bit_entry, unsigned_entry, signed_entry, const_entry, count_entry, align_entry, bytes_entry, skip_entry, is_full};
 
 use crate::width::count_bits;
 use bitstream_count::count::{BitCount, Count, SignedCount};
 use bitstream_count::error::Error;
-use bitstream_number::number::{Numeric, SignedInteger, UnsignedInteger, Width};
+use bitstream_number::number::{Numeric, Primitive, SignedInteger, UnsignedInteger, Width};
+use bitstream_order::order::Endianness;
+use std::alloc::Allocator;
 
 /// Reads bits.
 ///
@@ -55,6 +58,25 @@ pub trait BitRead {
     fn read_signed_counted<C: SignedCount, S: SignedInteger>(&mut self, bits: C) -> Result<S, Error>
         ensures reads { Reads source (signed_entry source.order S.BITS_SIZE (C.number bits))
             self.old (seen S.integer result) self.new };
+
+    /// Reads the bytes of a value in the reader's order, and returns the value.
+    ///
+    /// # Errors
+    ///
+    /// Those of the stream, after which the reader has failed, and `Failed` from then on.
+    fn read_to<V: Primitive>(&mut self) -> Result<V, Error>
+        ensures reads { Reads source (bytes_entry source.order V.BYTES) self.old
+            (seen (value_bytes source.order V.be_bytes V.le_bytes) result) self.new };
+
+    /// Reads the bytes of a value in the order F, and returns the value. The bits of each byte are
+    /// taken in the reader's order.
+    ///
+    /// # Errors
+    ///
+    /// Those of the stream, after which the reader has failed, and `Failed` from then on.
+    fn read_as_to<F: Endianness, V: Primitive>(&mut self) -> Result<V, Error>
+        ensures reads { Reads source (bytes_entry source.order V.BYTES) self.old
+            (seen (value_bytes F.order V.be_bytes V.le_bytes) result) self.new };
 
     /// Returns whether the next bit is the first of a byte. A reader that has failed is not
     /// aligned.
@@ -177,6 +199,53 @@ pub trait BitRead {
         }
     }
 
+    /// Reads bytes, which fill a buffer.
+    ///
+    /// # Errors
+    ///
+    /// Those of the stream, after which the reader has failed, and `Failed` from then on. What the
+    /// buffer holds then is not said.
+    fn read_bytes(&mut self, buf: &mut [u8]) -> Result<(), Error>
+        ensures reads { Reads source (bytes_entry source.order (length buf.old))
+            self.old (seen (λ _. buf.new) result) self.new }
+    {
+        let _: u8 = self.read_unsigned_var(0)?;
+        for at in 0..buf.len() {
+            buf[at] = self.read_unsigned_var(8)?;
+        }
+        Ok(())
+    }
+
+    /// Reads as many bytes as V has, and returns them: `read_to_bytes::<[u8; 4]>()` gives an array
+    /// of four.
+    ///
+    /// # Errors
+    ///
+    /// Those of the stream, after which the reader has failed, and `Failed` from then on.
+    fn read_to_bytes<V: Primitive>(&mut self) -> Result<V::Bytes, Error>
+        ensures reads { Reads source (bytes_entry source.order V.BYTES)
+            self.old (seen V.Bytes.items result) self.new }
+    {
+        let mut bytes = V::buffer();
+        self.read_bytes(V::as_bytes_mut(&mut bytes))?;
+        Ok(bytes)
+    }
+
+    /// Skips so many bits, whatever they are.
+    ///
+    /// # Errors
+    ///
+    /// Those of the stream, after which the reader has failed, and `Failed` from then on.
+    fn skip(&mut self, bits: u32) -> Result<(), Error>
+        ensures reads { Reads source (skip_entry bits) self.old result self.new }
+    {
+        let _: u128 = self.read_unsigned_var(bits % 128)?;
+        for _done in 0..bits / 128 {
+            let _: u128 = self.read_unsigned_var(128)?;
+        }
+        Ok(())
+    }
+
     /// Returns the reader by reference, for a function that takes a reader by value.
     fn by_ref(&mut self) -> &mut Self
         ensures value { result.now ≡ self.old }
@@ -198,6 +267,14 @@ impl<R: BitRead> BitRead for &mut R {
         bits: C,
     ) -> Result<S, Error> {
         (**self).read_signed_counted(bits)
+    }
+
+    fn read_to<V: Primitive>(&mut self) -> Result<V, Error> {
+        (**self).read_to()
+    }
+
+    fn read_as_to<F: Endianness, V: Primitive>(&mut self) -> Result<V, Error> {
+        (**self).read_as_to::<F, V>()
     }
 
     fn byte_aligned(&self) -> bool {
@@ -238,5 +315,17 @@ impl<R: BitRead> BitRead for &mut R {
 
     fn read_count<C: Count>(&mut self) -> Result<C, Error> {
         (**self).read_count()
+    }
+
+    fn read_bytes(&mut self, buf: &mut [u8]) -> Result<(), Error> {
+        (**self).read_bytes(buf)
+    }
+
+    fn read_to_bytes<V: Primitive>(&mut self) -> Result<V::Bytes, Error> {
+        (**self).read_to_bytes::<V>()
+    }
+
+    fn skip(&mut self, bits: u32) -> Result<(), Error> {
+        (**self).skip(bits)
     }
 }

@@ -1,19 +1,21 @@
 //! A reader of bits over a stream of bytes.
-ghost use Rattle.std.specs.Prelude.{◌≡◌, ℕ, ◌+◌, ◌*◌, ◌/◌, ◌^◌, ◌<◌, ◌≤◌, ◌⊎◌, IsTrue, false, true, Ok};
+ghost use Rattle.std.specs.Prelude.{◌≡◌, ℕ, ◌+◌, ◌*◌, ◌/◌, ◌^◌, ◌<◌, ◌≤◌, ◌⊎◌, IsTrue, false, true, length, Ok, OnOk};
 ghost use Rattle.bitstream_number.specs.Word.{count_width};
+ghost use Rattle.bitstream_order.specs.Parts.{value_bytes};
 ghost use Rattle.bitstream_order.specs.TakeBits.{seen};
 ghost use Rattle.bitstream_order.specs.Port.{fetched_count};
 ghost use Rattle.bitstream_stream.specs.Reads.{Reads, ReadsConst};
-ghost use Rattle.bitstream_stream.specs.ReadTable.{bit_entry, unsigned_entry, signed_entry, const_entry, count_entry, align_entry, is_full};
+ghost use Rattle.bitstream_stream.specs.ReadTable.{bit_entry, unsigned_entry, signed_entry, const_entry, count_entry, align_entry, bytes_entry, is_full};
 
 use crate::read::BitRead;
 use crate::width::count_bits;
 use bitstream_count::count::{BitCount, Count, SignedCount};
 use bitstream_count::error::Error;
-use bitstream_number::number::{Numeric, SignedInteger, UnsignedInteger, Width};
+use bitstream_number::number::{Numeric, Primitive, SignedInteger, UnsignedInteger, Width};
 use bitstream_order::gather::{take_bits, unused_bits};
 use bitstream_order::order::Endianness;
 use bitstream_order::port::Port;
+use bitstream_order::shift::shift;
 use bitstream_order::sign::signed_of;
 use bitstream_order::source::Source;
 use bitstream_order::tally::Tally;
@@ -55,7 +57,7 @@ pub struct BitReader<R, E> {
 }
 
 impl<R: Source, E: Endianness> BitReader<R, E> {
-    ghost use Rattle.bitstream_stream.specs.Reader.{new_reader_state, requests_made, AsksForWord};
+    ghost use Rattle.bitstream_stream.specs.Reader.{new_reader_state, queued_bits, requests_made, AsksForBytes, AsksForWord};
 
     /// Returns a reader of a stream's bytes. Nothing is asked of the stream yet.
     pub fn new(reader: R) -> BitReader<R, E>
@@ -108,10 +110,65 @@ impl<R: Source, E: Endianness> BitReader<R, E> {
         self.queued = unused_bits(more);
         Ok(value)
     }
+
+    /// Reads some bytes by one request.
+    fn fetch_bytes(&mut self, buf: &mut [u8]) -> Result<(), Error>
+        requires fine { self.old.failed ≡ false }
+        requires some { 1 ≤ length buf.old }
+        ensures reads { Reads ⟦<Self as BitRead>⟧.source (bytes_entry E.order (length buf.old))
+            self.old (seen (λ _. buf.new) result) self.new }
+        ensures fine { OnOk result (self.new.failed ≡ false) }
+        ensures queued { OnOk result (queued_bits self.new ≡ queued_bits self.old) }
+        ensures requests { requests_made self.new ≡ requests_made self.old + 1 }
+    {
+        let waiting = E::first(self.queue, self.queued);
+        match self.port.fetch(buf) {
+            Ok(()) => {
+                let left = shift::<E>(waiting, self.queued, buf);
+                self.queue = E::to_front(left, self.queued);
+                self.taken.add_bytes(buf.len());
+                Ok(())
+            }
+            Err(error) => {
+                self.taken.add(self.queued as u64);
+                self.queue = 0;
+                self.queued = 0;
+                self.failed = true;
+                Err(error)
+            }
+        }
+    }
+
+    /// Reads bytes, which fill a buffer: by one request where the reader is aligned, else in pieces
+    /// of at most so many bytes.
+    fn fill(&mut self, buf: &mut [u8], most: usize) -> Result<(), Error>
+        requires { 1 ≤ most }
+        ensures reads { Reads ⟦<Self as BitRead>⟧.source (bytes_entry E.order (length buf.old))
+            self.old (seen (λ _. buf.new) result) self.new }
+        ensures asks { AsksForBytes most (length buf.old) self.old result self.new }
+    {
+        if self.failed {
+            return Err(Error::Failed);
+        }
+        if self.queued == 0 {
+            return if buf.is_empty() {
+                Ok(())
+            } else {
+                self.fetch_bytes(buf)
+            };
+        }
+        let mut at = 0;
+        while at < buf.len() {
+            let end = at + most.min(buf.len() - at);
+            self.fetch_bytes(&mut buf[at..end])?;
+            at = end;
+        }
+        Ok(())
+    }
 }
 
 impl<R: Source, E: Endianness> BitRead for BitReader<R, E> {
-    ghost use Rattle.bitstream_stream.specs.Reader.{reader_source, requests_made, AsksForWord};
+    ghost use Rattle.bitstream_stream.specs.Reader.{reader_source, requests_made, AsksForBytes, AsksForWord};
 
     ghost source = { reader_source R.remaining R.refuses R.reference_names E.order };
 
@@ -226,6 +283,32 @@ impl<R: Source, E: Endianness> BitRead for BitReader<R, E> {
             Some(count) => Ok(count),
             None => unreachable!(),
         }
+    }
+
+    fn read_to<V: Primitive>(&mut self) -> Result<V, Error>
+        ensures reads { Reads ⟦<Self as BitRead>⟧.source (bytes_entry E.order V.BYTES) self.old
+            (seen (value_bytes E.order V.be_bytes V.le_bytes) result) self.new }
+        ensures asks { AsksForBytes 8 V.BYTES self.old result self.new }
+    {
+        self.read_as_to::<E, V>()
+    }
+
+    fn read_as_to<F: Endianness, V: Primitive>(&mut self) -> Result<V, Error>
+        ensures reads { Reads ⟦<Self as BitRead>⟧.source (bytes_entry E.order V.BYTES) self.old
+            (seen (value_bytes F.order V.be_bytes V.le_bytes) result) self.new }
+        ensures asks { AsksForBytes 8 V.BYTES self.old result self.new }
+    {
+        let mut bytes = V::buffer();
+        self.fill(V::as_bytes_mut(&mut bytes), 8)?;
+        Ok(F::value_of_bytes(bytes))
+    }
+
+    fn read_bytes(&mut self, buf: &mut [u8]) -> Result<(), Error>
+        ensures reads { Reads ⟦<Self as BitRead>⟧.source (bytes_entry E.order (length buf.old))
+            self.old (seen (λ _. buf.new) result) self.new }
+        ensures asks { AsksForBytes 1024 (length buf.old) self.old result self.new }
+    {
+        self.fill(buf, 1024)
     }
 
     fn byte_aligned(&self) -> bool {

@@ -2,7 +2,8 @@
 use crate::width::count_bits;
 use bitstream_count::count::{BitCount, Count, SignedCount};
 use bitstream_count::error::Error;
-use bitstream_number::number::{SignedInteger, UnsignedInteger, Width};
+use bitstream_number::number::{Primitive, SignedInteger, UnsignedInteger, Width};
+use bitstream_order::order::Endianness;
 
 /// Writes bits.
 ///
@@ -32,8 +33,9 @@ use bitstream_number::number::{SignedInteger, UnsignedInteger, Width};
 pub trait BitWrite {
     ghost use Rattle.std.specs.Prelude.{◌≡◌, ℕ, ◌+◌, ◌%◌, ◌^◌, ◌<◌, ◌≤◌, ◌↔◌, ◌⊎◌, Bool, true, false, IsTrue};
     ghost use Rattle.bitstream_number.specs.Word.{word};
+    ghost use Rattle.bitstream_order.specs.Parts.{value_bytes};
     ghost use Rattle.bitstream_stream.specs.Sink.{Sink, Writes, IsWithin};
-    ghost use Rattle.bitstream_stream.specs.WriteTable.{unsigned, signed, plain, bit as one_bit, count as count_entry, align};
+    ghost use Rattle.bitstream_stream.specs.WriteTable.{unsigned, signed, plain, bit as one_bit, count as count_entry, align, buffer, zeros};
 
     // What the states of the sink mean.
     ghost sink: { Sink Self };
@@ -69,6 +71,28 @@ pub trait BitWrite {
     ) -> Result<(), Error>
         ensures writes { Writes sink
             (signed sink.order S.BITS_SIZE (C.number count) (S.integer value))
+            self.old result self.new };
+
+    /// Writes the bytes of a value in the sink's order.
+    ///
+    /// # Errors
+    ///
+    /// Those of the stream, after which the sink has failed, and `Failed` from then on.
+    /// `CounterOverflow` past a limit: nothing is written then.
+    fn write_from<V: Primitive>(&mut self, value: V) -> Result<(), Error>
+        ensures writes { Writes sink
+            (buffer sink.order (value_bytes sink.order V.be_bytes V.le_bytes value))
+            self.old result self.new };
+
+    /// Writes the bytes of a value in the order F. The bits of each byte go in the sink's order.
+    ///
+    /// # Errors
+    ///
+    /// Those of the stream, after which the sink has failed, and `Failed` from then on.
+    /// `CounterOverflow` past a limit: nothing is written then.
+    fn write_as_from<F: Endianness, V: Primitive>(&mut self, value: V) -> Result<(), Error>
+        ensures writes { Writes sink
+            (buffer sink.order (value_bytes F.order V.be_bytes V.le_bytes value))
             self.old result self.new };
 
     /// Returns whether a multiple of 8 bits was written. A sink that has failed is not aligned.
@@ -203,6 +227,45 @@ pub trait BitWrite {
         Ok(())
     }
 
+    /// Writes bytes.
+    ///
+    /// # Errors
+    ///
+    /// Those of the stream, after which the sink has failed, and `Failed` from then on.
+    /// `CounterOverflow` past a limit: nothing is written then.
+    fn write_bytes(&mut self, bytes: &[u8]) -> Result<(), Error>
+        ensures writes { Writes sink (buffer sink.order bytes.now) self.old result self.new }
+    {
+        self.write_unsigned_var(0, 0u8)?;
+        if !self.has_room(bytes.len() as u128 * 8) {
+            return Err(Error::CounterOverflow);
+        }
+        for byte in bytes {
+            self.write_unsigned_var(8, *byte)?;
+        }
+        Ok(())
+    }
+
+    /// Writes so many zeros.
+    ///
+    /// # Errors
+    ///
+    /// Those of the stream, after which the sink has failed, and `Failed` from then on.
+    /// `CounterOverflow` past a limit: nothing is written then.
+    fn pad(&mut self, bits: u32) -> Result<(), Error>
+        ensures writes { Writes sink (zeros bits) self.old result self.new }
+    {
+        self.write_unsigned_var(0, 0u8)?;
+        if !self.has_room(bits as u128) {
+            return Err(Error::CounterOverflow);
+        }
+        self.write_unsigned_var(bits % 128, 0u128)?;
+        for _done in 0..bits / 128 {
+            self.write_unsigned_var(128, 0u128)?;
+        }
+        Ok(())
+    }
+
     /// Returns the sink by reference, for a function that takes a sink by value.
     fn by_ref(&mut self) -> &mut Self
     where
@@ -233,6 +296,14 @@ impl<W: BitWrite> BitWrite for &mut W {
         value: S,
     ) -> Result<(), Error> {
         (**self).write_signed_counted(count, value)
+    }
+
+    fn write_from<V: Primitive>(&mut self, value: V) -> Result<(), Error> {
+        (**self).write_from(value)
+    }
+
+    fn write_as_from<F: Endianness, V: Primitive>(&mut self, value: V) -> Result<(), Error> {
+        (**self).write_as_from::<F, V>(value)
     }
 
     fn byte_aligned(&self) -> bool {
@@ -273,5 +344,13 @@ impl<W: BitWrite> BitWrite for &mut W {
 
     fn byte_align(&mut self) -> Result<(), Error> {
         (**self).byte_align()
+    }
+
+    fn write_bytes(&mut self, bytes: &[u8]) -> Result<(), Error> {
+        (**self).write_bytes(bytes)
+    }
+
+    fn pad(&mut self, bits: u32) -> Result<(), Error> {
+        (**self).pad(bits)
     }
 }

@@ -1,15 +1,16 @@
 //! A writer of bits to a stream of bytes.
-ghost use Rattle.std.specs.Prelude.{◌≡◌, ℕ, ◌<◌, ◌≤◌, ◌^◌, ◌⊎◌, false, true};
+ghost use Rattle.std.specs.Prelude.{◌≡◌, ℕ, ◌+◌, ◌<◌, ◌≤◌, ◌^◌, ◌⊎◌, false, true, length, OnOk, Err};
 
 use crate::check::{check, check_signed};
 use crate::width::count_bits;
 use crate::write::BitWrite;
 use bitstream_count::count::{BitCount, Count, SignedCount};
 use bitstream_count::error::Error;
-use bitstream_number::number::{Numeric, SignedInteger, UnsignedInteger, Width};
+use bitstream_number::number::{Numeric, Primitive, SignedInteger, UnsignedInteger, Width};
 use bitstream_order::order::Endianness;
 use bitstream_order::port::Port;
 use bitstream_order::send::send_front;
+use bitstream_order::shift::shift;
 use bitstream_order::sign::complement;
 use bitstream_order::target::Target;
 use std::marker::PhantomData;
@@ -43,9 +44,10 @@ pub struct BitWriter<W, E> {
 }
 
 impl<W: Target, E: Endianness> BitWriter<W, E> {
-    ghost use Rattle.bitstream_number.specs.Word.{word};
+    ghost use Rattle.bitstream_number.specs.Word.{word, bits};
     ghost use Rattle.bitstream_order.specs.Refusal.{MayRefuse};
-    ghost use Rattle.bitstream_stream.specs.Writer.{writer_state, fresh_writer, AsksForWord, Pushes};
+    ghost use Rattle.bitstream_stream.specs.Carries.{lost};
+    ghost use Rattle.bitstream_stream.specs.Writer.{writer_state, fresh_writer, queued_bits, requests_made, AsksForBytes, AsksForWord, Pushes};
 
     /// Returns a writer to a stream. Nothing is asked of the stream yet.
     pub fn new(stream: W) -> BitWriter<W, E>
@@ -71,6 +73,20 @@ impl<W: Target, E: Endianness> BitWriter<W, E> {
         BitWriter::new(stream)
     }
 
+    /// Makes the writer fail, and answers the error of the request that was refused. No bit waits any
+    /// more.
+    fn refuse(&mut self, error: Error) -> Result<(), Error>
+        ensures answer { result ≡ Err error }
+        ensures lost { writer_state W.contents W.reference_names self.new
+            ≡ lost (writer_state W.contents W.reference_names self.old) }
+        ensures requests { requests_made self.new ≡ requests_made self.old }
+    {
+        self.queue = 0;
+        self.queued = 0;
+        self.failed = true;
+        Err(error)
+    }
+
     /// Writes the n lowest bits of a value.
     #[inline(always)]
     fn push<U: UnsignedInteger>(&mut self, value: U, n: u32) -> Result<(), Error>
@@ -93,21 +109,81 @@ impl<W: Target, E: Endianness> BitWriter<W, E> {
                 self.queued = n - gone;
                 Ok(())
             }
-            Err(error) => {
-                self.queue = 0;
-                self.queued = 0;
-                self.failed = true;
-                Err(error)
-            }
+            Err(error) => self.refuse(error),
         }
+    }
+
+    /// Writes some bytes by one request, with nothing queued before them.
+    fn send_aligned(&mut self, bytes: &[u8]) -> Result<(), Error>
+        requires sound { self.old.failed ≡ false }
+        requires none { self.old.queued ≡ 0 }
+        requires some { 1 ≤ length bytes.now }
+        ensures pushes { Pushes (MayRefuse W.contents W.refuses) E.order (bits E.order bytes.now)
+            (writer_state W.contents W.reference_names self.old) result
+            (writer_state W.contents W.reference_names self.new) }
+        ensures requests { requests_made self.new ≡ requests_made self.old + 1 }
+    {
+        match self.port.send(bytes) {
+            Ok(()) => Ok(()),
+            Err(error) => self.refuse(error),
+        }
+    }
+
+    /// Writes some bytes by one request. They are shifted in their place.
+    fn send_shifted(&mut self, bytes: &mut [u8]) -> Result<(), Error>
+        requires sound { self.old.failed ≡ false }
+        requires some { 1 ≤ length bytes.old }
+        ensures pushes { Pushes (MayRefuse W.contents W.refuses) E.order (bits E.order bytes.old)
+            (writer_state W.contents W.reference_names self.old) result
+            (writer_state W.contents W.reference_names self.new) }
+        ensures queued { OnOk result (queued_bits self.new ≡ queued_bits self.old) }
+        ensures requests { requests_made self.new ≡ requests_made self.old + 1 }
+    {
+        let left = shift::<E>(self.queue, self.queued, bytes);
+        match self.port.send(bytes) {
+            Ok(()) => {
+                self.queue = left;
+                Ok(())
+            }
+            Err(error) => self.refuse(error),
+        }
+    }
+
+    /// Writes bytes: by one request where the writer is aligned, else in pieces of at most N bytes.
+    fn push_bytes<const N: usize>(&mut self, bytes: &[u8]) -> Result<(), Error>
+        requires sound { self.old.failed ≡ false }
+        requires some { 1 ≤ N }
+        requires few { N ≤ 1024 }
+        ensures pushes { Pushes (MayRefuse W.contents W.refuses) E.order (bits E.order bytes.now)
+            (writer_state W.contents W.reference_names self.old) result
+            (writer_state W.contents W.reference_names self.new) }
+        ensures asks { AsksForBytes N (length bytes.now) self.old result self.new }
+    {
+        if bytes.is_empty() {
+            return Ok(());
+        }
+        if self.queued == 0 {
+            return self.send_aligned(bytes);
+        }
+        let mut scratch = [0u8; N];
+        let mut at = 0;
+        while at < bytes.len() {
+            let end = at + N.min(bytes.len() - at);
+            let piece = &mut scratch[..end - at];
+            piece.copy_from_slice(&bytes[at..end]);
+            self.send_shifted(piece)?;
+            at = end;
+        }
+        Ok(())
     }
 }
 
 impl<W: Target, E: Endianness> BitWrite for BitWriter<W, E> {
     ghost use Rattle.bitstream_number.specs.Word.{word, count_width};
-    ghost use Rattle.bitstream_stream.specs.Writer.{writer_sink, AsksForWord};
+    ghost use Rattle.bitstream_order.specs.Parts.{value_bytes};
+    ghost use Rattle.bitstream_stream.specs.Writer.{writer_sink, AsksForBytes, AsksForWord};
     ghost use Rattle.bitstream_stream.specs.Sink.{Writes};
-    ghost use Rattle.bitstream_stream.specs.WriteTable.{unsigned, signed, plain, bit as one_bit, count as count_entry};
+    ghost use Rattle.bitstream_stream.specs.WriteTable.{unsigned, signed, plain, bit as one_bit, count as count_entry, buffer};
 
     ghost sink = { writer_sink W.contents W.refuses W.reference_names E.order };
 
@@ -216,6 +292,39 @@ impl<W: Target, E: Endianness> BitWrite for BitWriter<W, E> {
             return Err(Error::Failed);
         }
         self.push(u8::from(bit), 1)
+    }
+
+    fn write_from<V: Primitive>(&mut self, value: V) -> Result<(), Error>
+        ensures writes { Writes ⟦<Self as BitWrite>⟧.sink
+            (buffer E.order (value_bytes E.order V.be_bytes V.le_bytes value))
+            self.old result self.new }
+        ensures asks { AsksForBytes 8 V.BYTES self.old result self.new }
+    {
+        self.write_as_from::<E, V>(value)
+    }
+
+    fn write_as_from<F: Endianness, V: Primitive>(&mut self, value: V) -> Result<(), Error>
+        ensures writes { Writes ⟦<Self as BitWrite>⟧.sink
+            (buffer E.order (value_bytes F.order V.be_bytes V.le_bytes value))
+            self.old result self.new }
+        ensures asks { AsksForBytes 8 V.BYTES self.old result self.new }
+    {
+        let bytes = F::value_to_bytes(value);
+        if self.failed {
+            return Err(Error::Failed);
+        }
+        self.push_bytes::<8>(V::as_bytes(&bytes))
+    }
+
+    fn write_bytes(&mut self, bytes: &[u8]) -> Result<(), Error>
+        ensures writes { Writes ⟦<Self as BitWrite>⟧.sink (buffer E.order bytes.now)
+            self.old result self.new }
+        ensures asks { AsksForBytes 1024 (length bytes.now) self.old result self.new }
+    {
+        if self.failed {
+            return Err(Error::Failed);
+        }
+        self.push_bytes::<1024>(bytes)
     }
 
     fn byte_aligned(&self) -> bool {

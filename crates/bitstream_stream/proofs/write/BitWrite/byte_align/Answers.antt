@@ -4,7 +4,7 @@ use Rattle.bitstream_stream.specs.Alignment.{to_boundary}
 use Rattle.bitstream_stream.specs.Sink.{IsWithin}
 use Rattle.bitstream_stream.specs.WriteTable.{align}
 use Rattle.bitstream_stream.proofs.SinkParts.{from_ok, to_ok, probe_failed, probe_passed, stop_later, Begun-more}
-use Rattle.bitstream_stream.proofs.SinkLemmas.{within_less, no_zeros}
+use Rattle.bitstream_stream.proofs.SinkLemmas.{within_less, no_zeros, untold}
 use Rattle.std.proofs.lemmas.List.{length-replicate}
 use Rattle.bitstream_stream.proofs.WriteLemmas.{unsigned-none, replicate-split, replicate-more, to_boundary-step}
 use Rattle.bitstream_stream.proofs.write.BitWrite.byte_align.Goals as goal
@@ -38,11 +38,6 @@ loop-self-init g c =
 off : (A B : Type 0) (r : Bool) → (IsTrue r → A × B) × (A × B → IsTrue r) → r ≡ false → A → B → ⊥
 off A B true h e a b = cc
 off A B false h e a b = let t = h.1 (a, b) in cc
-
--- what a test that failed would have told
-untold : (A : Type 0) (r : Bool) → r ≡ false → (A → IsTrue r) → A → ⊥
-untold A true h f a = cc
-untold A false h f a = let t = f a in cc
 
 pub returns-then-not-has_room : goal.returns-then-not-has_room
 returns-then-not-has_room g c = record {

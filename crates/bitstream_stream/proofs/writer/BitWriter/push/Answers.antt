@@ -1,5 +1,5 @@
 use Rattle.std.proofs.Common.{refl, arith}
-use Rattle.bitstream_stream.proofs.WriterLemmas.{queue_small, pushed_queue, pushed_bytes, pushed_fault}
+use Rattle.bitstream_stream.proofs.WriterLemmas.{queue_small, pushed_queue, pushed_bytes, pushed_fault, pushes_lost}
 use Rattle.bitstream_stream.proofs.writer.BitWriter.push.Goals as goal
 
 pub invariant_of-self-clause-small : goal.invariant_of-self-clause-small
@@ -16,4 +16,5 @@ returns-in-Ok-clause-pushes g c =
 
 pub returns-in-Err-clause-pushes : goal.returns-in-Err-clause-pushes
 returns-in-Err-clause-pushes g c =
-    pushed_fault _ g.E.Endianness.order c.args.self.now.queued c.args.self.now.queue c.args.n (g.U.UnsignedInteger.value c.args.value) _ _ _ _ _ _ c.in-Err.ensures.sends c.args.self.now.few (omega arith) refl
+    pushes_lost _ g.E.Endianness.order _ _ _ _ _ _ c.refuse.ensures.answer c.refuse.ensures.lost
+    (pushed_fault _ g.E.Endianness.order c.args.self.now.queued c.args.self.now.queue c.args.n (g.U.UnsignedInteger.value c.args.value) _ _ _ _ _ _ _ c.in-Err.ensures.sends c.args.self.now.few (omega arith) refl)

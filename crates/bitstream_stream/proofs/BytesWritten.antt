@@ -1,0 +1,95 @@
+-- Bytes behind the queue of a writer, and zeros.
+use Rattle.std.proofs.Common.{◌≡◌, ℕ, zero, suc, ◌+◌, ◌*◌, ◌^◌, ◌<◌, ◌≤◌, Bool, true, false, List, [], ◌∷◌, ◌++◌, length, take, drop, replicate, reverse, Result, Ok, Err, refl, sym, ap, ◌∙◌, subst, arith, add-one}
+use Rattle.std.proofs.Math.Nat.{zero-div}
+use mathlib.Core.List.{reverse-cons}
+use Rattle.bitstream_number.specs.Word.{Order, High, Low, digits, word, number, bits}
+use Rattle.std.specs.Result.{IsErrAnd}
+use lib.Seq.{take-add}
+use Rattle.bitstream_number.proofs.WordLemmas.{bits-append, length-bits, word-number}
+use Rattle.bitstream_count.specs.declared.error.Error.{Error}
+use Rattle.bitstream_order.specs.Port.{PortState, Sent, SendRefused}
+use Rattle.bitstream_order.specs.Refusal.{Refusal}
+use Rattle.bitstream_order.specs.Shift.{Shifts}
+use Rattle.bitstream_stream.specs.Carries.{WriterState}
+use Rattle.bitstream_stream.specs.Sink.{Sink, Appended, WriteFault}
+use Rattle.bitstream_stream.specs.Writer.{queue_sink, Pushes}
+use Rattle.bitstream_stream.proofs.SinkParts.{WriteFault-behind, WriteFault-longer}
+use Rattle.bitstream_stream.specs.WriteTable.{unsigned}
+use Rattle.bitstream_stream.proofs.WriteLemmas.{replicate-more, unsigned-fits}
+use Rattle.std.proofs.lemmas.Nat.{pow_pos}
+use Rattle.std.proofs.lemmas.List.{replicate-append-replicate, take-append-drop}
+use Rattle.bitstream_stream.proofs.WriterLemmas.{pushed_fault}
+
+-- ---- one request
+
+-- bytes that went, which the bits written made behind the queue
+pub sent_bytes : (may : Refusal → Type 0) (o : Order) (queued queue left : ℕ) (xs ys : List ℕ) (p r : PortState) (old new : Bool) → Shifts o queued queue (bits o xs) (bits o ys) left → Sent p ys r → new ≡ false
+    → Appended (queue_sink may o) (record { port = p; queued = queued; queue = queue; failed = old }) (bits o xs) (record { port = r; queued = queued; queue = left; failed = new })
+sent_bytes may o queued queue left xs ys p r old new shifted h sound = record {
+  grown = record { bytes = ys; grows = h.grows; sent = h.sent; word = shifted };
+  sound = sound;
+  refusals = h.refusals;
+  reference_names = h.reference_names;
+}
+
+pub bytes_fault : (may : Refusal → Type 0) (o : Order) (queued queue : ℕ) (xs : List ℕ) (error : Error) (k : ℕ) (p r : PortState) (old new : Bool) (q : ℕ) → SendRefused may error p k r → queued < 8 → 1 ≤ length xs → new ≡ true
+    → WriteFault (queue_sink may o) (record { port = p; queued = queued; queue = queue; failed = old }) (bits o xs) error (record { port = r; queued = 0; queue = q; failed = new })
+bytes_fault may o queued queue xs error k p r old new q h few some broken =
+    let n = length (bits o xs) in
+    let v = number o (bits o xs) in
+    let size : n ≡ 8 * length xs = length-bits o xs in
+    subst (λ w. WriteFault (queue_sink may o) (record { port = p; queued = queued; queue = queue; failed = old }) w error (record { port = r; queued = 0; queue = q; failed = new })) (word-number o (bits o xs))
+    (pushed_fault may o queued queue n v k error p r old new q h few (omega arith) broken)
+
+-- ---- several
+
+pub appended_none : {S : Type 0} (K : Sink S) (s : S) → K.failed s ≡ false → Appended K s [] s
+appended_none K s sound = record { grown = K.appends_nil s; sound = sound; refusals = refl; reference_names = refl }
+
+pub appended_more : {S : Type 0} (K : Sink S) (s t z : S) (x y : List Bool) → Appended K s x t → Appended K t y z → Appended K s (x ++ y) z
+appended_more K s t z x y h k = record {
+  grown = K.appends_trans s t z x y h.grown k.grown;
+  sound = k.sound;
+  refusals = k.refusals ∙ h.refusals;
+  reference_names = k.reference_names ∙ h.reference_names;
+}
+
+-- a part of some bytes behind those before it
+pub appended_part : (may : Refusal → Type 0) (o : Order) (s t z : WriterState) (at n k : ℕ) (xs part : List ℕ) → k ≡ n → part ≡ take k (drop at xs) → Appended (queue_sink may o) s (bits o (take at xs)) t → Appended (queue_sink may o) t (bits o part) z
+    → Appended (queue_sink may o) s (bits o (take (at + n) xs)) z
+appended_part may o s t z at n k xs part same is h more =
+    let all : take at xs ++ part ≡ take (at + n) xs = ap (λ l. take at xs ++ l) (is ∙ ap (λ j. take j (drop at xs)) same) ∙ sym (take-add at n xs) in
+    subst (λ x. Appended (queue_sink may o) s x z) (sym (bits-append o (take at xs) part) ∙ ap (bits o) all) (appended_more (queue_sink may o) s t z (bits o (take at xs)) (bits o part) h more)
+
+-- a part of some bytes was refused, behind those before it
+pub pushes_stop : (may : Refusal → Type 0) (o : Order) (s t z : WriterState) (at k : ℕ) (xs part : List ℕ) (error : Error) (r : Result (Unit {0}) Error) → IsErrAnd r (λ e. e ≡ error) → part ≡ take k (drop at xs)
+    → Appended (queue_sink may o) s (bits o (take at xs)) t → WriteFault (queue_sink may o) t (bits o part) error z → Pushes may o (bits o xs) s r z
+pushes_stop may o s t z at k xs part error (Ok done) e is h f = absurd e
+pushes_stop may o s t z at k xs part error (Err x) e is h f =
+    let rest = drop k (drop at xs) in
+    let cut : part ++ rest ≡ drop at xs = ap (λ (l : List ℕ). l ++ rest) is ∙ take-append-drop k (drop at xs) in
+    let all : bits o (take at xs) ++ (bits o part ++ bits o rest) ≡ bits o xs =
+    ap (λ (l : List Bool). bits o (take at xs) ++ l) (sym (bits-append o part rest) ∙ ap (bits o) cut) ∙ sym (bits-append o (take at xs) (drop at xs)) ∙ ap (bits o) (take-append-drop at xs) in
+    rw e (subst (λ (w : List Bool). WriteFault (queue_sink may o) s w error z) all
+    (WriteFault-behind (queue_sink may o) s t z error (bits o (take at xs)) (bits o part ++ bits o rest) h (WriteFault-longer (queue_sink may o) t z error (bits o part) (bits o rest) f)))
+
+-- ---- zeros
+
+digits-zeros : (n : ℕ) → digits n 0 ≡ replicate n false
+unfolding digits
+digits-zeros zero = refl
+digits-zeros (suc n) = rw (zero-div (2 ^ n), digits-zeros n) refl
+
+reverse-zeros : (n : ℕ) → reverse (replicate n false) ≡ replicate n false
+reverse-zeros zero = refl
+reverse-zeros (suc n) = reverse-cons false (replicate n false) ∙ ap (λ l. l ++ false ∷ []) (reverse-zeros n) ∙ sym (replicate-more n false) ∙ ap (λ (k : ℕ). replicate k false) (add-one n)
+
+pub word-zeros : (o : Order) (n : ℕ) → word o n 0 ≡ replicate n false
+word-zeros High n = digits-zeros n
+word-zeros Low n = ap reverse (digits-zeros n) ∙ reverse-zeros n
+
+pub zeros-split : (a b n : ℕ) → a + b ≡ n → replicate n false ≡ replicate a false ++ replicate b false
+zeros-split a b n sum = ap (λ (k : ℕ). replicate k false) (sym sum) ∙ sym (replicate-append-replicate a b false)
+
+pub accepts_zeros : (o : Order) (size n len : ℕ) → n ≤ size → unsigned o size n 0 len ≡ Ok (replicate n false)
+accepts_zeros o size n len le = unsigned-fits o size n 0 len le (pow_pos n) ∙ ap Ok (word-zeros o n)

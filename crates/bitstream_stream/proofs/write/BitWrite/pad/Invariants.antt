@@ -1,0 +1,13 @@
+use Rattle.std.proofs.Common.{◌+◌, ◌*◌, ◌%◌, replicate, false}
+use Rattle.bitstream_stream.specs.Sink.{IsWithin}
+use Rattle.bitstream_stream.proofs.SinkParts.{Begun}
+use Rattle.bitstream_stream.proofs.write.BitWrite.pad.Given as goal
+
+-- the zeros that are no whole 128 were written, and so many 128 behind them; and there is room for all
+abbrev pub invariant-loop-done : goal.invariant-loop-done
+invariant-loop-done g l =
+    let K = g.Self.BitWrite.sink in
+    record {
+      begun : Begun K l.fn.self (replicate (l.bits % 128 + 128 * l._done) false) l.self;
+      room : IsWithin K.limit (K.len l.fn.self + l.bits);
+    }
