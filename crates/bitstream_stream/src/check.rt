@@ -13,7 +13,6 @@ use bitstream_number::number::{SignedInteger, UnsignedInteger};
 ///
 /// `Checked(ExcessiveBits)` where the type has fewer bits, `Checked(ExcessiveValue)` where the value
 /// takes more.
-#[inline(always)]
 pub fn check<U: UnsignedInteger>(bits: u32, value: U) -> Result<(), Error>
     ensures width { OnOk result (bits ≤ U.BITS_SIZE) }
     ensures word { OnOk result ((o : Order) (len : ℕ) →
@@ -34,7 +33,6 @@ pub fn check<U: UnsignedInteger>(bits: u32, value: U) -> Result<(), Error>
 ///
 /// `NoSignBit` at 0 bits, `Checked(ExcessiveBits)` where the type has fewer, and
 /// `Checked(ExcessiveValue)` where the value takes more.
-#[inline(always)]
 pub fn check_signed<S: SignedInteger>(bits: u32, value: S) -> Result<(), Error>
     ensures some { OnOk result (1 ≤ bits) }
     ensures width { OnOk result (bits ≤ S.BITS_SIZE) }
