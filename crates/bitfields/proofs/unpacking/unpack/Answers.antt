@@ -1,4 +1,4 @@
-use Rattle.std.proofs.Common.{rules, ◌≡◌, ◌∷◌, sym, ◌∙◌, string_bytes, Ok}
+use Rattle.std.proofs.Common.{rules, ◌≡◌, ◌∷◌, subst, string_bytes, Ok}
 use Rattle.bitstream_io.specs.TakeBits.{seen}
 use Rattle.bitstream_io.specs.Refusal.{MayRefuse}
 use Rattle.bitfields.specs.Unpacking.{UnpacksBytes}
@@ -18,10 +18,13 @@ returns g c =
     let inside = MayRefuse-seen (λ l. l.at.now) source.remaining source.refuses in
     let all = Unpacks-from _ may fields (source.remaining first.at.now) (first.at.ghost_name ∷ source.reference_names first.at.now) _ _ _ inside c.new-reader.ensures.state c.in_ok-lines.ensures in
     let place = heads first.at.ghost_name last.at.ghost_name _ _ all.1 in
-    let tied = c.input-1.given.1 (sym c.new.ensures.name ∙ sym place) in
+    let names = c.new.ensures.name in
     let result = Ok c.into_bytes.result.items in
-    let bytes : UnpacksBytes source.remaining may o fields c.args.input.now result c.input-1.given.0 = rw (tied, text, ← c.new.ensures.value) all.0 in
-    record { unpacks = bytes; said = said source.remaining may o fields c.args.input.now c.input-1.given.0 result bytes }
+    let bytes : UnpacksBytes source.remaining may o fields c.args.input.now result last.at.now = rw (text, ← c.new.ensures.value) all.0 in
+    record {
+      unpacks = subst (λ l. UnpacksBytes source.remaining may o fields c.args.input.now result l) (search rules) bytes;
+      said = said source.remaining may o fields c.args.input.now last.at.now result bytes;
+    }
 
 pub returns-in_err-lines : goal.returns-in_err-lines
 returns-in_err-lines g c =
@@ -34,8 +37,11 @@ returns-in_err-lines g c =
     let inside = MayRefuse-seen (λ l. l.at.now) source.remaining source.refuses in
     let all = Unpacks-from _ may fields (source.remaining first.at.now) (first.at.ghost_name ∷ source.reference_names first.at.now) _ _ _ inside c.new-reader.ensures.state c.in_err-lines.ensures in
     let place = heads first.at.ghost_name last.at.ghost_name _ _ all.1 in
-    let tied = c.input-1.given.1 (sym c.new.ensures.name ∙ sym place) in
+    let names = c.new.ensures.name in
     let result = seen (λ v. v.items) c.from_residual.result in
-    let bytes : UnpacksBytes source.remaining may o fields c.args.input.now result c.input-1.given.0 =
-    UnpacksBytes-exit source.remaining may o fields c.args.input.now c.input-1.given.0 (λ v. v.items) c.from_residual.result c.in_err-lines.field-0.0 c.from_residual.ensures.1 (rw (tied, ← c.new.ensures.value) all.0) in
-    record { unpacks = bytes; said = said source.remaining may o fields c.args.input.now c.input-1.given.0 result bytes }
+    let bytes : UnpacksBytes source.remaining may o fields c.args.input.now result last.at.now =
+    UnpacksBytes-exit source.remaining may o fields c.args.input.now last.at.now (λ v. v.items) c.from_residual.result c.in_err-lines.field-0.0 c.from_residual.ensures.1 (rw (← c.new.ensures.value) all.0) in
+    record {
+      unpacks = subst (λ l. UnpacksBytes source.remaining may o fields c.args.input.now result l) (search rules) bytes;
+      said = said source.remaining may o fields c.args.input.now last.at.now result bytes;
+    }
