@@ -1,8 +1,9 @@
-use Rattle.std.proofs.Common.{◌∷◌, ◌∙◌, ◌+◌, ◌*◌, inr, sym, ap, refl}
+use Rattle.std.proofs.Common.{◌∷◌, ◌∙◌, ◌+◌, ◌*◌, inr, sym, ap, refl, rules, subst}
 use Rattle.bitstream_io.specs.Refusal.{MayRefuse}
 use Rattle.bitstream_io.specs.Carries.{WriterState}
 use Rattle.bitstream_io.specs.Writer.{writer_state}
 use Rattle.bitfields.specs.Fault.{fault as fault_of}
+use Rattle.bitfields.specs.Packing.{PackedBytes}
 use Rattle.bitfields.proofs.MemoryLemmas.{value_expected, fault_expected}
 use Rattle.bitfields.proofs.PackingLemmas.{PackedBytes-from, heads, Packs-refused, filled, RefusedBytes-from}
 use Rattle.bitfields.proofs.UnpackedBytes.{MayRefuse-seen}
@@ -15,9 +16,10 @@ returns-in-Ok g c =
     let added = c.in-Ok.ensures.adds (ap (λ (s : WriterState). s.failed) fresh) refl in
     let read = (value_expected c.in_ok-values.ensures.values) in
     let place = heads c.new.result.at.ghost_name w.port.stream.at.ghost_name _ _ (added.reference_names ∙ ap (λ (s : WriterState). s.port.reference_names) fresh) in
-    let tied = c.output-1.given.1 (sym c.new.ensures.name ∙ sym place) in
     let bytes = PackedBytes-from g.E.Endianness.order c.args.layout.now c.deref.result.now _ _ _ (writer_state (λ l. g.W.Target.contents l.at.now) (λ l. l.at.ghost_name ∷ g.W.Target.reference_names l.at.now) w) w.few fresh added.grown in
-    rw (read, tied, ← c.new.ensures.value, ← c.deref.ensures.value) bytes
+    let names = c.new.ensures.name in
+    rw (read, ← c.new.ensures.value, ← c.deref.ensures.value)
+    (subst (λ l. PackedBytes g.E.Endianness.order c.args.layout.now c.deref.result.now (g.W.Target.contents c.new.result.at.now) (g.W.Target.contents l)) (search rules) bytes)
 
 pub returns : goal.returns
 returns g c =
