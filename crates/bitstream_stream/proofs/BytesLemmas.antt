@@ -2,24 +2,29 @@
 use Rattle.std.specs.Prelude.{min}
 use Rattle.std.specs.Result.{IsErrAnd}
 use Rattle.std.proofs.lemmas.Nat.{div-mul-add}
-use Rattle.std.proofs.Common.{◌≡◌, ℕ, zero, suc, ◌+◌, ◌-◌, ◌*◌, ◌/◌, ◌^◌, ◌<◌, ◌≤◌, Bool, true, false, List, [], ◌∷◌, ◌++◌, length, Result, Ok, Err, refl, sym, ap, ◌∙◌, subst, arith}
+use Rattle.std.proofs.Math.ListN.{drop_of_length-le}
+use Rattle.std.proofs.Math.Seq.{take-append_seam, drop-append_seam}
+use borrow.Rule.Slice.PartMut.{put_mid}
+use Rattle.bitstream_stream.specs.WriteTable.{buffer, unsigned}
+use Rattle.bitstream_stream.proofs.WriteLemmas.{unsigned-fits}
+use Rattle.std.proofs.Common.{◌≡◌, ℕ, zero, suc, ◌+◌, ◌-◌, ◌*◌, ◌/◌, ◌^◌, ◌<◌, ◌≤◌, Bool, true, false, List, [], ◌∷◌, ◌++◌, length, take, drop, append-nil, length-append, replicate, Result, Ok, Err, refl, sym, ap, ◌∙◌, subst, arith}
 use Rattle.bitstream_number.specs.Word.{Order, word, number, bits, bytes, bytes_of}
 use Rattle.bitstream_number.proofs.Bytes.{AreBytes}
 use Rattle.bitstream_number.proofs.ByteLemmas.{bytes_of-bits, bytes_of-number, bytes_of-append, bytes_of-one}
-use Rattle.bitstream_number.proofs.WordLemmas.{length-bits, word-number, number-lt}
-use Rattle.std.proofs.lemmas.List.{nil_from_length}
+use Rattle.bitstream_number.proofs.WordLemmas.{bits-bytes, length-bits, word-number, number-lt}
+use Rattle.std.proofs.lemmas.List.{nil_from_length, length-replicate}
 use Rattle.bitstream_count.specs.declared.error.Error.{Error}
-use Rattle.bitstream_count.specs.declared.error.Error.TheVariants.{Failed}
+use Rattle.bitstream_count.specs.declared.error.Error.TheVariants.{Failed, OutOfMemory}
 use Rattle.bitstream_count.specs.Entry.{ReadEntry, chain, gives, takes}
 use Rattle.bitstream_order.specs.Port.{PortState, Fetched}
 use Rattle.bitstream_order.specs.Shift.{Shifts}
 use Rattle.bitstream_order.specs.Pieces.{pieces}
 use Rattle.bitstream_order.specs.TakeBits.{TakesWord, seen}
-use Rattle.bitstream_stream.specs.Reads.{BitSource, ReadOutcome, stays_failed}
+use Rattle.bitstream_stream.specs.Reads.{BitSource, ReadOutcome, failing, stays_failed}
 use Rattle.bitstream_stream.specs.ReadTable.{unsigned_entry, bytes_entry, skip_entry}
 use Rattle.bitstream_stream.proofs.EntryLemmas.{Same, Same-trans, word_front-some, chain_takes, map_takes}
 use Rattle.bitstream_stream.proofs.LawLemmas.{Same-chain}
-use Rattle.bitstream_stream.proofs.ReadsLemmas.{Reads-same, Reads-chain-ok, Reads-chain-err, Reads-gives, Reads-nothing, seen_err}
+use Rattle.bitstream_stream.proofs.ReadsLemmas.{Reads-same, Reads-chain-ok, Reads-chain-err, Reads-gives, Reads-nothing, Reads-lacks_memory, seen_err}
 use Rattle.bitstream_stream.proofs.TableLemmas.{unsigned-takes}
 
 -- ---- entries
@@ -57,6 +62,31 @@ skip-number o size n le = rw (unsigned-takes o size n le) (map_takes n (number o
 skip-split : (a b : ℕ) → Same (chain (skip_entry a) (λ _. skip_entry b)) (skip_entry (a + b))
 unfolding skip_entry
 skip-split a b = chain_takes a b (λ _. tt) (λ _ _. Ok tt) (λ _. Ok tt) (λ u v _ _. refl)
+
+bytes-on_failed : (o : Order) (n : ℕ) → (bytes_entry o n).on_failed ≡ Err Failed
+unfolding bytes_entry
+bytes-on_failed o n = refl
+
+-- how long a buffer is that has grown
+pub grown_length : (xs all : List ℕ) (n : ℕ) → all ≡ xs ++ replicate (n - length xs) 0 → length xs ≤ n → length all ≡ n
+grown_length xs all n is le = ap length is ∙ length-append xs (replicate (n - length xs) 0) ∙ ap (λ k. length xs + k) (length-replicate (n - length xs) 0) ∙ omega arith
+
+-- what was read into the end of a buffer that had grown
+pub grown_part : (n at : ℕ) (xs zs all items part : List ℕ) → n ≡ length all → all ≡ xs ++ zs → length xs ≡ at → length part ≡ length all - at
+    → take n (put_mid at (length all - at) all part ++ drop (length (put_mid at (length all - at) all part)) items) ≡ xs ++ part
+grown_part n at xs zs all items part len is short fits =
+    let size : length all ≡ at + length zs = ap length is ∙ length-append xs zs ∙ ap (λ k. k + length zs) short in
+    let front : take at all ≡ xs = ap (take at) is ∙ ap (λ k. take k (xs ++ zs)) (sym short) ∙ take-append_seam xs zs in
+    let behind : drop at all ≡ zs = ap (drop at) is ∙ ap (λ k. drop k (xs ++ zs)) (sym short) ∙ drop-append_seam xs zs in
+    let none : drop (length all - at) (drop at all) ≡ [] = ap (drop (length all - at)) behind ∙ drop_of_length-le zs (omega arith) in
+    let made : put_mid at (length all - at) all part ≡ xs ++ part =
+    ap (λ l. l ++ (part ++ drop (length all - at) (drop at all))) front ∙ ap (λ l. xs ++ (part ++ l)) none ∙ ap (λ l. xs ++ l) (append-nil part) in
+    let same : n ≡ length (xs ++ part) = omega (arith, length-append xs part) in
+    ap (λ l. take n (l ++ drop (length l) items)) made ∙ ap (λ k. take k ((xs ++ part) ++ drop (length (xs ++ part)) items)) same ∙ take-append_seam (xs ++ part) (drop (length (xs ++ part)) items)
+
+-- the bytes of a number are written as its word
+pub buffer-number : (o : Order) (n v len : ℕ) → v < 2 ^ (8 * n) → buffer o (bytes o n v) len ≡ unsigned o (8 * n) (8 * n) v len
+buffer-number o n v len small = ap Ok (bits-bytes o n v) ∙ sym (unsigned-fits o (8 * n) (8 * n) v len (omega arith) small)
 
 -- ---- reads of bytes
 
@@ -127,6 +157,13 @@ module _ {R : Type 0} {K : BitSource R} {grows : Bool} where
   skips-front a n x s t le h =
       let sum : a + (n - a) ≡ n = omega arith in
       subst (λ m. ReadOutcome K grows (skip_entry m) s (Err x) t) sum (Reads-same (skip-split a (n - a)) (Reads-chain-err _ (λ _. skip_entry (n - a)) h))
+
+-- memory was refused behind bytes that were read, and the reader was made to fail
+pub lacks-more : {R : Type 0} {K : BitSource R} (o : Order) (a n : ℕ) (xs : List ℕ) (s t z : R) → a ≤ n → ReadOutcome K true (bytes_entry o a) s (Ok xs) t → K.state z ≡ failing (K.state t) → ReadOutcome K true (bytes_entry o n) s (Err OutOfMemory) z
+lacks-more {K = K} o a n xs s t z le h broken =
+    let sum : a + (n - a) ≡ n = omega arith in
+    subst (λ m. ReadOutcome K true (bytes_entry o m) s (Err OutOfMemory) z) sum
+    (Reads-same (bytes-split o a (n - a)) (Reads-lacks_memory (bytes_entry o a) (λ us. chain (bytes_entry o (n - a)) (λ vs. gives (us ++ vs))) xs s t z (bytes-on_failed o a) h broken))
 
 -- ---- what a reader took from its port
 

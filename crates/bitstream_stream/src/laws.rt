@@ -2,13 +2,14 @@
 //!
 //! Each function states a law by its contract, and has nothing to do.
 
-ghost use Rattle.std.specs.Prelude.{◌≡◌, ℕ, ◌+◌, ◌*◌, ◌^◌, ◌≤◌, ◌++◌, Bool, false, List, Some, Result};
-ghost use Rattle.bitstream_number.specs.Word.{High, Low, bits as bits_of};
+ghost use Rattle.std.specs.Prelude.{◌≡◌, ℕ, ◌+◌, ◌*◌, ◌^◌, ◌<◌, ◌≤◌, ◌++◌, Bool, false, List, Some, Result};
+ghost use Rattle.bitstream_number.specs.Word.{Order, High, Low, bits as bits_of, bytes as bytes_in};
 ghost use Rattle.bitstream_count.specs.Entry.{ReadEntry, chain, gives};
 ghost use Rattle.bitstream_count.specs.declared.error.Error.{Error};
 ghost use Rattle.bitstream_order.specs.Refusal.{TrueEnds};
 ghost use Rattle.bitstream_stream.specs.Reads.{Reads, sure_answer};
-ghost use Rattle.bitstream_stream.specs.ReadTable.{unsigned_entry};
+ghost use Rattle.bitstream_stream.specs.ReadTable.{unsigned_entry, bytes_entry};
+ghost use Rattle.bitstream_stream.specs.WriteTable.{unsigned, buffer};
 
 use crate::read::BitRead;
 use crate::reader::BitReader;
@@ -26,6 +27,16 @@ pub fn words_join()
         (chain (unsigned_entry Low size a) (λ first.
         chain (unsigned_entry Low size b) (λ second. gives (first + second * 2 ^ a)))).reads p bits
         ≡ (unsigned_entry Low size (a + b)).reads p bits }
+{}
+
+/// To read or write the bytes of a number, in the order of the bits, is to read or write the number as
+/// one word.
+pub fn bytes_are_numbers()
+    ensures reads { (o : Order) (n p : ℕ) (bits : List Bool) →
+        (chain (unsigned_entry o (8 * n) (8 * n)) (λ v. gives (bytes_in o n v))).reads p bits
+        ≡ (bytes_entry o n).reads p bits }
+    ensures writes { (o : Order) (n v len : ℕ) → v < 2 ^ (8 * n) →
+        buffer o (bytes_in o n v) len ≡ unsigned o (8 * n) (8 * n) v len }
 {}
 
 /// Over a stream that refuses only where its bytes end, a call of any reader answers as its front of

@@ -6,6 +6,7 @@ pub mod byte_reader;
 pub mod byte_write;
 pub mod byte_writer;
 mod check;
+mod grow;
 pub mod laws;
 pub mod read;
 pub mod reader;

@@ -5,6 +5,7 @@ ghost use Rattle.bitstream_order.specs.TakeBits.{seen};
 ghost use Rattle.bitstream_stream.specs.Reads.{BitSource, Reads, ReadsConst, ReadsGrowing, failing, lent_source};
 ghost use Rattle.bitstream_stream.specs.ReadTable.{bit_entry, unsigned_entry, signed_entry, const_entry, count_entry, align_entry, bytes_entry, skip_entry, is_full};
 
+use crate::grow::grow;
 use crate::width::count_bits;
 use bitstream_count::count::{BitCount, Count, SignedCount};
 use bitstream_count::error::Error;
@@ -231,6 +232,32 @@ pub trait BitRead {
         Ok(bytes)
     }
 
+    /// Reads so many bytes, and returns them. No more than 4096 are asked for at a time, and memory
+    /// grows as they arrive, so a length that the stream does not have costs little.
+    ///
+    /// # Errors
+    ///
+    /// `OutOfMemory` where memory for them was refused, and those of the stream, after which the
+    /// reader has failed, and `Failed` from then on.
+    fn read_to_vec<A: Allocator>(&mut self, alloc: A, bytes: usize) -> Result<Vec<u8, A>, Error>
+        ensures reads { ReadsGrowing source (bytes_entry source.order bytes)
+            self.old (seen (λ v. v.items) result) self.new }
+    {
+        let mut buf = Vec::new(alloc);
+        let _: u8 = self.read_unsigned_var(0)?;
+        let mut at = 0;
+        while at < bytes {
+            let end = at + 4096.min(bytes - at);
+            let Ok(()) = grow(&mut buf, end) else {
+                self.fail();
+                return Err(Error::OutOfMemory);
+            };
+            self.read_bytes(&mut buf.as_mut_slice()[at..])?;
+            at = end;
+        }
+        Ok(buf)
+    }
+
     /// Skips so many bits, whatever they are.
     ///
     /// # Errors
@@ -323,6 +350,10 @@ impl<R: BitRead> BitRead for &mut R {
 
     fn read_to_bytes<V: Primitive>(&mut self) -> Result<V::Bytes, Error> {
         (**self).read_to_bytes::<V>()
+    }
+
+    fn read_to_vec<A: Allocator>(&mut self, alloc: A, bytes: usize) -> Result<Vec<u8, A>, Error> {
+        (**self).read_to_vec(alloc, bytes)
     }
 
     fn skip(&mut self, bits: u32) -> Result<(), Error> {
