@@ -28,6 +28,7 @@ pub use Rattle.bitstream_stream.specs.Reader
 pub use Rattle.bitstream_stream.specs.Reads
 pub use Rattle.bitstream_stream.specs.Run
 pub use Rattle.bitstream_stream.specs.Sink
+pub use Rattle.bitstream_stream.specs.Ways
 pub use Rattle.bitstream_stream.specs.WriteTable
 pub use Rattle.bitstream_stream.specs.Writer
 pub use Rattle.bitstream_value.specs.Items

@@ -9,5 +9,6 @@ pub mod Reader
 pub mod Reads
 pub mod Run
 pub mod Sink
+pub mod Ways
 pub mod WriteTable
 pub mod Writer

@@ -16,6 +16,8 @@ use std::io;
 use std::io::{Seek, SeekFrom};
 use std::marker::PhantomData;
 
+mod ways;
+
 /// How many bytes are skipped at a time.
 const PIECE: usize = 256;
 

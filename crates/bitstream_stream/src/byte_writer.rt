@@ -10,6 +10,8 @@ use bitstream_order::port::Port;
 use bitstream_order::target::Target;
 use std::marker::PhantomData;
 
+mod ways;
+
 /// How many zeros are written at a time.
 const PIECE: usize = 256;
 

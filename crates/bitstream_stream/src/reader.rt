@@ -21,6 +21,8 @@ use bitstream_order::source::Source;
 use bitstream_order::tally::Tally;
 use std::marker::PhantomData;
 
+mod ways;
+
 /// Reads bits from a stream of bytes. A byte is fetched only when a call needs a bit of it, so
 /// fewer than 8 bits are ever held back.
 ///

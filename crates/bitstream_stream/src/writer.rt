@@ -15,6 +15,8 @@ use bitstream_order::sign::complement;
 use bitstream_order::target::Target;
 use std::marker::PhantomData;
 
+mod ways;
+
 /// Writes bits to a stream of bytes. A byte is sent as soon as it is full, so fewer than 8 bits
 /// wait in the writer. What waits when it is dropped is lost: align it first.
 ///

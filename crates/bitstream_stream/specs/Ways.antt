@@ -1,0 +1,81 @@
+-- The streams of readers and writers, and what becomes of these where their stream is lent.
+use Rattle.std.specs.Prelude.{◌≡◌, true, false, [], Result, Ok, Err}
+use Rattle.std.specs.Borrow.{GName}
+use Rattle.bitstream_count.specs.declared.error.Error.{Error}
+use Rattle.bitstream_count.specs.declared.error.Error.TheVariants.{Failed}
+use Rattle.bitstream_order.specs.Port.{Sent, SendRefused, held_stream, with_stream}
+use Rattle.bitstream_order.specs.Refusal.{Refusal}
+use Rattle.bitstream_order.specs.declared.lent.Lent.{Lent}
+use Rattle.bitstream_order.specs.TakeBits.{seen}
+use Rattle.bitstream_stream.specs.Carries.{WriterState}
+use Rattle.bitstream_stream.specs.Sink.{Sink, Writes}
+use Rattle.bitstream_stream.specs.WriteTable.{align}
+use Rattle.bitstream_stream.specs.declared.reader.BitReader.{BitReader}
+use Rattle.bitstream_stream.specs.declared.writer.BitWriter.{BitWriter}
+use Rattle.bitstream_stream.specs.declared.byte_reader.ByteReader.{ByteReader}
+use Rattle.bitstream_stream.specs.declared.byte_writer.ByteWriter.{ByteWriter}
+
+-- the stream of each
+abbrev pub reader_stream : {R E : Type 0} → BitReader R E → R
+reader_stream reader = held_stream reader.port
+
+abbrev pub writer_stream : {W E : Type 0} → BitWriter W E → W
+writer_stream writer = held_stream writer.port
+
+abbrev pub byte_reader_stream : {R E : Type 0} → ByteReader R E → R
+byte_reader_stream reader = held_stream reader.port
+
+abbrev pub byte_writer_stream : {W E : Type 0} → ByteWriter W E → W
+byte_writer_stream writer = held_stream writer.port
+
+-- each as it was, but for its stream
+abbrev pub reader_with : {R E : Type 0} → BitReader R E → R → BitReader R E
+reader_with reader stream = record reader { port = with_stream reader.port stream }
+
+abbrev pub writer_with : {W E : Type 0} → BitWriter W E → W → BitWriter W E
+writer_with writer stream = record writer { port = with_stream writer.port stream }
+
+abbrev pub byte_reader_with : {R E : Type 0} → ByteReader R E → R → ByteReader R E
+byte_reader_with reader stream = record reader { port = with_stream reader.port stream }
+
+abbrev pub byte_writer_with : {W E : Type 0} → ByteWriter W E → W → ByteWriter W E
+byte_writer_with writer stream = record writer { port = with_stream writer.port stream }
+
+-- the name of the reference through which each reaches a stream that was lent
+abbrev pub reader_name : {R E : Type 0} → BitReader (Lent R) E → GName
+reader_name reader = (held_stream reader.port).at.ghost_name
+
+abbrev pub writer_name : {W E : Type 0} → BitWriter (Lent W) E → GName
+writer_name writer = (held_stream writer.port).at.ghost_name
+
+abbrev pub byte_reader_name : {R E : Type 0} → ByteReader (Lent R) E → GName
+byte_reader_name reader = (held_stream reader.port).at.ghost_name
+
+abbrev pub byte_writer_name : {W E : Type 0} → ByteWriter (Lent W) E → GName
+byte_writer_name writer = (held_stream writer.port).at.ghost_name
+
+-- a writer as another was, but for its stream
+pub record IsWriterWith {W E : Type 0} (old : BitWriter W E) (stream : W) (new : BitWriter W E) : Type 0 where
+  pub port : new.port ≡ with_stream old.port stream
+  pub queue : new.queue ≡ old.queue
+  pub queued : new.queued ≡ old.queued
+  pub failed : new.failed ≡ old.failed
+
+-- what an aligned writer's stream is, and what the writer ends as where that was lent
+abbrev pub IsAlignedStream : {W E : Type 0} → Sink (BitWriter W E) → BitWriter W E → W → Type 0
+IsAlignedStream {W} {E} K old stream = (aligned : BitWriter W E) × Writes {T = Unit {0}} K align old (Ok tt) aligned × (stream ≡ writer_stream aligned)
+
+abbrev pub EndsAligned : {W E : Type 0} → Sink (BitWriter W E) → BitWriter W E → BitWriter W E → W → Type 0
+EndsAligned {W} {E} K old new stream = (aligned : BitWriter W E) × Writes {T = Unit {0}} K align old (Ok tt) aligned × IsWriterWith aligned stream new
+
+-- a writer that could not be aligned
+abbrev pub EndsUnaligned : {W E A : Type 0} → Sink (BitWriter W E) → BitWriter W E → Result A Error → BitWriter W E → Type 0
+EndsUnaligned K old result new = Writes {T = Unit {0}} K align old (seen (λ _. tt) result) new
+
+-- What a flush does. The writer had failed; or the stream passed on what it holds back itself, and all else
+-- is as it was; or the stream refused that, as it may refuse, and the writer has failed and nothing is queued.
+pub data Flushes (may : Refusal → Type 0) (old : WriterState) (result : Result (Unit {0}) Error) (new : WriterState) : Type 0 where
+  stays_failed : old.failed ≡ true → result ≡ Err Failed → new ≡ old → Flushes may old result new
+  passes_on : old.failed ≡ false → result ≡ Ok tt → Sent old.port [] new.port → new ≡ record old { port = new.port } → Flushes may old result new
+  is_refused : (error : Error) → old.failed ≡ false → result ≡ Err error → SendRefused may error old.port 0 new.port → new.queued ≡ 0 → new.failed ≡ true
+      → Flushes may old result new

@@ -1,0 +1,55 @@
+//! The ways from a reader of bytes to its stream, and to a reader of the stream's bits.
+ghost use Rattle.std.specs.Prelude.{◌≡◌, ◌∷◌};
+
+use super::ByteReader;
+use crate::read::BitRead;
+use crate::reader::BitReader;
+use bitstream_order::lent::Lent;
+use bitstream_order::order::Endianness;
+use bitstream_order::source::Source;
+
+impl<R: Source, E: Endianness> ByteReader<R, E> {
+    ghost use Rattle.std.specs.Borrow.{Lends, follows, sem};
+    ghost use Rattle.bitstream_stream.specs.Reader.{new_reader_state, requests_made};
+    ghost use Rattle.bitstream_stream.specs.Ways.{byte_reader_stream, byte_reader_with, reader_name};
+    ghost use Rattle.bitstream_stream.specs.contracts.byte_reader.ByteReader.{the_row};
+
+    /// Returns the stream.
+    pub fn into_reader(self) -> R
+        ensures stream { result ≡ byte_reader_stream self }
+    {
+        self.port.into_inner()
+    }
+
+    /// Returns the stream by reference. What is taken from it this way the reader does not count.
+    pub fn reader(&mut self) -> &mut R
+        ensures stream { result.now ≡ byte_reader_stream self.old }
+        ensures* writes_back { sem 𝓛 (Lends (the_row R.row E.row) R.row self.entry result
+            (byte_reader_with self.old)) }
+    {
+        self.port.lend()
+    }
+
+    /// Returns a reader of the stream's bits, in the same order, which has taken none yet.
+    pub fn into_bitreader(self) -> BitReader<R, E>
+        ensures state { ⟦<BitReader<R, E> as BitRead>⟧.source.state result
+            ≡ new_reader_state (R.remaining (byte_reader_stream self))
+            (R.reference_names (byte_reader_stream self)) }
+        ensures requests { requests_made result ≡ 0 }
+    {
+        BitReader::new(self.into_reader())
+    }
+
+    /// Returns a reader of the stream's bits, in the same order, which has taken none yet. When it
+    /// is dropped, this one goes on with the bytes that it left.
+    pub fn bitreader<'a>(&'a mut self) -> BitReader<Lent<'a, R>, E>
+        ensures state { ⟦<BitReader<Lent<'a, R>, E> as BitRead>⟧.source.state result
+            ≡ new_reader_state (R.remaining (byte_reader_stream self.old))
+            (reader_name result ∷ R.reference_names (byte_reader_stream self.old)) }
+        ensures requests { requests_made result ≡ 0 }
+        ensures* writes_back { sem 𝓛 (follows (the_row R.row E.row) R.row self.entry.ghost_name
+            (reader_name result) (byte_reader_with self.old)) }
+    {
+        BitReader::new(Lent::new(self.port.lend()))
+    }
+}

@@ -1,0 +1,69 @@
+//! The ways from a reader of bits to its stream, and to a reader of the stream's bytes.
+ghost use Rattle.std.specs.Prelude.{◌≡◌, ◌↔◌, ◌%◌, ◌∷◌, false, Ok, IsSome, IfSome};
+ghost use Rattle.bitstream_order.specs.Port.{fresh_port};
+ghost use Rattle.bitstream_stream.specs.ByteReader.{byte_reader_state};
+
+use super::BitReader;
+use crate::byte_read::ByteRead;
+use crate::byte_reader::ByteReader;
+use crate::read::BitRead;
+use bitstream_order::lent::Lent;
+use bitstream_order::order::Endianness;
+use bitstream_order::source::Source;
+
+impl<R: Source, E: Endianness> BitReader<R, E> {
+    ghost use Rattle.std.specs.Borrow.{LendsIf, sem};
+    ghost use Rattle.bitstream_stream.specs.Ways.{reader_stream, reader_with, byte_reader_name};
+    ghost use Rattle.bitstream_stream.specs.contracts.reader.BitReader.{the_row};
+
+    /// Returns the stream. The bits that the reader holds back are dropped.
+    pub fn into_reader(self) -> R
+        ensures stream { result ≡ reader_stream self }
+        ensures bytes { R.remaining result ≡ (⟦<Self as BitRead>⟧.source.state self).bytes }
+    {
+        self.port.into_inner()
+    }
+
+    /// Returns the stream by reference, if the next bit is the first of a byte and the reader has
+    /// not failed. What is taken from the stream this way the reader does not count.
+    pub fn reader(&mut self) -> Option<&mut R>
+        ensures there { IsSome result ↔ (((⟦<Self as BitRead>⟧.source.state self.old).failed ≡ false)
+            × ((⟦<Self as BitRead>⟧.source.state self.old).taken % 8 ≡ 0)) }
+        ensures stream { IfSome result (λ stream. stream.now ≡ reader_stream self.old) }
+        ensures* writes_back { sem 𝓛 (LendsIf (the_row R.row E.row) R.row self.entry result
+            (reader_with self.old) self.old) }
+    {
+        if self.byte_aligned() {
+            Some(self.port.lend())
+        } else {
+            None
+        }
+    }
+
+    /// Returns a reader of the stream's bytes, in the same order, which has taken none yet, if the
+    /// next bit is the first of a byte and this reader has not failed. When it is dropped, this one
+    /// goes on with the bytes that it left, which this one does not count.
+    pub fn bytereader<'a>(&'a mut self) -> Option<ByteReader<Lent<'a, R>, E>>
+        ensures there { IsSome result ↔ (((⟦<Self as BitRead>⟧.source.state self.old).failed ≡ false)
+            × ((⟦<Self as BitRead>⟧.source.state self.old).taken % 8 ≡ 0)) }
+        ensures state { IfSome result (λ reader.
+            ⟦<ByteReader<Lent<'a, R>, E> as ByteRead>⟧.source.state reader
+            ≡ byte_reader_state (fresh_port (R.remaining (reader_stream self.old))
+            (byte_reader_name reader ∷ R.reference_names (reader_stream self.old)))) }
+    {
+        match self.reader() {
+            Some(stream) => Some(ByteReader::new(Lent::new(stream))),
+            None => None,
+        }
+    }
+
+    /// Returns a reader of the stream's bytes, in the same order, which has taken none yet. The bits
+    /// that this reader holds back are dropped.
+    pub fn into_bytereader(self) -> ByteReader<R, E>
+        ensures { ⟦<ByteReader<R, E> as ByteRead>⟧.source.state result
+            ≡ byte_reader_state (fresh_port (R.remaining (reader_stream self))
+            (R.reference_names (reader_stream self))) }
+    {
+        ByteReader::new(self.into_reader())
+    }
+}

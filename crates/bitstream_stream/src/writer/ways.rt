@@ -1,0 +1,114 @@
+//! The ways from a writer of bits to its stream, and to a writer of the stream's bytes.
+ghost use Rattle.std.specs.Prelude.{◌≡◌, ◌↔◌, ◌%◌, ◌∷◌, false, Ok, IsSome, IfSome, IfOk};
+ghost use Rattle.bitstream_order.specs.Port.{fresh_port};
+ghost use Rattle.bitstream_order.specs.Refusal.{MayRefuseSend};
+
+use super::BitWriter;
+use crate::byte_writer::ByteWriter;
+use crate::write::BitWrite;
+use bitstream_count::error::Error;
+use bitstream_order::lent::Lent;
+use bitstream_order::order::Endianness;
+use bitstream_order::target::Target;
+
+impl<W: Target, E: Endianness> BitWriter<W, E> {
+    ghost use Rattle.std.specs.Borrow.{LendsIf, LendsSoOk, sem};
+    ghost use Rattle.bitstream_stream.specs.ByteWriter.{byte_writer_state};
+    ghost use Rattle.bitstream_stream.specs.Writer.{writer_state};
+    ghost use Rattle.bitstream_stream.specs.Ways.{writer_stream, writer_with, byte_writer_name, IsAlignedStream, EndsAligned, EndsUnaligned, Flushes};
+    ghost use Rattle.bitstream_stream.specs.contracts.writer.BitWriter.{the_row};
+
+    /// Returns the stream. The bits that wait in the writer are dropped.
+    pub fn into_writer(self) -> W
+        ensures { result ≡ writer_stream self }
+    {
+        self.port.into_inner()
+    }
+
+    /// Returns the stream by reference, if a multiple of 8 bits was written and the writer has not
+    /// failed. What is added to the stream this way the writer does not count.
+    pub fn writer(&mut self) -> Option<&mut W>
+        ensures there { IsSome result ↔ (((⟦<Self as BitWrite>⟧.sink.failed self.old) ≡ false)
+            × (⟦<Self as BitWrite>⟧.sink.len self.old % 8 ≡ 0)) }
+        ensures stream { IfSome result (λ stream. stream.now ≡ writer_stream self.old) }
+        ensures* writes_back { sem 𝓛 (LendsIf (the_row W.row E.row) W.row self.entry result
+            (writer_with self.old) self.old) }
+    {
+        if self.byte_aligned() {
+            Some(self.port.lend())
+        } else {
+            None
+        }
+    }
+
+    /// Writes zeros up to a multiple of 8 bits, as [`byte_align`](BitWrite::byte_align), and returns
+    /// the stream by reference. What is added to it this way the writer does not count.
+    ///
+    /// # Errors
+    ///
+    /// As [`byte_align`](BitWrite::byte_align): those of the stream, after which the writer has
+    /// failed, and `Failed` from then on.
+    pub fn aligned_writer(&mut self) -> Result<&mut W, Error>
+        ensures stream { IfOk result
+            (λ stream. IsAlignedStream ⟦<Self as BitWrite>⟧.sink self.old stream.now) }
+        ensures* writes_back { sem 𝓛 (LendsSoOk (the_row W.row E.row) W.row self.entry result
+            (EndsAligned ⟦<Self as BitWrite>⟧.sink self.old)
+            (EndsUnaligned ⟦<Self as BitWrite>⟧.sink self.old result)) }
+    {
+        self.byte_align()?;
+        Ok(self.port.lend())
+    }
+
+    /// Returns a writer of bytes to the stream, in the same order, which has written none yet, if a
+    /// multiple of 8 bits was written and this writer has not failed. What is written with it, this
+    /// one does not count.
+    pub fn bytewriter<'a>(&'a mut self) -> Option<ByteWriter<Lent<'a, W>, E>>
+        ensures there { IsSome result ↔ (((⟦<Self as BitWrite>⟧.sink.failed self.old) ≡ false)
+            × (⟦<Self as BitWrite>⟧.sink.len self.old % 8 ≡ 0)) }
+        ensures state { IfSome result (λ writer.
+            byte_writer_state ⟦<Lent<'a, W> as Target>⟧.contents
+            ⟦<Lent<'a, W> as Target>⟧.reference_names writer
+            ≡ fresh_port (W.contents (writer_stream self.old))
+            (byte_writer_name writer ∷ W.reference_names (writer_stream self.old))) }
+    {
+        match self.writer() {
+            Some(stream) => Some(ByteWriter::new(Lent::new(stream))),
+            None => None,
+        }
+    }
+
+    /// Returns a writer of bytes to the stream, in the same order, which has written none yet. The
+    /// bits that wait in this writer are dropped.
+    pub fn into_bytewriter(self) -> ByteWriter<W, E>
+        ensures { byte_writer_state W.contents W.reference_names result
+            ≡ fresh_port (W.contents (writer_stream self))
+            (W.reference_names (writer_stream self)) }
+    {
+        ByteWriter::new(self.into_writer())
+    }
+
+    /// Has the stream pass on what it holds back itself. The bits that wait in the writer stay there.
+    ///
+    /// # Errors
+    ///
+    /// `OutOfMemory` where the stream refuses with that kind, and else `Stream` with its kind. The
+    /// writer has failed then, and the bits that waited are lost. `Failed` from then on.
+    pub fn flush(&mut self) -> Result<(), Error>
+        ensures { Flushes (MayRefuseSend W.refuses)
+            (writer_state W.contents W.reference_names self.old) result
+            (writer_state W.contents W.reference_names self.new) }
+    {
+        if self.failed {
+            return Err(Error::Failed);
+        }
+        match self.port.flush() {
+            Ok(()) => Ok(()),
+            Err(error) => {
+                self.queue = 0;
+                self.queued = 0;
+                self.failed = true;
+                Err(error)
+            }
+        }
+    }
+}
