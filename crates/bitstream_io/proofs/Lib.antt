@@ -12,6 +12,7 @@ pub use Rattle.bitstream_stream.proofs.SinkLemmas
 pub use Rattle.bitstream_stream.proofs.SinkParts
 pub use Rattle.bitstream_stream.proofs.SliceLemmas
 pub use Rattle.bitstream_stream.proofs.TableLemmas
+pub use Rattle.bitstream_stream.proofs.WaysLemmas
 pub use Rattle.bitstream_stream.proofs.WriteLemmas
 pub use Rattle.bitstream_stream.proofs.WriteParts
 pub use Rattle.bitstream_stream.proofs.WriterLemmas

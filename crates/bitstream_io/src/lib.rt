@@ -87,7 +87,9 @@ pub mod laws {
         signed_bytes_go_back, signed_shifts_round_down, unsigned_bytes_go_back, values_go_back,
         words_hold_numbers, words_split, zigzags_go_back,
     };
-    pub use bitstream_stream::laws::{ends_are_known, slices_end, words_join};
+    pub use bitstream_stream::laws::{
+        dropped_queues_are_alignments, ends_are_known, slices_end, words_join,
+    };
 }
 
 pub use bytes::{ByteRead, ByteReader, ByteWrite, ByteWriter};

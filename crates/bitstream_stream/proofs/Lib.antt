@@ -13,6 +13,7 @@ pub mod SinkLemmas
 pub mod SinkParts
 pub mod SliceLemmas
 pub mod TableLemmas
+pub mod WaysLemmas
 pub mod WriteLemmas
 pub mod WriteParts
 pub mod WriterLemmas

@@ -1,12 +1,14 @@
 -- The streams of readers and writers, and what becomes of these where their stream is lent.
-use Rattle.std.specs.Prelude.{◌≡◌, true, false, [], Result, Ok, Err}
+use Rattle.std.specs.Prelude.{◌≡◌, ◌+◌, true, false, [], Result, Ok, Err}
 use Rattle.std.specs.Borrow.{GName}
+use Rattle.std.proofs.Common.{refl}
 use Rattle.bitstream_count.specs.declared.error.Error.{Error}
 use Rattle.bitstream_count.specs.declared.error.Error.TheVariants.{Failed}
 use Rattle.bitstream_order.specs.Port.{Sent, SendRefused, held_stream, with_stream}
 use Rattle.bitstream_order.specs.Refusal.{Refusal}
 use Rattle.bitstream_order.specs.declared.lent.Lent.{Lent}
 use Rattle.bitstream_order.specs.TakeBits.{seen}
+use Rattle.bitstream_order.proofs.DropLemmas.{none_few, dropped_whole, dropped_back}
 use Rattle.bitstream_stream.specs.Carries.{WriterState}
 use Rattle.bitstream_stream.specs.Sink.{Sink, Writes}
 use Rattle.bitstream_stream.specs.WriteTable.{align}
@@ -40,6 +42,21 @@ byte_reader_with reader stream = record reader { port = with_stream reader.port 
 
 abbrev pub byte_writer_with : {W E : Type 0} → ByteWriter W E → W → ByteWriter W E
 byte_writer_with writer stream = record writer { port = with_stream writer.port stream }
+
+-- a reader whose queue was dropped. One that has failed has none.
+abbrev pub aligned_reader : {R E : Type 0} → BitReader R E → BitReader R E
+aligned_reader reader = record {
+  port = reader.port;
+  queue = 0;
+  queued = 0;
+  taken = record { seal = tt; count = reader.taken.count + reader.queued };
+  failed = reader.failed;
+  order = reader.order;
+  few = none_few;
+  whole = dropped_whole reader.failed reader.port.fetched.count reader.taken.count reader.queued reader.whole reader.back reader.empty;
+  back = dropped_back reader.failed reader.port.fetched.count reader.taken.count reader.queued reader.back;
+  empty = λ _. refl;
+}
 
 -- the name of the reference through which each reaches a stream that was lent
 abbrev pub reader_name : {R E : Type 0} → BitReader (Lent R) E → GName

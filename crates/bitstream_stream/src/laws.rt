@@ -2,19 +2,21 @@
 //!
 //! Each function states a law by its contract, and has nothing to do.
 
-ghost use Rattle.std.specs.Prelude.{◌≡◌, ℕ, ◌+◌, ◌*◌, ◌^◌, ◌<◌, ◌≤◌, ◌++◌, Bool, false, List, Some, Result};
+ghost use Rattle.std.specs.Prelude.{◌≡◌, ℕ, ◌+◌, ◌*◌, ◌^◌, ◌<◌, ◌≤◌, ◌++◌, Bool, false, List, Some, Result, Ok};
 ghost use Rattle.bitstream_number.specs.Word.{Order, High, Low, bits as bits_of, bytes as bytes_in};
 ghost use Rattle.bitstream_count.specs.Entry.{ReadEntry, chain, gives};
 ghost use Rattle.bitstream_count.specs.declared.error.Error.{Error};
 ghost use Rattle.bitstream_order.specs.Refusal.{TrueEnds};
 ghost use Rattle.bitstream_stream.specs.Reads.{Reads, sure_answer};
-ghost use Rattle.bitstream_stream.specs.ReadTable.{unsigned_entry, bytes_entry};
+ghost use Rattle.bitstream_stream.specs.ReadTable.{unsigned_entry, bytes_entry, align_entry};
+ghost use Rattle.bitstream_stream.specs.Ways.{aligned_reader};
 ghost use Rattle.bitstream_stream.specs.WriteTable.{unsigned, buffer};
 
 use crate::read::BitRead;
 use crate::reader::BitReader;
 use bitstream_order::order::Endianness;
 use bitstream_order::slice::Slice;
+use bitstream_order::source::Source;
 
 /// To read a number of some bits and then one of some more is to read both as one number, of which
 /// the first is the high part in the one order and the low part in the other.
@@ -37,6 +39,13 @@ pub fn bytes_are_numbers()
         ≡ (bytes_entry o n).reads p bits }
     ensures writes { (o : Order) (n v len : ℕ) → v < 2 ^ (8 * n) →
         buffer o (bytes_in o n v) len ≡ unsigned o (8 * n) (8 * n) v len }
+{}
+
+/// A reader whose queue was dropped has read what an alignment takes. One that has failed is as it
+/// was.
+pub fn dropped_queues_are_alignments<R: Source, E: Endianness>()
+    ensures { (reader : BitReader R E) → Reads ⟦<BitReader<R, E> as BitRead>⟧.source align_entry
+        reader (Ok tt) (aligned_reader reader) }
 {}
 
 /// Over a stream that refuses only where its bytes end, a call of any reader answers as its front of

@@ -12,8 +12,8 @@ use bitstream_order::order::Endianness;
 use bitstream_order::source::Source;
 
 impl<R: Source, E: Endianness> BitReader<R, E> {
-    ghost use Rattle.std.specs.Borrow.{LendsIf, sem};
-    ghost use Rattle.bitstream_stream.specs.Ways.{reader_stream, reader_with, byte_reader_name};
+    ghost use Rattle.std.specs.Borrow.{Lends, LendsIf, sem};
+    ghost use Rattle.bitstream_stream.specs.Ways.{reader_stream, reader_with, aligned_reader, byte_reader_name};
     ghost use Rattle.bitstream_stream.specs.contracts.reader.BitReader.{the_row};
 
     /// Returns the stream. The bits that the reader holds back are dropped.
@@ -38,6 +38,20 @@ impl<R: Source, E: Endianness> BitReader<R, E> {
         } else {
             None
         }
+    }
+
+    /// Drops the bits up to the next whole byte, as [`byte_align`](BitRead::byte_align), and returns
+    /// the stream by reference, also where the reader has failed. What is taken from the stream this
+    /// way the reader does not count.
+    pub fn aligned_reader(&mut self) -> &mut R
+        ensures stream { result.now ≡ reader_stream self.old }
+        ensures* writes_back { sem 𝓛 (Lends (the_row R.row E.row) R.row self.entry result
+            (λ stream. reader_with (aligned_reader self.old) stream)) }
+    {
+        self.taken.add(self.queued as u64);
+        self.queue = 0;
+        self.queued = 0;
+        self.port.lend()
     }
 
     /// Returns a reader of the stream's bytes, in the same order, which has taken none yet, if the

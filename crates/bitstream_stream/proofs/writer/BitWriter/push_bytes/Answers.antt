@@ -1,4 +1,4 @@
-use Rattle.std.proofs.Common.{rules, arith, ◌≡◌, ◌+◌, ◌-◌, length, take, refl, sym, ap, ◌∙◌}
+use Rattle.std.proofs.Common.{rules, arith, ◌≡◌, ◌+◌, ◌-◌, length, refl, sym, ap, ◌∙◌}
 use Rattle.bitstream_order.specs.Refusal.{MayRefuse}
 use Rattle.bitstream_stream.specs.Writer.{queue_sink, requests_made}
 use Rattle.bitstream_stream.proofs.BytesLemmas.{reaches-none, reaches-more, pieces-all}

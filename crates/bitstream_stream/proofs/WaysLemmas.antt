@@ -1,0 +1,29 @@
+-- What a reader whose queue was dropped has read.
+use Rattle.std.proofs.Common.{◌≡◌, ℕ, ◌+◌, Bool, true, false, List, Option, Ok, refl, sym, ap, ap₂, ◌∙◌, arith}
+use Rattle.std.specs.Borrow.{GName}
+use Rattle.std.specs.declared.io.ErrorKind.{ErrorKind}
+use Rattle.bitstream_number.specs.Word.{Order, word}
+use Rattle.bitstream_order.specs.Port.{port_state}
+use Rattle.bitstream_order.proofs.TakeLemmas.{word-none}
+use Rattle.bitstream_stream.specs.declared.reader.BitReader.{BitReader}
+use Rattle.bitstream_stream.specs.Reader.{reader_source, waiting}
+use Rattle.bitstream_stream.specs.Reads.{Reads, stays_failed, takes_front}
+use Rattle.bitstream_stream.specs.ReadTable.{align_entry}
+use Rattle.bitstream_stream.specs.Ways.{aligned_reader}
+use Rattle.bitstream_stream.proofs.ReaderLemmas.{aligned}
+
+module _ {R E : Type 0} (remaining : R → Option (List ℕ)) (refuses : R → ℕ → ErrorKind → R → Type 0) (reference_names : R → List GName) (o : Order) (r : BitReader R E) where
+  aligned_by : (failed : Bool) → r.failed ≡ failed → Reads (reader_source remaining refuses reference_names o) align_entry r (Ok tt) (aligned_reader r)
+  unfolding align_entry
+  aligned_by false fine = takes_front (aligned o (port_state remaining reference_names r.port) (waiting o r) r.queued r.taken.count (r.taken.count + r.queued) (waiting o (aligned_reader r)) r.failed fine r.few (r.back fine) refl)
+  aligned_by true failed =
+      let none = r.empty failed in
+      let held : word o 0 (waiting o (aligned_reader r)) ≡ word o r.queued (waiting o r) =
+      word-none o (waiting o (aligned_reader r)) ∙ sym (ap (λ n. word o n (waiting o r)) none ∙ word-none o (waiting o r)) in
+      let taken : r.taken.count + r.queued ≡ r.taken.count = omega arith in
+      let K = reader_source remaining refuses reference_names o in
+      stays_failed (record { failed = failed; answer = refl; same = ap₂ (λ w t. record (K.state r) { held = w; taken = t }) held taken })
+
+  -- it read what an alignment takes
+  pub aligned_reads : Reads (reader_source remaining refuses reference_names o) align_entry r (Ok tt) (aligned_reader r)
+  aligned_reads = aligned_by r.failed refl
