@@ -1,5 +1,5 @@
 //! A stream, with counts of what was asked of it that clauses alone read.
-ghost use Rattle.std.specs.Prelude.{◌≡◌, [], ◌∷◌};
+ghost use Rattle.std.specs.Prelude.{◌≡◌, [], ◌∷◌, OnOk};
 ghost use Rattle.std.specs.Io.KnownBytes.{Keeps};
 ghost use Rattle.std.specs.Io.Seek.{SeekMoves};
 ghost use Rattle.std.specs.IoError.{error_kind};
@@ -204,6 +204,7 @@ impl<S: Target> Port<S> {
             (port_state S.contents S.reference_names self.new) }
         ensures bytes { Keeps (S.contents (held_stream self.old))
             (S.contents (held_stream self.new)) }
+        ensures flushed { OnOk result (S.flushes (held_stream self.old) (held_stream self.new)) }
     {
         let before = Snapshot::of(&self.stream);
         self.requests.add(1);

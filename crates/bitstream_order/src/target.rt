@@ -21,6 +21,9 @@ pub trait Target {
     // nothing.
     ghost refuses: { Self → ℕ → ErrorKind → Self → Type 0 };
 
+    // What a flush that succeeded did. Of a `Write` std tells nothing.
+    ghost flushes: { Self → Self → Type 0 };
+
     /// Makes one request, which writes all bytes.
     ///
     /// # Errors
@@ -39,6 +42,7 @@ pub trait Target {
     /// The target's own, as [`Write::flush`] has them.
     fn flush(&mut self) -> io::Result<()>
         ensures bytes { Keeps (contents self.old) (contents self.new) }
+        ensures flushed { OnOk result (flushes self.old self.new) }
         ensures reference_names { reference_names self.new ≡ reference_names self.old }
         ensures refused { IfErr result (λ e. refuses self.old 0 (error_kind e) self.new) };
 }
@@ -49,6 +53,8 @@ impl<W: Write> Target for W {
     ghost reference_names = { λ _. [] };
 
     ghost refuses = { λ _ _ _ _. Unit {0} };
+
+    ghost flushes = { λ _ _. Unit {0} };
 
     #[inline(always)]
     fn write_all(&mut self, bytes: &[u8]) -> io::Result<()> {
@@ -67,6 +73,8 @@ impl<'a, T: Target> Target for Lent<'a, T> {
 
     ghost refuses = { λ before wanted kind after.
         T.refuses before.at.now wanted kind after.at.now };
+
+    ghost flushes = { λ before after. T.flushes before.at.now after.at.now };
 
     #[inline(always)]
     fn write_all(&mut self, bytes: &[u8]) -> io::Result<()> {

@@ -66,7 +66,7 @@ module _ {R S : Type 0} (f : R → S) (names : R → List GName) (K : Sink S) wh
     least = k.least;
     most = k.most;
     refusals = k.refusals;
-    broken = k.broken;
+    failed = k.failed;
     reference_names = ap₂ (λ (x y : List GName). x ++ y) same k.reference_names;
   })
   seen e a r b same (did_write x t p en wi re k) =

@@ -48,7 +48,7 @@ module _ {S : Type 0} (K : Sink S) where
         least = omega arith;
         most = omega arith;
         refusals = k.refusals ∙ ap (λ l. k.refusal ∷ l) h.refusals;
-        broken = k.broken;
+        failed = k.failed;
         reference_names = k.reference_names ∙ h.reference_names;
       }
 
@@ -71,7 +71,7 @@ module _ {S : Type 0} (K : Sink S) where
         least = k.least;
         most = k.most;
         refusals = k.refusals;
-        broken = k.broken;
+        failed = k.failed;
         reference_names = k.reference_names;
       }
 

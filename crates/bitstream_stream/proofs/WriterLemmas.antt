@@ -100,7 +100,7 @@ pushed_fault may o queued queue n v k error p r old new q h few full broken =
       least = lengths.2;
       most = lengths.3;
       refusals = h.refusals;
-      broken = broken;
+      failed = broken;
       reference_names = h.reference_names;
     }
 

@@ -80,7 +80,7 @@ pub record WriteFault {S : Type 0} (K : Sink S) (old : S) (x : List Bool) (error
   pub least : K.len old + length front < K.len new + 8
   pub most : K.len new ≤ K.len old + length front
   pub refusals : K.refusals new ≡ refusal ∷ K.refusals old
-  pub broken : K.failed new ≡ true
+  pub failed : K.failed new ≡ true
   pub reference_names : K.reference_names new ≡ K.reference_names old
 
 -- what one write call does, by what it means

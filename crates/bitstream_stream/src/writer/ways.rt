@@ -1,5 +1,5 @@
 //! The ways from a writer of bits to its stream, and to a writer of the stream's bytes.
-ghost use Rattle.std.specs.Prelude.{◌≡◌, ◌↔◌, ◌%◌, ◌∷◌, false, Ok, IsSome, IfSome, IfOk};
+ghost use Rattle.std.specs.Prelude.{◌≡◌, ◌↔◌, ◌%◌, ◌∷◌, false, Ok, IsSome, IfSome, IfOk, OnOk};
 ghost use Rattle.bitstream_order.specs.Port.{fresh_port};
 ghost use Rattle.bitstream_order.specs.Refusal.{MayRefuse};
 
@@ -94,9 +94,10 @@ impl<W: Target, E: Endianness> BitWriter<W, E> {
     /// `OutOfMemory` where the stream refuses with that kind, and else `Stream` with its kind. The
     /// writer has failed then, and the bits that waited are lost. `Failed` from then on.
     pub fn flush(&mut self) -> Result<(), Error>
-        ensures { Flushes (MayRefuse W.contents W.refuses)
+        ensures flushes { Flushes (MayRefuse W.contents W.refuses)
             (writer_state W.contents W.reference_names self.old) result
             (writer_state W.contents W.reference_names self.new) }
+        ensures flushed { OnOk result (W.flushes (writer_stream self.old) (writer_stream self.new)) }
     {
         if self.failed {
             return Err(Error::Failed);
