@@ -88,7 +88,7 @@ pub mod laws {
         words_hold_numbers, words_split, zigzags_go_back,
     };
     pub use bitstream_stream::laws::{
-        dropped_queues_are_alignments, ends_are_known, slices_end, words_join,
+        bytes_are_numbers, dropped_queues_are_alignments, ends_are_known, slices_end, words_join,
     };
 }
 
