@@ -11,7 +11,7 @@ use std::str::FromStr;
 pub struct Call<'a> {
     /// What it reads or writes, or asks.
     pub form: Form,
-    /// In how many bits, or the greatest number of a count.
+    /// In how many bits, how many bytes, or the greatest number of a count.
     pub bits: u32,
     /// What it writes, or the number of a constant.
     pub value: &'a str,
@@ -27,7 +27,7 @@ impl<'a> Call<'a> {
             None => (spelled, None),
         };
         let words: Vec<&'a str> = call.split_whitespace().collect(alloc)?;
-        let form = form_of(word_at(&words, 0))?;
+        let form = form_of(word_at(&words, 0), word_at(&words, 1))?;
         let (reads, writes) = form.arguments();
         let (arguments, usual) = match kind {
             Kind::Read => (reads, None),
@@ -39,14 +39,16 @@ impl<'a> Call<'a> {
         if words.len() != arguments.saturating_add(1) {
             return Err(Objection::BAD_FORM);
         }
+        let (bits, value) = match (form, kind) {
+            (Form::Bytes, Kind::Write) => (0, word_at(&words, 1)),
+            (Form::Whole(_, _), _) => (0, word_at(&words, 2)),
+            _ if arguments == 0 => (0, ""),
+            _ => (number(word_at(&words, 1))?, word_at(&words, 2)),
+        };
         Ok(Call {
             form,
-            bits: if arguments == 0 {
-                0
-            } else {
-                number(word_at(&words, 1))?
-            },
-            value: word_at(&words, 2),
+            bits,
+            value,
             answer,
         })
     }

@@ -31,6 +31,15 @@ pub enum Items {
     None,
 }
 
+/// The order of the bytes of a primitive.
+#[derive(Clone, Copy, Drop)]
+pub enum ByteOrder {
+    /// That of the stream.
+    Own,
+    Big,
+    Little,
+}
+
 /// What a call reads or writes, or asks.
 #[derive(Clone, Copy, Drop)]
 pub enum Form {
@@ -40,6 +49,8 @@ pub enum Form {
     Array(Items),
     Bit,
     Bool,
+    /// A buffer of bytes.
+    Bytes,
     Const,
     Count,
     /// A number in a counted number of bits.
@@ -48,8 +59,16 @@ pub enum Form {
     Fixed(Number),
     NonZero(Size),
     Optional(Size),
+    /// Zeros.
+    Pad,
+    /// Bits that are skipped.
+    Skip,
     /// A number in so many bits, as a value.
     Value(Number),
+    /// A vector of bytes.
+    Vector,
+    /// A primitive.
+    Whole(ByteOrder, Number),
     /// A number in so many bits, by the calls for words alone.
     Word(Number),
 }
@@ -60,19 +79,21 @@ impl Form {
         match self {
             Form::Align | Form::Aligned => (0, 0),
             Form::Bit => (0, 1),
+            Form::Bytes | Form::Pad | Form::Skip | Form::Vector => (1, 1),
             Form::Const => (2, 2),
             _ => (1, 2),
         }
     }
 }
 
-/// The form that a name spells.
+/// The form that a name spells, of a primitive with the word behind it.
 ///
 /// # Errors
 ///
 /// `NotYet` for a call that is still to come, else that the name spells none.
-pub fn form_of(name: &str) -> Result<Form, Objection> {
-    if let Some(form) = plain_form(name).or_else(|| number_form(name)) {
+pub fn form_of(name: &str, next: &str) -> Result<Form, Objection> {
+    let named = plain_form(name).or_else(|| whole_form(name, next));
+    if let Some(form) = named.or_else(|| number_form(name)) {
         Ok(form)
     } else if is_to_come(name) {
         Err(Objection::NotYet)
@@ -91,10 +112,25 @@ fn plain_form(name: &str) -> Option<Form> {
         "array2-i8" => Some(Form::Array(Items::Signed)),
         "bit" => Some(Form::Bit),
         "bool" => Some(Form::Bool),
+        "bytes" => Some(Form::Bytes),
         "const" => Some(Form::Const),
         "count" => Some(Form::Count),
+        "pad" => Some(Form::Pad),
+        "skip" => Some(Form::Skip),
+        "vector" => Some(Form::Vector),
         _ => None,
     }
+}
+
+/// The form of a call for a primitive of the type that the next word spells.
+fn whole_form(name: &str, next: &str) -> Option<Form> {
+    let order = match name {
+        "whole" => ByteOrder::Own,
+        "whole-be" => ByteOrder::Big,
+        "whole-le" => ByteOrder::Little,
+        _ => return None,
+    };
+    Some(Form::Whole(order, number_of(next)?))
 }
 
 /// The form of a call whose name ends with a type.
@@ -137,18 +173,7 @@ fn size_of(name: &str) -> Option<Size> {
 /// Whether a name is that of a call that the heads of the files name, and that is still to come.
 fn is_to_come(name: &str) -> bool {
     match name {
-        "bytes"
-        | "limited0"
-        | "limited1"
-        | "pad"
-        | "prefix"
-        | "skip"
-        | "unary0"
-        | "unary1"
-        | "vector"
-        | "whole"
-        | "whole-be"
-        | "whole-le" => true,
+        "limited0" | "limited1" | "prefix" | "unary0" | "unary1" => true,
         _ => is_checked(name) || is_variable(name),
     }
 }

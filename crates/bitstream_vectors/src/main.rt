@@ -51,7 +51,12 @@ use std::io::ErrorKind;
 use std::rt::Files;
 
 /// The files of rows.
-const FILES: [&str; 3] = ["vectors.tsv", "r03_words.tsv", "r10_word_kernels.tsv"];
+const FILES: [&str; 4] = [
+    "vectors.tsv",
+    "r03_words.tsv",
+    "r04_bytes.tsv",
+    "r10_word_kernels.tsv",
+];
 
 /// How many rows a file has, how many were played, and how many differ.
 #[derive(Clone, Copy, Drop)]

@@ -4,10 +4,11 @@ ghost use Rattle.std.specs.Prelude.{◌≡◌, ◌≤◌, ◌<◌, ◌^◌, ◌�
 use crate::answer::{accepted, bytes_of, text};
 use crate::call::{Call, number};
 use crate::fixed::write_fixed;
-use crate::form::{Form, Items, Number, Size};
+use crate::form::{ByteOrder, Form, Items, Number, Size};
 use crate::objection::Objection;
 use bitstream_io::{
-    BitCount, BitWrite, BitWriteExt, Bits, Error, Integer, SignedInteger, UnsignedInteger, Width,
+    BE, BitCount, BitWrite, BitWriteExt, Bits, Error, Integer, LE, Primitive, SignedInteger,
+    UnsignedInteger, Width,
 };
 use std::alloc::Global;
 use std::num::{NonZero, ParseIntError};
@@ -29,13 +30,17 @@ pub fn write_call<W: BitWrite>(
         Form::Array(items) => write_array(alloc, writer, items, bits, value),
         Form::Bit => write_bit(writer, bits),
         Form::Bool => write_bool(writer, bits, value),
+        Form::Bytes => write_buffer(alloc, writer, value),
         Form::Const => write_const(writer, bits, number(value)?),
         Form::Count => write_count(writer, bits, number(value)?),
         Form::Counted(number) => write_counted(writer, number, bits, value),
         Form::Fixed(number) => write_fixed(writer, number, bits, value),
         Form::NonZero(size) => write_non_zero(writer, size, bits, value),
         Form::Optional(size) => write_optional(writer, size, bits, value),
+        Form::Pad => Ok(writer.pad(bits)),
+        Form::Skip | Form::Vector => Err(Objection::BAD_FORM),
         Form::Value(number) => write_number(writer, number, bits, value),
+        Form::Whole(order, number) => write_whole(writer, order, number, value),
         Form::Word(number) => write_word(writer, number, bits, value),
     };
     accepted(alloc, answer?)
@@ -63,6 +68,36 @@ fn write_bool<W: BitWrite>(writer: &mut W, bits: u32, value: &str) -> Answer {
         "0" => Ok(writer.write_var(bits, false)),
         "1" => Ok(writer.write_var(bits, true)),
         _ => Err(Objection::BAD_FORM),
+    }
+}
+
+fn write_buffer<W: BitWrite>(alloc: Global, writer: &mut W, value: &str) -> Answer {
+    Ok(writer.write_bytes(bytes_of(alloc, value)?.as_slice()))
+}
+
+/// Writes a primitive in an order of bytes.
+fn write_primitive<V: Primitive + FromStr<Err = ParseIntError>, W: BitWrite>(
+    writer: &mut W,
+    order: ByteOrder,
+    value: &str,
+) -> Answer {
+    let value: V = number(value)?;
+    Ok(match order {
+        ByteOrder::Own => writer.write_from(value),
+        ByteOrder::Big => writer.write_as_from::<BE, V>(value),
+        ByteOrder::Little => writer.write_as_from::<LE, V>(value),
+    })
+}
+
+fn write_whole<W: BitWrite>(
+    writer: &mut W,
+    order: ByteOrder,
+    number: Number,
+    value: &str,
+) -> Answer {
+    match number {
+        Number::Unsigned(size) => unsigned!(size, write_primitive(writer, order, value)),
+        Number::Signed(size) => signed!(size, write_primitive(writer, order, value)),
     }
 }
 
