@@ -22,6 +22,8 @@ mod refuse;
 mod streams;
 pub mod sure;
 #[cfg(test)]
+mod whole_bytes;
+#[cfg(test)]
 mod words;
 
 pub use count::Count;
