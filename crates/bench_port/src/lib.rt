@@ -7,8 +7,8 @@ mod mix;
 mod reading;
 mod writing;
 
-use crate::reading::{read_bits, read_signed, read_unsigned, read_wide};
-use crate::writing::{write_bits, write_signed, write_unsigned, write_wide};
+use crate::reading::{read_bits, read_bytes, read_signed, read_unsigned, read_wide, skip_bits};
+use crate::writing::{write_bits, write_bytes, write_signed, write_unsigned, write_wide};
 use bitstream_io::{BE, Endianness, LE, Slice, Source};
 
 /// Reads unsigned numbers of up to 128 bits.
@@ -133,5 +133,47 @@ pub extern "C" fn bench_write_signed(
         write_signed::<BE>(width, count, seed, out)
     } else {
         write_signed::<LE>(width, count, seed, out)
+    }
+}
+
+/// Reads buffers from a slice's bytes.
+#[unsafe(no_mangle)]
+pub extern "C" fn bench_read_bytes(
+    order: u32,
+    skip: u32,
+    data: &[u8],
+    out: &mut [u8],
+    count: u64,
+) -> u64 {
+    if order == 0 {
+        read_bytes::<_, BE>(skip, data, out, count)
+    } else {
+        read_bytes::<_, LE>(skip, data, out, count)
+    }
+}
+
+/// Skips bits of a slice's bytes.
+#[unsafe(no_mangle)]
+pub extern "C" fn bench_skip(order: u32, step: u32, data: &[u8], count: u64) -> u64 {
+    if order == 0 {
+        skip_bits::<_, BE>(step, data, count)
+    } else {
+        skip_bits::<_, LE>(step, data, count)
+    }
+}
+
+/// Writes buffers to a slice's bytes.
+#[unsafe(no_mangle)]
+pub extern "C" fn bench_write_bytes(
+    order: u32,
+    skip: u32,
+    data: &[u8],
+    count: u64,
+    out: &mut [u8],
+) -> u64 {
+    if order == 0 {
+        write_bytes::<BE>(skip, data, count, out)
+    } else {
+        write_bytes::<LE>(skip, data, count, out)
     }
 }

@@ -1,17 +1,6 @@
 //! The functions whose calls are not there yet. Each answers as a refused call does.
 
 #[unsafe(no_mangle)]
-pub extern "C" fn bench_read_bytes(
-    _order: u32,
-    _skip: u32,
-    _data: &[u8],
-    _out: &mut [u8],
-    _count: u64,
-) -> u64 {
-    u64::MAX
-}
-
-#[unsafe(no_mangle)]
 pub extern "C" fn bench_read_unary(_order: u32, _stop: u32, _data: &[u8], _count: u64) -> u64 {
     u64::MAX
 }
@@ -23,22 +12,6 @@ pub extern "C" fn bench_read_vbr(_order: u32, _field: u32, _data: &[u8], _count:
 
 #[unsafe(no_mangle)]
 pub extern "C" fn bench_read_flac_header(_data: &[u8], _count: u64) -> u64 {
-    u64::MAX
-}
-
-#[unsafe(no_mangle)]
-pub extern "C" fn bench_skip(_order: u32, _step: u32, _data: &[u8], _count: u64) -> u64 {
-    u64::MAX
-}
-
-#[unsafe(no_mangle)]
-pub extern "C" fn bench_write_bytes(
-    _order: u32,
-    _skip: u32,
-    _data: &[u8],
-    _count: u64,
-    _out: &mut [u8],
-) -> u64 {
     u64::MAX
 }
 

@@ -79,3 +79,46 @@ pub(crate) fn read_signed<R: Source + Drop, E: Endianness>(
     }
     sum
 }
+
+/// Skips so many bits, and then fills a buffer so many times.
+pub(crate) fn read_bytes<R: Source + Drop, E: Endianness>(
+    skip: u32,
+    source: R,
+    out: &mut [u8],
+    count: u64,
+) -> u64 {
+    let mut reader = BitReader::<R, E>::new(source);
+    if reader.skip(skip).is_err() {
+        return u64::MAX;
+    }
+    let mut sum = 0u64;
+    for _item in 0..count {
+        if reader.read_bytes(out).is_err() {
+            return u64::MAX;
+        }
+        if let (Some(first), Some(last)) = (out.first(), out.last()) {
+            sum = mixed(mixed(sum, u64::from(*first)), u64::from(*last));
+        }
+    }
+    sum
+}
+
+/// So many times skips so many bits and reads one.
+pub(crate) fn skip_bits<R: Source + Drop, E: Endianness>(step: u32, source: R, count: u64) -> u64 {
+    let mut reader = BitReader::<R, E>::new(source);
+    let mut sum = 0u64;
+    for _item in 0..count {
+        if reader.skip(step).is_err() {
+            return u64::MAX;
+        }
+        match reader.read_bit() {
+            Ok(value) => {
+                sum = mixed(sum, u64::from(value));
+            }
+            Err(_) => {
+                return u64::MAX;
+            }
+        }
+    }
+    sum
+}

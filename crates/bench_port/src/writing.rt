@@ -94,3 +94,26 @@ pub(crate) fn write_signed<E: Endianness>(
     }
     bytes_of(count.saturating_mul(u64::from(width)))
 }
+
+/// Writes so many zeros, and then some bytes so many times. Returns the number of bytes written.
+pub(crate) fn write_bytes<E: Endianness>(
+    skip: u32,
+    data: &[u8],
+    count: u64,
+    out: &mut [u8],
+) -> u64 {
+    let mut writer = BitWriter::<&mut [u8], E>::new(out);
+    if writer.pad(skip).is_err() {
+        return u64::MAX;
+    }
+    for _item in 0..count {
+        if writer.write_bytes(data).is_err() {
+            return u64::MAX;
+        }
+    }
+    if writer.byte_align().is_err() {
+        return u64::MAX;
+    }
+    let bits = count.saturating_mul(data.len() as u64).saturating_mul(8);
+    bytes_of(bits.saturating_add(u64::from(skip)))
+}
