@@ -1,9 +1,9 @@
 //! The examples of the doc comments and of the front page, made by `.ci/examples` and compared by the
 //! gate: to change one, change it where it stands.
 use bitstream_io::{
-    BE, BitCount, BitRead, BitReadExt, BitReader, BitWrite, BitWriteExt, BitWriter, Bits,
-    CheckedError, CheckedUnsigned, Count, Error, LE, Lent, SignedBitCount, SignedCount, Slice,
-    UnsignedInteger,
+    BE, BitCount, BitRead, BitReadExt, BitReader, BitWrite, BitWriteExt, BitWriter, Bits, ByteRead,
+    ByteReader, ByteWrite, ByteWriter, CheckedError, CheckedUnsigned, Count, Error, LE, Lent,
+    SignedBitCount, SignedCount, Slice, UnsignedInteger,
 };
 use std::num::NonZero;
 use std::test::Fail;
@@ -78,6 +78,44 @@ fn example_of_slice(rt: HostRuntime) -> Result<(), Fail> {
     let mut reader = BitReader::<_, BE>::new(Slice::new(&[0xb1, 0xed]));
     assert_eq!(rt; reader.read_unsigned_var::<u16>(12)?, 0xb1e);
     assert!(rt; matches!(reader.read_unsigned_var::<u8>(8), Err(Error::EndOfInput)));
+    Ok(())
+}
+
+#[test]
+fn example_of_byte_read(rt: HostRuntime) -> Result<(), Fail> {
+    let mut reader = ByteReader::<_, BE>::new(Slice::new(&[0xb1, 0xed, 0x3b, 0xc1]));
+    assert_eq!(rt; reader.read::<u16>()?, 0xb1ed);
+    assert_eq!(rt; reader.read_as::<LE, u16>()?, 0xc13b);
+    assert!(rt; matches!(reader.read::<u8>(), Err(Error::EndOfInput)));
+    Ok(())
+}
+
+#[test]
+fn example_of_byte_reader(rt: HostRuntime) -> Result<(), Fail> {
+    let mut reader = ByteReader::<_, LE>::new(Slice::new(&[0x01, 0x02, 0x03, 0x04, 0x05]));
+    assert_eq!(rt; reader.read::<u16>()?, 0x0201);
+    reader.skip(1)?;
+    assert_eq!(rt; reader.read_to_bytes::<[u8; 2]>()?, [0x04, 0x05]);
+    Ok(())
+}
+
+#[test]
+fn example_of_byte_write(rt: HostRuntime) -> Result<(), Fail> {
+    let mut bytes = Vec::new(rt.alloc());
+    let mut writer = ByteWriter::<_, BE>::new(&mut bytes);
+    writer.write_as::<LE, u16>(1)?;
+    writer.pad(3)?;
+    assert_eq!(rt; bytes.as_slice(), [1, 0, 0, 0, 0].as_slice());
+    Ok(())
+}
+
+#[test]
+fn example_of_byte_writer(rt: HostRuntime) -> Result<(), Fail> {
+    let mut bytes = Vec::new(rt.alloc());
+    let mut writer = ByteWriter::<_, LE>::new(&mut bytes);
+    writer.write(0x0201_u16)?;
+    writer.write_bytes(&[3, 4])?;
+    assert_eq!(rt; bytes.as_slice(), [1, 2, 3, 4].as_slice());
     Ok(())
 }
 

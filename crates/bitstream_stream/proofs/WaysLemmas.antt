@@ -2,9 +2,8 @@
 use Rattle.std.proofs.Common.{◌≡◌, ℕ, ◌+◌, Bool, true, false, List, Option, Ok, refl, sym, ap, ap₂, ◌∙◌, arith}
 use Rattle.std.specs.Borrow.{GName}
 use Rattle.std.specs.declared.io.ErrorKind.{ErrorKind}
-use Rattle.bitstream_number.specs.Word.{Order, word}
+use Rattle.bitstream_number.specs.Word.{Order}
 use Rattle.bitstream_order.specs.Port.{port_state}
-use Rattle.bitstream_order.proofs.TakeLemmas.{word-none}
 use Rattle.bitstream_stream.specs.declared.reader.BitReader.{BitReader}
 use Rattle.bitstream_stream.specs.Reader.{reader_source, waiting}
 use Rattle.bitstream_stream.specs.Reads.{Reads, stays_failed, takes_front}
@@ -17,11 +16,10 @@ module _ {R E : Type 0} (remaining : R → Option (List ℕ)) (refuses : R → �
   unfolding align_entry
   aligned_by false fine = takes_front (aligned o (port_state remaining reference_names r.port) (waiting o r) r.queued r.taken.count (r.taken.count + r.queued) (waiting o (aligned_reader r)) r.failed fine r.few (r.back fine) refl)
   aligned_by true failed =
-      let none = r.empty failed in
-      let held : word o 0 (waiting o (aligned_reader r)) ≡ word o r.queued (waiting o r) =
-      word-none o (waiting o (aligned_reader r)) ∙ sym (ap (λ n. word o n (waiting o r)) none ∙ word-none o (waiting o r)) in
-      let taken : r.taken.count + r.queued ≡ r.taken.count = omega arith in
       let K = reader_source remaining refuses reference_names o in
+      let held : (K.state (aligned_reader r)).held ≡ (K.state r).held = K.empties (aligned_reader r) failed ∙ sym (K.empties r failed) in
+      let none = r.empty failed in
+      let taken : r.taken.count + r.queued ≡ r.taken.count = omega arith in
       stays_failed (record { failed = failed; answer = refl; same = ap₂ (λ w t. record (K.state r) { held = w; taken = t }) held taken })
 
   -- it read what an alignment takes
