@@ -63,6 +63,10 @@ skip-split : (a b : ℕ) → Same (chain (skip_entry a) (λ _. skip_entry b)) (s
 unfolding skip_entry
 skip-split a b = chain_takes a b (λ _. tt) (λ _ _. Ok tt) (λ _. Ok tt) (λ u v _ _. refl)
 
+bytes-skip : (o : Order) (n : ℕ) → Same (chain (bytes_entry o n) (λ _. gives tt)) (skip_entry (8 * n))
+unfolding bytes_entry skip_entry
+bytes-skip o n = map_takes (8 * n) (bytes_of o n) (λ _. tt) (λ _. Ok tt) (λ w _. refl)
+
 bytes-on_failed : (o : Order) (n : ℕ) → (bytes_entry o n).on_failed ≡ Err Failed
 unfolding bytes_entry
 bytes-on_failed o n = refl
@@ -144,6 +148,14 @@ module _ {R : Type 0} {K : BitSource R} {grows : Bool} where
 
   -- ---- bits that are skipped
 
+  pub skips-failed : (n : ℕ) (s : R) → (K.state s).failed ≡ true → ReadOutcome K grows (skip_entry n) s (Err Failed) s
+  unfolding skip_entry
+  skips-failed n s h = stays_failed (record { failed = h; answer = refl; same = refl })
+
+  pub skips-none : (s : R) → (K.state s).failed ≡ false → ReadOutcome K grows (skip_entry 0) s (Ok tt) s
+  unfolding skip_entry
+  skips-none s fine = Reads-nothing (skip_entry 0) (Ok tt) s fine refl (λ more. word_front-some 0 (λ _. Ok tt) [] more refl)
+
   pub skips : (o : Order) (size n m v : ℕ) (s t : R) → n ≤ size → n ≡ m → ReadOutcome K grows (unsigned_entry o size n) s (Ok v) t → ReadOutcome K grows (skip_entry m) s (Ok tt) t
   skips o size n m v s t le same h = subst (λ k. ReadOutcome K grows (skip_entry k) s (Ok tt) t) same (Reads-same (skip-number o size n le) (Reads-chain-ok _ (λ _. gives tt) h (Reads-gives tt t)))
 
@@ -157,6 +169,13 @@ module _ {R : Type 0} {K : BitSource R} {grows : Bool} where
   skips-front a n x s t le h =
       let sum : a + (n - a) ≡ n = omega arith in
       subst (λ m. ReadOutcome K grows (skip_entry m) s (Err x) t) sum (Reads-same (skip-split a (n - a)) (Reads-chain-err _ (λ _. skip_entry (n - a)) h))
+
+  -- bytes behind bytes that were skipped
+  pub skips-bytes : (o : Order) (a b n : ℕ) (bs : List ℕ) (s t z : R) → a + b ≡ n → ReadOutcome K grows (skip_entry (8 * a)) s (Ok tt) t → ReadOutcome K grows (bytes_entry o b) t (Ok bs) z → ReadOutcome K grows (skip_entry (8 * n)) s (Ok tt) z
+  skips-bytes o a b n bs s t z sum h k = skips-more (8 * a) (8 * b) (8 * n) (Ok tt) s t z (twice a b ∙ ap (λ m. 8 * m) sum) h (Reads-same (bytes-skip o b) (Reads-chain-ok _ (λ _. gives tt) k (Reads-gives tt z)))
+
+  pub skips-bytes-stop : (o : Order) (a b n : ℕ) (x : Error) (s t z : R) → a + b ≤ n → ReadOutcome K grows (skip_entry (8 * a)) s (Ok tt) t → ReadOutcome K grows (bytes_entry o b) t (Err x) z → ReadOutcome K grows (skip_entry (8 * n)) s (Err x) z
+  skips-bytes-stop o a b n x s t z le h k = skips-front (8 * (a + b)) (8 * n) x s z (omega arith) (skips-more (8 * a) (8 * b) (8 * (a + b)) (Err x) s t z (twice a b) h (Reads-same (bytes-skip o b) (Reads-chain-err _ (λ _. gives tt) k)))
 
 -- memory was refused behind bytes that were read, and the reader was made to fail
 pub lacks-more : {R : Type 0} {K : BitSource R} (o : Order) (a n : ℕ) (xs : List ℕ) (s t z : R) → a ≤ n → ReadOutcome K true (bytes_entry o a) s (Ok xs) t → K.state z ≡ failing (K.state t) → ReadOutcome K true (bytes_entry o n) s (Err OutOfMemory) z

@@ -1,5 +1,5 @@
 -- Bytes behind the queue of a writer, and zeros.
-use Rattle.std.proofs.Common.{◌≡◌, ℕ, zero, suc, ◌+◌, ◌*◌, ◌^◌, ◌<◌, ◌≤◌, Bool, true, false, List, [], ◌∷◌, ◌++◌, length, take, drop, replicate, reverse, Result, Ok, Err, refl, sym, ap, ◌∙◌, subst, arith, add-one}
+use Rattle.std.proofs.Common.{◌≡◌, ℕ, zero, suc, ◌+◌, ◌-◌, ◌*◌, ◌^◌, ◌<◌, ◌≤◌, Bool, true, false, List, [], ◌∷◌, ◌++◌, length, take, drop, replicate, reverse, Result, Ok, Err, refl, sym, ap, ◌∙◌, subst, arith, add-one}
 use Rattle.std.proofs.Math.Nat.{zero-div}
 use mathlib.Core.List.{reverse-cons}
 use Rattle.bitstream_number.specs.Word.{Order, High, Low, digits, word, number, bits}
@@ -17,7 +17,7 @@ use Rattle.bitstream_stream.proofs.SinkParts.{WriteFault-behind, WriteFault-long
 use Rattle.bitstream_stream.specs.WriteTable.{unsigned}
 use Rattle.bitstream_stream.proofs.WriteLemmas.{replicate-more, unsigned-fits}
 use Rattle.std.proofs.lemmas.Nat.{pow_pos}
-use Rattle.std.proofs.lemmas.List.{replicate-append-replicate, take-append-drop}
+use Rattle.std.proofs.lemmas.List.{replicate-append-replicate, take-append-drop, take-replicate}
 use Rattle.bitstream_stream.proofs.WriterLemmas.{pushed_fault}
 
 -- ---- one request
@@ -93,3 +93,36 @@ zeros-split a b n sum = ap (λ (k : ℕ). replicate k false) (sym sum) ∙ sym (
 
 pub accepts_zeros : (o : Order) (size n len : ℕ) → n ≤ size → unsigned o size n 0 len ≡ Ok (replicate n false)
 accepts_zeros o size n len le = unsigned-fits o size n 0 len le (pow_pos n) ∙ ap Ok (word-zeros o n)
+
+-- the bits of bytes of zeros
+pub bits-zeros : (o : Order) (n : ℕ) → bits o (replicate n 0) ≡ replicate (8 * n) false
+bits-zeros o zero = refl
+bits-zeros o (suc n) = rw (word-zeros o 8, bits-zeros o n) (sym (zeros-split 8 (8 * n) (8 * suc n) (omega arith)))
+
+-- and of a part of them
+pub bits-zeros_front : (o : Order) (n size : ℕ) → n ≤ size → bits o (take n (replicate size 0)) ≡ replicate (8 * n) false
+bits-zeros_front o n size le = ap (bits o) (take-replicate n size 0 le) ∙ bits-zeros o n
+
+module _ (may : Refusal → Type 0) (o : Order) where
+  -- a number 0 of n bits is n zeros
+  pub pushes_zeros : (n : ℕ) (s : WriterState) (r : Result (Unit {0}) Error) (t : WriterState) → Pushes may o (word o n 0) s r t → Pushes may o (replicate n false) s r t
+  pushes_zeros n s r t h = subst (λ (w : List Bool). Pushes may o w s r t) (word-zeros o n) h
+
+  -- zeros behind zeros
+  pub zeros-behind : (a b n : ℕ) (s t z : WriterState) (r : Result (Unit {0}) Error) → a + b ≡ n → Appended (queue_sink may o) s (replicate a false) t → Pushes may o (replicate b false) t r z → Pushes may o (replicate n false) s r z
+  zeros-behind a b n s t z (Ok done) sum h k = rw (zeros-split a b n sum) (appended_more (queue_sink may o) s t z (replicate a false) (replicate b false) h k)
+  zeros-behind a b n s t z (Err x) sum h k = rw (zeros-split a b n sum) (WriteFault-behind (queue_sink may o) s t z x (replicate a false) (replicate b false) h k)
+
+  -- a piece of bytes of zeros behind others
+  pub zeros-piece : (a n size b : ℕ) (s t z : WriterState) (r : Result (Unit {0}) Error) → n ≤ size → a + n ≡ b → Appended (queue_sink may o) s (replicate (8 * a) false) t → Pushes may o (bits o (take n (replicate size 0))) t r z
+      → Pushes may o (replicate (8 * b) false) s r z
+  zeros-piece a n size b s t z r le sum h k =
+      zeros-behind (8 * a) (8 * n) (8 * b) s t z r (omega arith) h (subst (λ (w : List Bool). Pushes may o w t r z) (bits-zeros_front o n size le) k)
+
+  pub zeros-all : (a b : ℕ) (s t : WriterState) → a ≡ b → Appended (queue_sink may o) s (replicate (8 * a) false) t → Appended (queue_sink may o) s (replicate (8 * b) false) t
+  zeros-all a b s t same h = subst (λ (n : ℕ). Appended (queue_sink may o) s (replicate (8 * n) false) t) same h
+
+  -- a refusal before all zeros went
+  pub zeros-stop : (a n : ℕ) (x : Error) (s t : WriterState) (r : Result (Unit {0}) Error) → IsErrAnd r (λ e. e ≡ x) → a ≤ n → WriteFault (queue_sink may o) s (replicate a false) x t → Pushes may o (replicate n false) s r t
+  zeros-stop a n x s t (Ok done) e le h = absurd e
+  zeros-stop a n x s t (Err y) e le h = rw (e, zeros-split a (n - a) n (omega arith)) (WriteFault-longer (queue_sink may o) s t x (replicate a false) (replicate (n - a) false) h)

@@ -5,7 +5,7 @@ ghost use Rattle.bitstream_order.specs.Parts.{value_bytes};
 ghost use Rattle.bitstream_order.specs.TakeBits.{seen};
 ghost use Rattle.bitstream_order.specs.Port.{fetched_count};
 ghost use Rattle.bitstream_stream.specs.Reads.{Reads, ReadsConst};
-ghost use Rattle.bitstream_stream.specs.ReadTable.{bit_entry, unsigned_entry, signed_entry, const_entry, count_entry, align_entry, bytes_entry, is_full};
+ghost use Rattle.bitstream_stream.specs.ReadTable.{bit_entry, unsigned_entry, signed_entry, const_entry, count_entry, align_entry, bytes_entry, skip_entry, is_full};
 
 use crate::read::BitRead;
 use crate::width::count_bits;
@@ -22,6 +22,9 @@ use bitstream_order::tally::Tally;
 use std::marker::PhantomData;
 
 mod ways;
+
+/// How many bytes are moved at a time off a boundary of bytes, or skipped.
+const PIECE: usize = 1024;
 
 /// Reads bits from a stream of bytes. A byte is fetched only when a call needs a bit of it, so
 /// fewer than 8 bits are ever held back.
@@ -164,6 +167,23 @@ impl<R: Source, E: Endianness> BitReader<R, E> {
             let end = at + most.min(buf.len() - at);
             self.fetch_bytes(&mut buf[at..end])?;
             at = end;
+        }
+        Ok(())
+    }
+
+    /// Skips so many bytes, in pieces.
+    fn skip_bytes(&mut self, bytes: usize) -> Result<(), Error>
+        ensures { Reads ⟦<Self as BitRead>⟧.source (skip_entry (8 * bytes)) self.old result self.new }
+    {
+        if self.failed {
+            return Err(Error::Failed);
+        }
+        let mut skipped = [0u8; PIECE];
+        let mut left = bytes;
+        while left > 0 {
+            let piece = left.min(PIECE);
+            self.fill(&mut skipped[..piece], PIECE)?;
+            left -= piece;
         }
         Ok(())
     }
@@ -310,7 +330,20 @@ impl<R: Source, E: Endianness> BitRead for BitReader<R, E> {
             self.old (seen (λ _. buf.new) result) self.new }
         ensures asks { AsksForBytes 1024 (length buf.old) self.old result self.new }
     {
-        self.fill(buf, 1024)
+        self.fill(buf, PIECE)
+    }
+
+    fn skip(&mut self, bits: u32) -> Result<(), Error> {
+        if bits <= 128 {
+            let _: u128 = self.read_unsigned_var(bits)?;
+            return Ok(());
+        }
+        let first = self.queued;
+        let _: u8 = self.read_unsigned_var(first)?;
+        let rest = bits - first;
+        self.skip_bytes((rest / 8) as usize)?;
+        let _: u8 = self.read_unsigned_var(rest % 8)?;
+        Ok(())
     }
 
     fn byte_aligned(&self) -> bool {

@@ -1,5 +1,5 @@
 //! A writer of bits to a stream of bytes.
-ghost use Rattle.std.specs.Prelude.{◌≡◌, ℕ, ◌+◌, ◌<◌, ◌≤◌, ◌^◌, ◌⊎◌, false, true, length, OnOk, Err};
+ghost use Rattle.std.specs.Prelude.{◌≡◌, ℕ, ◌+◌, ◌*◌, ◌<◌, ◌≤◌, ◌^◌, ◌⊎◌, false, true, length, replicate, OnOk, Err};
 
 use crate::check::{check, check_signed};
 use crate::width::count_bits;
@@ -16,6 +16,9 @@ use bitstream_order::target::Target;
 use std::marker::PhantomData;
 
 mod ways;
+
+/// How many bytes are moved at a time off a boundary of bytes, or are zeros.
+const PIECE: usize = 1024;
 
 /// Writes bits to a stream of bytes. A byte is sent as soon as it is full, so fewer than 8 bits
 /// wait in the writer. What waits when it is dropped is lost: align it first.
@@ -178,6 +181,23 @@ impl<W: Target, E: Endianness> BitWriter<W, E> {
         }
         Ok(())
     }
+
+    /// Writes so many bytes of zeros, in pieces.
+    fn push_zeros(&mut self, bytes: usize) -> Result<(), Error>
+        requires { self.old.failed ≡ false }
+        ensures { Pushes (MayRefuse W.contents W.refuses) E.order (replicate (8 * bytes) false)
+            (writer_state W.contents W.reference_names self.old) result
+            (writer_state W.contents W.reference_names self.new) }
+    {
+        let zeros = [0u8; PIECE];
+        let mut left = bytes;
+        while left > 0 {
+            let piece = left.min(PIECE);
+            self.push_bytes::<PIECE>(&zeros[..piece])?;
+            left -= piece;
+        }
+        Ok(())
+    }
 }
 
 impl<W: Target, E: Endianness> BitWrite for BitWriter<W, E> {
@@ -326,7 +346,21 @@ impl<W: Target, E: Endianness> BitWrite for BitWriter<W, E> {
         if self.failed {
             return Err(Error::Failed);
         }
-        self.push_bytes::<1024>(bytes)
+        self.push_bytes::<PIECE>(bytes)
+    }
+
+    fn pad(&mut self, bits: u32) -> Result<(), Error> {
+        if self.failed {
+            return Err(Error::Failed);
+        }
+        if bits <= 128 {
+            return self.push(0u128, bits);
+        }
+        let first = (8 - self.queued) % 8;
+        self.push(0u8, first)?;
+        let rest = bits - first;
+        self.push_zeros((rest / 8) as usize)?;
+        self.push(0u8, rest % 8)
     }
 
     fn byte_aligned(&self) -> bool {

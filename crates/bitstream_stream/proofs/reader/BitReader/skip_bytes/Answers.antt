@@ -1,0 +1,42 @@
+use Rattle.std.proofs.Common.{rules, ◌≡◌, ◌+◌, ◌*◌, ◌≤◌, take, length, Ok, refl, subst, arith, length-take-le}
+use Rattle.bitstream_stream.specs.Reads.{Reads}
+use Rattle.bitstream_stream.specs.Reader.{reader_source}
+use Rattle.bitstream_stream.specs.ReadTable.{skip_entry}
+use Rattle.bitstream_stream.proofs.BytesLemmas.{skips-failed, skips-none, skips-bytes, skips-bytes-stop, stops}
+use Rattle.bitstream_stream.proofs.reader.BitReader.skip_bytes.Goals as goal
+
+pub returns-then-self : goal.returns-then-self
+returns-then-self g c = skips-failed _ _ c.if-self.true
+
+pub loop-left-init : goal.loop-left-init
+loop-left-init g c = (0, omega arith, skips-none _ c.if-self.false)
+
+pub returns-in_err-fill : goal.returns-in_err-fill
+returns-in_err-fill g c =
+    let k = c.loop-left.invariant.0 in
+    let is = c.loop-left.invariant.1 in
+    let piece = c.min-piece.result in
+    let few : piece ≤ 1024 = search rules in
+    let within : piece ≤ c.loop-left.left = search rules in
+    let size : length (take piece c.loop-left.skipped) ≡ piece = length-take-le piece c.loop-left.skipped (search rules) in
+    stops c.from_residual.result c.from_residual.ensures.1
+    (skips-bytes-stop g.E.Endianness.order k _ c.args.bytes _ _ _ _ (rw size (omega arith)) c.loop-left.invariant.2 c.in_err-fill.ensures.reads)
+
+pub loop-left-preserved : goal.loop-left-preserved
+loop-left-preserved g c =
+    let k = c.loop-left.invariant.0 in
+    let is = c.loop-left.invariant.1 in
+    let piece = c.min-piece.result in
+    let few : piece ≤ 1024 = search rules in
+    let within : piece ≤ c.loop-left.left = search rules in
+    let size : length (take piece c.loop-left.skipped) ≡ piece = length-take-le piece c.loop-left.skipped (search rules) in
+    (k + piece, omega arith, skips-bytes g.E.Endianness.order k _ (k + piece) _ _ _ _ (rw size refl) c.loop-left.invariant.2 c.in_ok-fill.ensures.reads)
+
+pub returns : goal.returns
+returns g c =
+    let K = reader_source {E = g.row.E.Denot} g.R.Source.remaining g.R.Source.refuses g.R.Source.reference_names g.E.Endianness.order in
+    let k = c.loop-left.invariant.0 in
+    let is = c.loop-left.invariant.1 in
+    let none = c.loop-left-test.false in
+    let all : k ≡ c.args.bytes = omega arith in
+    subst (λ n. Reads K (skip_entry (8 * n)) c.args.self.now (Ok tt) c.loop-left.self) all c.loop-left.invariant.2
