@@ -116,6 +116,28 @@ impl<R: Source, E: Endianness> BitReader<R, E> {
         Ok(value)
     }
 
+    /// Reads some bytes by one request, with nothing queued before them.
+    #[inline(always)]
+    fn fetch_aligned(&mut self, buf: &mut [u8]) -> Result<(), Error>
+        requires fine { self.old.failed ≡ false }
+        requires none { self.old.queued ≡ 0 }
+        requires some { 1 ≤ length buf.old }
+        ensures reads { Reads ⟦<Self as BitRead>⟧.source (bytes_entry E.order (length buf.old))
+            self.old (seen (λ _. buf.new) result) self.new }
+        ensures requests { requests_made self.new ≡ requests_made self.old + 1 }
+    {
+        match self.port.fetch(buf) {
+            Ok(()) => {
+                self.taken.add_bytes(buf.len());
+                Ok(())
+            }
+            Err(error) => {
+                self.failed = true;
+                Err(error)
+            }
+        }
+    }
+
     /// Reads some bytes by one request.
     fn fetch_bytes(&mut self, buf: &mut [u8]) -> Result<(), Error>
         requires fine { self.old.failed ≡ false }
@@ -159,7 +181,7 @@ impl<R: Source, E: Endianness> BitReader<R, E> {
             return if buf.is_empty() {
                 Ok(())
             } else {
-                self.fetch_bytes(buf)
+                self.fetch_aligned(buf)
             };
         }
         let mut at = 0;

@@ -29,8 +29,8 @@ pub returns-in_err-fetch_bytes-clause-reads : goal.returns-in_err-fetch_bytes-cl
 returns-in_err-fetch_bytes-clause-reads g c =
     let inv = c.loop-at.invariant.1 in
     let at = c.loop-at.at in
-    let len : length c.fetch_bytes-in-loop-at.new.buf ≡ c.min.result = search rules in
-    let same = c.fetch_bytes-in-loop-at.auto.buf in
+    let len : length c.fetch_bytes.new.buf ≡ c.min.result = search rules in
+    let same = c.fetch_bytes.auto.buf in
     let all = inv.len in
     let most = c.min.ensures in
     let within = inv.within in
@@ -44,10 +44,10 @@ loop-at-preserved g c =
     let inv = c.loop-at.invariant.1 in
     let at = c.loop-at.at in
     let buf = c.loop-at.buf in
-    let part = c.fetch_bytes-in-loop-at.new.buf in
+    let part = c.fetch_bytes.new.buf in
     let end = at + c.min.result in
     let len : length part ≡ c.min.result = search rules in
-    let sum = ap (λ n. at + n) (sym c.fetch_bytes-in-loop-at.auto.buf ∙ len) in (
+    let sum = ap (λ n. at + n) (sym c.fetch_bytes.auto.buf ∙ len) in (
       k + 1,
       record {
         len = search rules;
