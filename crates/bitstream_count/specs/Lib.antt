@@ -2,3 +2,4 @@ pub mod Checks
 pub mod Counts
 pub mod Entry
 pub mod Kind
+pub mod Unary

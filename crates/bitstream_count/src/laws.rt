@@ -1,9 +1,13 @@
-//! What holds of counts, whatever uses them. Each function states a law by its contract, and makes
-//! the calls that the law speaks of.
+//! What holds of counts, and of words that say their own length, whatever uses them. Each function
+//! states a law by its contract, and makes the calls that the law speaks of.
 
 ghost use Rattle.std.specs.Hash as fed;
 ghost use Rattle.std.specs.List.{fold};
-ghost use Rattle.std.specs.Prelude.{◌≡◌, ◌↔◌, IsOk, IsTrue, Ok, Some};
+ghost use Rattle.std.specs.Prelude.{◌≡◌, ◌↔◌, ℕ, ◌^◌, ◌<◌, ◌≤◌, ◌++◌, Bool, Err, IsOk, IsTrue, List, Ok, Some, length, not, replicate, take};
+ghost use Rattle.bitstream_count.specs.Entry.{Takes};
+ghost use Rattle.bitstream_count.specs.Unary.{unary, read_unary};
+ghost use Rattle.bitstream_count.specs.declared.error.Error.{Error};
+ghost use Rattle.bitstream_count.specs.declared.error.Error.TheVariants.{RunTooLong};
 
 use crate::count::{BitCount, FixedBitCount, FixedSignedBitCount, SignedBitCount};
 use std::hash::{Hash, Hasher};
@@ -85,3 +89,27 @@ pub fn fixed_signed_counts_go_back<const BITS: u32>(
 {
     FixedSignedBitCount::try_from(SignedBitCount::from(count))
 }
+
+/// No unary word begins another one of the same stop digit.
+pub fn unary_words_are_apart()
+    ensures { (stop : Bool) (j k : ℕ) (x y : List Bool)
+        → unary stop j ++ x ≡ unary stop k ++ y → j ≡ k }
+{}
+
+/// A unary word is read back, whatever follows it.
+pub fn unary_words_are_read_back()
+    ensures { (stop : Bool) (k : ℕ) (rest : List Bool) → k < 2 ^ 32
+        → read_unary stop (unary stop k ++ rest) ≡ Takes (length (unary stop k)) (Ok k) }
+{}
+
+/// A number is answered only where its unary word is the front of the bits, and a run is too long
+/// only where 2^32 digits that are not the stop digit are.
+pub fn unary_words_alone_are_read()
+    ensures number { (stop : Bool) (bits : List Bool) (n k : ℕ)
+        → read_unary stop bits ≡ Takes n (Ok k)
+        → (k < 2 ^ 32) × (n ≤ length bits) × (take n bits ≡ unary stop k) }
+    ensures error { (stop : Bool) (bits : List Bool) (n : ℕ) (error : Error)
+        → read_unary stop bits ≡ Takes n (Err error)
+        → (error ≡ RunTooLong) × (n ≡ 2 ^ 32) × (n ≤ length bits)
+        × (take n bits ≡ replicate n (not stop)) }
+{}

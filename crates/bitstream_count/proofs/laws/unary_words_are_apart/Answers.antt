@@ -1,0 +1,5 @@
+use Rattle.bitstream_count.proofs.UnaryLemmas.{unary_apart}
+use Rattle.bitstream_count.proofs.laws.unary_words_are_apart.Goals as goal
+
+pub returns : goal.returns
+returns c = unary_apart
