@@ -3,3 +3,4 @@ pub mod Counts
 pub mod Entry
 pub mod Kind
 pub mod Unary
+pub mod Vbr

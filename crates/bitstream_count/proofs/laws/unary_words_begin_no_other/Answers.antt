@@ -1,5 +1,5 @@
 use Rattle.bitstream_count.proofs.UnaryLemmas.{unary_apart}
-use Rattle.bitstream_count.proofs.laws.unary_words_are_apart.Goals as goal
+use Rattle.bitstream_count.proofs.laws.unary_words_begin_no_other.Goals as goal
 
 pub returns : goal.returns
 returns c = unary_apart

@@ -1,0 +1,65 @@
+-- Numbers of variable width: in groups of bits.
+use Rattle.std.specs.Prelude.{◌≡◌, ℕ, zero, suc, ◌+◌, ◌-◌, ◌*◌, ◌/◌, ◌%◌, ◌^◌, ◌<◌, List, Bool, ◌++◌, length, take, drop, Ok, Err, nat_lt, if◌then◌else◌}
+use Rattle.std.specs.Int.{div_ceil}
+use Rattle.bitstream_number.specs.Word.{Order, word, number}
+use Rattle.bitstream_count.specs.declared.error.Error.TheVariants.{VariableWidthOverflow}
+use Rattle.bitstream_count.specs.Entry.{Front, TooShort, Takes}
+
+-- The word is a group of `field` bits and `more` further groups. A group is a digit that says whether another
+-- follows, and below it `field - 1` digits of v, the lowest digits of v in the first group.
+abbrev pub IsGroups : Order → ℕ → ℕ → List Bool → ℕ → Type 0
+IsGroups o field zero w v = (v < 2 ^ (field - 1)) × (w ≡ word o field v)
+IsGroups o field (suc more) w v =
+    (low : ℕ) × (high : ℕ) × (rest : List Bool)
+    × (low < 2 ^ (field - 1))
+    × (w ≡ word o field (2 ^ (field - 1) + low) ++ rest)
+    × (v ≡ low + 2 ^ (field - 1) * high)
+    × IsGroups o field more rest high
+
+-- the word spells v in groups
+abbrev pub Vbr : Order → ℕ → List Bool → ℕ → Type 0
+Vbr o field w v = (more : ℕ) × IsGroups o field more w v
+
+-- so it is accepted as a number below the limit of a type of `width` bits: each group begins within the type
+abbrev pub IsAccepted : Order → ℕ → ℕ → ℕ → List Bool → ℕ → Type 0
+IsAccepted o field width limit w v = (more : ℕ) × IsGroups o field more w v × (more * (field - 1) < width) × (v < limit)
+
+-- ---- writing
+
+-- the groups of v until its rest is 0, and at most `more` beside the first
+unfoldable pub groups : ℕ → Order → ℕ → ℕ → List Bool
+groups zero o field v = word o field v
+groups (suc more) o field v =
+    let all = word o field (2 ^ (field - 1) + v % 2 ^ (field - 1)) ++ groups more o field (v / 2 ^ (field - 1)) in
+    if nat_lt v (2 ^ (field - 1)) then word o field v else all
+
+-- what is written for v
+abbrev pub vbr_word : Order → ℕ → ℕ → List Bool
+vbr_word o field v = groups v o field v
+
+-- ---- reading
+
+-- a group whose digits are low, before others
+abbrev pub before : ℕ → ℕ → Front ℕ → Front ℕ
+before field low TooShort = TooShort
+before field low (Takes n (Ok high)) = Takes (field + n) (Ok (low + 2 ^ (field - 1) * high))
+before field low (Takes n (Err e)) = Takes (field + n) (Err e)
+
+-- the groups at the front, up to the last one or up to `room` of them
+unfoldable pub groups_at : ℕ → Order → ℕ → List Bool → Front ℕ
+groups_at zero o field bits = Takes 0 (Err VariableWidthOverflow)
+groups_at (suc room) o field bits =
+    let first = number o (take field bits) in
+    let all = before field (first - 2 ^ (field - 1)) (groups_at room o field (drop field bits)) in
+    if nat_lt (length bits) field then TooShort
+    else if nat_lt first (2 ^ (field - 1)) then Takes field (Ok first) else all
+
+-- a number below the limit
+abbrev pub below : ℕ → Front ℕ → Front ℕ
+below limit TooShort = TooShort
+below limit (Takes n (Ok v)) = Takes n (if nat_lt v limit then Ok v else Err VariableWidthOverflow)
+below limit (Takes n (Err e)) = Takes n (Err e)
+
+-- a number below the limit of a type of `width` bits: so many groups as begin within the type
+abbrev pub read_vbr : Order → ℕ → ℕ → ℕ → List Bool → Front ℕ
+read_vbr o field width limit bits = below limit (groups_at (div_ceil width (field - 1)) o field bits)
