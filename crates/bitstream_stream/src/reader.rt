@@ -166,8 +166,28 @@ impl<R: Source, E: Endianness> BitReader<R, E> {
         }
     }
 
+    /// Reads bytes in pieces of at most so many, behind the bits that wait.
+    #[inline(never)]
+    fn fetch_pieces(&mut self, buf: &mut [u8], most: usize) -> Result<(), Error>
+        requires fine { self.old.failed ≡ false }
+        requires waiting { 1 ≤ self.old.queued }
+        requires some { 1 ≤ most }
+        ensures reads { Reads ⟦<Self as BitRead>⟧.source (bytes_entry E.order (length buf.old))
+            self.old (seen (λ _. buf.new) result) self.new }
+        ensures asks { AsksForBytes most (length buf.old) self.old result self.new }
+    {
+        let mut at = 0;
+        while at < buf.len() {
+            let end = at + most.min(buf.len() - at);
+            self.fetch_bytes(&mut buf[at..end])?;
+            at = end;
+        }
+        Ok(())
+    }
+
     /// Reads bytes, which fill a buffer: by one request where the reader is aligned, else in pieces
     /// of at most so many bytes.
+    #[inline(always)]
     fn fill(&mut self, buf: &mut [u8], most: usize) -> Result<(), Error>
         requires { 1 ≤ most }
         ensures reads { Reads ⟦<Self as BitRead>⟧.source (bytes_entry E.order (length buf.old))
@@ -177,20 +197,13 @@ impl<R: Source, E: Endianness> BitReader<R, E> {
         if self.failed {
             return Err(Error::Failed);
         }
-        if self.queued == 0 {
-            return if buf.is_empty() {
-                Ok(())
-            } else {
-                self.fetch_aligned(buf)
-            };
+        if self.queued > 0 {
+            return self.fetch_pieces(buf, most);
         }
-        let mut at = 0;
-        while at < buf.len() {
-            let end = at + most.min(buf.len() - at);
-            self.fetch_bytes(&mut buf[at..end])?;
-            at = end;
+        if buf.is_empty() {
+            return Ok(());
         }
-        Ok(())
+        self.fetch_aligned(buf)
     }
 
     /// Skips so many bytes, in pieces.

@@ -119,6 +119,7 @@ impl<W: Target, E: Endianness> BitWriter<W, E> {
     }
 
     /// Writes some bytes by one request, with nothing queued before them.
+    #[inline(always)]
     fn send_aligned(&mut self, bytes: &[u8]) -> Result<(), Error>
         requires sound { self.old.failed ≡ false }
         requires none { self.old.queued ≡ 0 }
@@ -154,9 +155,11 @@ impl<W: Target, E: Endianness> BitWriter<W, E> {
         }
     }
 
-    /// Writes bytes: by one request where the writer is aligned, else in pieces of at most N bytes.
-    fn push_bytes<const N: usize>(&mut self, bytes: &[u8]) -> Result<(), Error>
+    /// Writes bytes in pieces of at most N, behind the bits that wait.
+    #[inline(never)]
+    fn send_pieces<const N: usize>(&mut self, bytes: &[u8]) -> Result<(), Error>
         requires sound { self.old.failed ≡ false }
+        requires waiting { 1 ≤ self.old.queued }
         requires some { 1 ≤ N }
         requires few { N ≤ 1024 }
         ensures pushes { Pushes (MayRefuse W.contents W.refuses) E.order (bits E.order bytes.now)
@@ -164,12 +167,6 @@ impl<W: Target, E: Endianness> BitWriter<W, E> {
             (writer_state W.contents W.reference_names self.new) }
         ensures asks { AsksForBytes N (length bytes.now) self.old result self.new }
     {
-        if bytes.is_empty() {
-            return Ok(());
-        }
-        if self.queued == 0 {
-            return self.send_aligned(bytes);
-        }
         let mut scratch = [0u8; N];
         let mut at = 0;
         while at < bytes.len() {
@@ -180,6 +177,26 @@ impl<W: Target, E: Endianness> BitWriter<W, E> {
             at = end;
         }
         Ok(())
+    }
+
+    /// Writes bytes: by one request where the writer is aligned, else in pieces of at most N bytes.
+    #[inline(always)]
+    fn push_bytes<const N: usize>(&mut self, bytes: &[u8]) -> Result<(), Error>
+        requires sound { self.old.failed ≡ false }
+        requires some { 1 ≤ N }
+        requires few { N ≤ 1024 }
+        ensures pushes { Pushes (MayRefuse W.contents W.refuses) E.order (bits E.order bytes.now)
+            (writer_state W.contents W.reference_names self.old) result
+            (writer_state W.contents W.reference_names self.new) }
+        ensures asks { AsksForBytes N (length bytes.now) self.old result self.new }
+    {
+        if self.queued > 0 {
+            return self.send_pieces::<N>(bytes);
+        }
+        if bytes.is_empty() {
+            return Ok(());
+        }
+        self.send_aligned(bytes)
     }
 
     /// Writes so many bytes of zeros, in pieces.

@@ -3,7 +3,7 @@ use Rattle.bitstream_stream.specs.Reads.{Reads}
 use Rattle.bitstream_stream.specs.Reader.{reader_source, queued_bits, requests_made}
 use Rattle.bitstream_stream.specs.ReadTable.{bytes_entry}
 use Rattle.bitstream_stream.proofs.BytesLemmas.{Reaches}
-use Rattle.bitstream_stream.proofs.reader.BitReader.fill.Given as goal
+use Rattle.bitstream_stream.proofs.reader.BitReader.fetch_pieces.Given as goal
 
 -- the bytes up to a place were read, in k pieces
 abbrev pub invariant-loop-at : goal.invariant-loop-at

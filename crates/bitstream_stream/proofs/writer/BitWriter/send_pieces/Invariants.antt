@@ -4,7 +4,7 @@ use Rattle.bitstream_order.specs.Refusal.{MayRefuse}
 use Rattle.bitstream_stream.specs.Sink.{Appended}
 use Rattle.bitstream_stream.specs.Writer.{writer_state, queue_sink, queued_bits, requests_made}
 use Rattle.bitstream_stream.proofs.BytesLemmas.{Reaches}
-use Rattle.bitstream_stream.proofs.writer.BitWriter.push_bytes.Given as goal
+use Rattle.bitstream_stream.proofs.writer.BitWriter.send_pieces.Given as goal
 
 -- the bytes up to a place were written, in k pieces
 abbrev pub invariant-loop-at : goal.invariant-loop-at

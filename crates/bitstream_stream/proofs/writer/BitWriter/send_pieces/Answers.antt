@@ -3,7 +3,7 @@ use Rattle.bitstream_order.specs.Refusal.{MayRefuse}
 use Rattle.bitstream_stream.specs.Writer.{queue_sink, requests_made}
 use Rattle.bitstream_stream.proofs.BytesLemmas.{reaches-none, reaches-more, pieces-all}
 use Rattle.bitstream_stream.proofs.BytesWritten.{appended_none, appended_part, pushes_stop}
-use Rattle.bitstream_stream.proofs.writer.BitWriter.push_bytes.Goals as goal
+use Rattle.bitstream_stream.proofs.writer.BitWriter.send_pieces.Goals as goal
 
 pub loop-at-init : goal.loop-at-init
 loop-at-init g c = (
@@ -51,5 +51,5 @@ pub returns-clause-asks : goal.returns-clause-asks
 returns-clause-asks g c =
     let inv = c.loop-at.invariant.1 in
     let queued = c.args.self.now.queued in
-    let all = pieces-all g.row.N queued c.loop-at.invariant.0 (length c.args.bytes.now) c.loop-at.at c.if-self-eq0.false c.loop-at-test.false inv.within inv.reaches in
+    let all = pieces-all g.row.N queued c.loop-at.invariant.0 (length c.args.bytes.now) c.loop-at.at (λ none. let waiting = c.requires.waiting in omega (arith, none, waiting)) c.loop-at-test.false inv.within inv.reaches in
     inv.requests ∙ ap (λ n. requests_made c.args.self.now + n) (sym all)

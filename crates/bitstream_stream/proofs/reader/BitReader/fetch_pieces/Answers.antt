@@ -1,0 +1,62 @@
+use Rattle.std.proofs.Common.{rules, arith, ◌≡◌, ◌+◌, length, take, refl, sym, ap, ◌∙◌, []}
+use Rattle.std.proofs.lemmas.Slice.{take-put_mid}
+use Rattle.bitstream_order.specs.Pieces.{pieces}
+use Rattle.bitstream_stream.specs.Reader.{requests_made}
+use Rattle.bitstream_stream.proofs.BytesLemmas.{bytes-nothing, reads-more, stops-more, seen_stops, reaches-none, pieces-all}
+use Rattle.bitstream_stream.proofs.reader.BitReader.fetch_pieces.Goals as goal
+
+pub loop-at-init : goal.loop-at-init
+loop-at-init g c = (
+  0,
+  record {
+    len = refl;
+    within = omega arith;
+    reads = bytes-nothing g.E.Endianness.order [] _ c.requires.fine refl;
+    fine = c.requires.fine;
+    queued = refl;
+    requests = omega arith;
+    reaches = reaches-none c.args.most (length c.args.buf.now) c.requires.some;
+  },
+)
+
+pub returns-in_err-fetch_bytes-clause-reads : goal.returns-in_err-fetch_bytes-clause-reads
+returns-in_err-fetch_bytes-clause-reads g c =
+    let inv = c.loop-at.invariant.1 in
+    let at = c.loop-at.at in
+    let len : length c.fetch_bytes.new.buf ≡ c.min.result = search rules in
+    let same = c.fetch_bytes.auto.buf in
+    let all = inv.len in
+    let most = c.min.ensures in
+    let within = inv.within in
+    seen_stops _ c.from_residual.result c.from_residual.ensures.1
+    (stops-more g.E.Endianness.order at _ _ _ _ _ _ _ (omega (arith, len, same, all, most, within)) inv.reads c.in_err-fetch_bytes.ensures.reads)
+
+pub loop-at-preserved : goal.loop-at-preserved
+loop-at-preserved g c =
+    let o = g.E.Endianness.order in
+    let k = c.loop-at.invariant.0 in
+    let inv = c.loop-at.invariant.1 in
+    let at = c.loop-at.at in
+    let buf = c.loop-at.buf in
+    let part = c.fetch_bytes.new.buf in
+    let end = at + c.min.result in
+    let len : length part ≡ c.min.result = search rules in
+    let sum = ap (λ n. at + n) (sym c.fetch_bytes.auto.buf ∙ len) in (
+      k + 1,
+      record {
+        len = search rules;
+        within = search rules;
+        reads = reads-more o at _ end (take at buf) part _ _ _ _ sum (take-put_mid at _ buf part end (ap (λ n. at + n) (sym len)) inv.within) inv.reads c.in_ok-fetch_bytes.ensures.reads;
+        fine = c.in_ok-fetch_bytes.ensures.fine;
+        queued = c.in_ok-fetch_bytes.ensures.queued ∙ inv.queued;
+        requests = search rules;
+        reaches = search rules;
+      },
+    )
+
+pub returns-clause-asks : goal.returns-clause-asks
+returns-clause-asks g c =
+    let inv = c.loop-at.invariant.1 in
+    let queued = c.args.self.now.queued in
+    let all = pieces-all c.args.most queued c.loop-at.invariant.0 (length c.loop-at.buf) c.loop-at.at (λ none. let waiting = c.requires.waiting in omega (arith, none, waiting)) c.loop-at-test.false inv.within inv.reaches in
+    inv.requests ∙ ap (λ n. requests_made c.args.self.now + n) (sym all ∙ ap (pieces c.args.most queued) inv.len)
