@@ -13,6 +13,8 @@ pub mod SinkLemmas
 pub mod SinkParts
 pub mod SliceLemmas
 pub mod TableLemmas
+pub mod UnaryReads
+pub mod UnaryWrites
 pub mod WaysLemmas
 pub mod WriteLemmas
 pub mod WriteParts

@@ -5,9 +5,9 @@ use Rattle.bitstream_count.specs.declared.checked_error.CheckedError.TheVariants
 use Rattle.bitstream_count.specs.declared.error.Error.TheVariants.{Checked, ReadBits, NoSignBit}
 use Rattle.bitstream_count.specs.Entry.{Takes, WriteEntry}
 use Rattle.bitstream_number.specs.Word.{Order, High, Low, digits, digits_number, bits}
-use Rattle.bitstream_stream.specs.ReadTable.{bit_entry, unsigned_entry, signed_entry, const_entry, count_entry, align_entry}
+use Rattle.bitstream_stream.specs.ReadTable.{bit_entry, unsigned_entry, signed_entry, const_entry, unary_entry, count_entry, align_entry}
 use Rattle.bitstream_stream.specs.Run.{read_run, write_run, write_refusals}
-use Rattle.bitstream_stream.specs.WriteTable.{unsigned, align}
+use Rattle.bitstream_stream.specs.WriteTable.{unsigned, unary_word, align}
 
 -- B1 ED 3B C1
 four_bytes : List ℕ
@@ -84,6 +84,36 @@ aligned_at_three = refl
 aligned_at_eight : align_entry.reads 8 (left_of Low 8) ≡ Takes 0 (Ok tt)
 unfolding align_entry digits left_of four_bytes
 aligned_at_eight = refl
+
+-- ---- runs
+
+unary_zero_high : read_run (replicate 5 (unary_entry false)) 0 (bits High four_bytes)
+    ≡ (Ok 1, 2) ∷ (Ok 2, 5) ∷ (Ok 0, 6) ∷ (Ok 0, 7) ∷ (Ok 4, 12) ∷ []
+unfolding unary_entry digits four_bytes
+unary_zero_high = refl
+
+unary_one_high : read_run (replicate 5 (unary_entry true)) 0 (bits High four_bytes)
+    ≡ (Ok 0, 1) ∷ (Ok 1, 3) ∷ (Ok 0, 4) ∷ (Ok 3, 8) ∷ (Ok 0, 9) ∷ []
+unfolding unary_entry digits four_bytes
+unary_one_high = refl
+
+unary_zero_low : read_run (replicate 5 (unary_entry false)) 0 (bits Low four_bytes)
+    ≡ (Ok 1, 2) ∷ (Ok 0, 3) ∷ (Ok 0, 4) ∷ (Ok 2, 7) ∷ (Ok 2, 10) ∷ []
+unfolding unary_entry digits four_bytes
+unary_zero_low = refl
+
+unary_one_low : read_run (replicate 5 (unary_entry true)) 0 (bits Low four_bytes)
+    ≡ (Ok 0, 1) ∷ (Ok 3, 5) ∷ (Ok 0, 6) ∷ (Ok 1, 8) ∷ (Ok 0, 9) ∷ []
+unfolding unary_entry digits four_bytes
+unary_one_low = refl
+
+unary_forty : write_run (unary_word true 40 ∷ align ∷ []) 0 ≡ bits High (replicate 5 0 ++ 128 ∷ [])
+unfolding digits
+unary_forty = refl
+
+unary_eight : write_run (unary_word false 8 ∷ align ∷ []) 0 ≡ bits Low (255 ∷ 0 ∷ [])
+unfolding digits
+unary_eight = refl
 
 -- ---- writes
 

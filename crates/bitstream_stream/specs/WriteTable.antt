@@ -3,6 +3,7 @@ use Rattle.std.specs.Prelude.{ℕ, ℤ, pos, negsuc, ◌-◌, ◌^◌, ◌==◌,
 use Rattle.bitstream_stream.specs.Alignment.{to_boundary}
 use Rattle.bitstream_number.specs.Word.{Order, word, signed_word, bits, count_width}
 use Rattle.bitstream_count.specs.Entry.{WriteEntry}
+use Rattle.bitstream_count.specs.Unary.{unary}
 use Rattle.bitstream_count.specs.declared.error.Error.TheVariants.{Checked, NoSignBit}
 use Rattle.bitstream_count.specs.declared.checked_error.CheckedError.TheVariants.{ExcessiveBits, ExcessiveValue}
 
@@ -31,6 +32,10 @@ signed o size n x _ =
     if n == 0 then Err NoSignBit
     else (if nat_lt size n then Err (Checked ExcessiveBits)
     else (if fits_signed n x then Ok (signed_word o n x) else Err (Checked ExcessiveValue)))
+
+-- a number as a run: so many bits that are not the stop bit, and then that
+abbrev pub unary_word : Bool → ℕ → WriteEntry
+unary_word stop k = plain (unary stop k)
 
 -- a count, in as few bits as its greatest number takes
 abbrev pub count : Order → ℕ → ℕ → WriteEntry

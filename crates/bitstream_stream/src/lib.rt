@@ -8,6 +8,7 @@ pub mod byte_writer;
 mod check;
 mod grow;
 pub mod laws;
+mod others;
 pub mod read;
 pub mod reader;
 mod width;

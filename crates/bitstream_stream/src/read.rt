@@ -1,9 +1,9 @@
 //! Calls that read bits.
-ghost use Rattle.std.specs.Prelude.{◌≡◌, ℕ, ◌+◌, ◌%◌, ◌^◌, ◌<◌, ◌≤◌, ◌⊎◌, ◌↔◌, false, length, Ok, IsTrue};
+ghost use Rattle.std.specs.Prelude.{◌≡◌, ℕ, ◌+◌, ◌%◌, ◌^◌, ◌<◌, ◌≤◌, ◌⊎◌, ◌↔◌, ◌==◌, false, length, Ok, IsTrue};
 ghost use Rattle.bitstream_order.specs.Parts.{value_bytes};
 ghost use Rattle.bitstream_order.specs.TakeBits.{seen};
 ghost use Rattle.bitstream_stream.specs.Reads.{BitSource, Reads, ReadsConst, ReadsGrowing, failing, lent_source};
-ghost use Rattle.bitstream_stream.specs.ReadTable.{bit_entry, unsigned_entry, signed_entry, const_entry, count_entry, align_entry, bytes_entry, skip_entry, is_full};
+ghost use Rattle.bitstream_stream.specs.ReadTable.{bit_entry, unsigned_entry, signed_entry, const_entry, unary_entry, count_entry, align_entry, bytes_entry, skip_entry, is_full};
 
 use crate::grow::grow;
 use crate::width::count_bits;
@@ -181,6 +181,32 @@ pub trait BitRead {
         if value == V::BITS { Ok(()) } else { Err(err) }
     }
 
+    /// Reads a number as a run of bits that ends with the stop bit S, which is 0 or 1, and returns
+    /// it: how many bits came before the stop bit.
+    ///
+    /// # Errors
+    ///
+    /// `RunTooLong` where 4294967296 bits come before any stop bit: these are taken, and the reader
+    /// has failed. Those of the stream, after which the reader has failed too, and `Failed` from
+    /// then on.
+    fn read_unary<S: Width>(&mut self) -> Result<u32, Error>
+        requires { S.BITS < 2 }
+        ensures reads { Reads source (unary_entry (S.BITS == 1)) self.old result self.new }
+    {
+        let stop = S::BITS == 1;
+        let mut count = 0u32;
+        loop {
+            if self.read_bit()? == stop {
+                return Ok(count);
+            }
+            if count == u32::MAX {
+                self.fail();
+                return Err(Error::RunTooLong);
+            }
+            count += 1;
+        }
+    }
+
     /// Reads a count in as few bits as its greatest number takes, and returns it. That number is 1
     /// less than a power of two, so any number of so many bits is a count.
     ///
@@ -338,6 +364,10 @@ impl<R: BitRead> BitRead for &mut R {
 
     fn read_const<B: Width, V: Width, F: From<Error> + Drop>(&mut self, err: F) -> Result<(), F> {
         (**self).read_const::<B, V, F>(err)
+    }
+
+    fn read_unary<S: Width>(&mut self) -> Result<u32, Error> {
+        (**self).read_unary::<S>()
     }
 
     fn read_count<C: Count>(&mut self) -> Result<C, Error> {

@@ -1,4 +1,5 @@
 //! Where bits go.
+use crate::others::others;
 use crate::width::count_bits;
 use bitstream_count::count::{BitCount, Count, SignedCount};
 use bitstream_count::error::Error;
@@ -31,11 +32,11 @@ use bitstream_order::order::Endianness;
 /// assert_eq!(rt; bytes.as_slice(), [0x7e, 0x58].as_slice());
 /// ```
 pub trait BitWrite {
-    ghost use Rattle.std.specs.Prelude.{◌≡◌, ℕ, ◌+◌, ◌%◌, ◌^◌, ◌<◌, ◌≤◌, ◌↔◌, ◌⊎◌, Bool, true, false, IsTrue};
+    ghost use Rattle.std.specs.Prelude.{◌≡◌, ℕ, ◌+◌, ◌%◌, ◌^◌, ◌<◌, ◌≤◌, ◌↔◌, ◌⊎◌, ◌==◌, Bool, true, false, IsTrue};
     ghost use Rattle.bitstream_number.specs.Word.{word};
     ghost use Rattle.bitstream_order.specs.Parts.{value_bytes};
     ghost use Rattle.bitstream_stream.specs.Sink.{Sink, Writes, IsWithin};
-    ghost use Rattle.bitstream_stream.specs.WriteTable.{unsigned, signed, plain, bit as one_bit, count as count_entry, align, buffer, zeros};
+    ghost use Rattle.bitstream_stream.specs.WriteTable.{unsigned, signed, plain, unary_word, bit as one_bit, count as count_entry, align, buffer, zeros};
 
     // What the states of the sink mean.
     ghost sink: { Sink Self };
@@ -180,6 +181,29 @@ pub trait BitWrite {
             self.old result self.new }
     {
         self.write_unsigned::<B, u32>(V::BITS)
+    }
+
+    /// Writes a number as a run: so many bits that are not the stop bit S, which is 0 or 1, and then
+    /// that bit.
+    ///
+    /// # Errors
+    ///
+    /// Those of the stream, after which the sink has failed, and `Failed` from then on.
+    /// `CounterOverflow` past a limit: nothing is written then.
+    fn write_unary<S: Width>(&mut self, value: u32) -> Result<(), Error>
+        requires { S.BITS < 2 }
+        ensures writes { Writes sink (unary_word (S.BITS == 1) value) self.old result self.new }
+    {
+        self.write_unsigned_var(0, 0u8)?;
+        if !self.has_room(value as u128 + 1) {
+            return Err(Error::CounterOverflow);
+        }
+        let stop = S::BITS == 1;
+        self.write_unsigned_var(value % 128, others::<u128>(stop, value % 128))?;
+        for _done in 0..value / 128 {
+            self.write_unsigned_var(128, others::<u128>(stop, 128))?;
+        }
+        self.write_bit(stop)
     }
 
     /// Writes a count in as few bits as its greatest number takes.
@@ -332,6 +356,10 @@ impl<W: BitWrite> BitWrite for &mut W {
 
     fn write_const<B: Width, V: Width>(&mut self) -> Result<(), Error> {
         (**self).write_const::<B, V>()
+    }
+
+    fn write_unary<S: Width>(&mut self, value: u32) -> Result<(), Error> {
+        (**self).write_unary::<S>(value)
     }
 
     fn write_count<C: Count>(&mut self, count: C) -> Result<(), Error> {

@@ -1,0 +1,13 @@
+use Rattle.std.proofs.Common.{◌+◌, ◌*◌, ◌%◌, not, replicate}
+use Rattle.bitstream_stream.specs.Sink.{IsWithin}
+use Rattle.bitstream_stream.proofs.SinkParts.{Begun}
+use Rattle.bitstream_stream.proofs.write.BitWrite.write_unary.Given as goal
+
+-- the bits that are no whole 128 were written, and so many 128 behind them; and there is room for all
+abbrev pub invariant-loop-done : goal.invariant-loop-done
+invariant-loop-done g l =
+    let K = g.Self.BitWrite.sink in
+    record {
+      begun : Begun K l.fn.self (replicate (l.value % 128 + 128 * l._done) (not l.stop)) l.self;
+      room : IsWithin K.limit (K.len l.fn.self + (l.value + 1));
+    }
