@@ -1,11 +1,13 @@
-//! A reader and a writer of a user's own, which give the required calls alone. The other calls mean
+//! Readers and a writer of a user's own, which give the required calls alone. The other calls mean
 //! what they mean for the library's.
+ghost use Rattle.bitstream_io.specs.ByteReads.{inner_byte_source};
 ghost use Rattle.bitstream_io.specs.Reads.{inner_source};
 ghost use Rattle.bitstream_io.specs.Sink.{inner_sink};
 
 use bitstream_io::{
-    BE, BitCount, BitRead, BitReadExt, BitReader, BitWrite, BitWriteExt, BitWriter, Bits, Count,
-    Endianness, Error, LE, Primitive, SignedCount, SignedInteger, UnsignedInteger,
+    BE, BitCount, BitRead, BitReadExt, BitReader, BitWrite, BitWriteExt, BitWriter, Bits, ByteRead,
+    ByteReader, Count, Endianness, Error, LE, Primitive, SignedCount, SignedInteger,
+    UnsignedInteger,
 };
 use std::test::Fail;
 
@@ -156,5 +158,45 @@ fn inherited_reads_are_the_same(rt: HostRuntime) -> Result<(), Fail> {
     assert!(rt; reads_each(&mut own)?);
     assert!(rt; matches!(own.read_bit(), Err(Error::EndOfInput)));
     assert!(rt; matches!(own.read_var::<bool>(2), Err(Error::Failed)));
+    Ok(())
+}
+
+/// A reader of bytes before another, to which it hands each required call.
+#[derive(Drop)]
+struct OwnBytes<R> {
+    inner: R,
+}
+
+impl<R: ByteRead> ByteRead for OwnBytes<R> {
+    ghost source = { inner_byte_source (λ reader. reader.inner) R.source };
+
+    fn read<V: Primitive>(&mut self) -> Result<V, Error> {
+        self.inner.read()
+    }
+
+    fn read_as<F: Endianness, V: Primitive>(&mut self) -> Result<V, Error> {
+        self.inner.read_as::<F, V>()
+    }
+
+    fn skip(&mut self, bytes: u32) -> Result<(), Error> {
+        self.inner.skip(bytes)
+    }
+}
+
+#[test]
+fn inherited_reads_of_bytes_are_the_same(rt: HostRuntime) -> Result<(), Fail> {
+    let mut own = OwnBytes {
+        inner: ByteReader::<_, BE>::new(&WRITTEN[..]),
+    };
+    let mut two = [0; 2];
+    own.read_bytes(&mut two)?;
+    assert_eq!(rt; two, [0xce, 0x75]);
+    assert_eq!(rt; own.read_to_bytes::<[u8; 3]>()?, [0x80, 0x8f, 0x69]);
+    assert_eq!(rt;
+        own.read_to_vec(rt.alloc(), 2)?.as_slice(),
+        [0x80, 0].as_slice()
+    );
+    let rest = own.read_to_vec(rt.alloc(), usize::MAX);
+    assert!(rt; matches!(rest, Err(Error::EndOfInput)));
     Ok(())
 }

@@ -1,5 +1,5 @@
-//! Whole bytes: buffers of many lengths at each place in a byte, how many requests they make, and
-//! lengths that the stream does not have.
+//! Whole bytes: buffers of many lengths at each place in a byte, long skips and pads, how many requests
+//! they make, and lengths that the stream does not have.
 use crate::Count;
 use bitstream_io::{BE, BitRead, BitReader, BitWrite, BitWriter, Endianness, Error, LE};
 use std::alloc::{AllocError, Global};
@@ -82,13 +82,18 @@ fn buffers_of_each_length(rt: HostRuntime) -> Result<(), Fail> {
     Ok(())
 }
 
-/// How many requests 20 bytes make behind so many bits, with none for no bytes.
-fn requests(place: u32) -> Result<u64, Error> {
-    let mut count = Count {
-        inner: [1u8; 32].as_slice(),
+/// A stream whose requests are counted.
+fn counting<S>(inner: S) -> Count<S> {
+    Count {
+        inner,
         requests: 0,
         refused: 0,
-    };
+    }
+}
+
+/// How many requests 20 bytes make behind so many bits, with none for no bytes.
+fn requests(place: u32) -> Result<u64, Error> {
+    let mut count = counting([1u8; 32].as_slice());
     let mut reader = BitReader::<_, BE>::new(&mut count);
     let _: u8 = reader.read_unsigned_var(place)?;
     let _: [u8; 20] = reader.read_to()?;
@@ -101,6 +106,127 @@ fn requests(place: u32) -> Result<u64, Error> {
 fn requests_of_a_primitive(rt: HostRuntime) -> Result<(), Fail> {
     assert_eq!(rt; requests(0)?, 1);
     assert_eq!(rt; requests(1)?, 1 + 3);
+    Ok(())
+}
+
+/// How many requests a vector makes behind so many bits, where its bytes are these.
+fn vector<E: Endianness>(alloc: Global, place: u32, bytes: &[u8]) -> Result<Option<u64>, Error> {
+    let whole = written::<E>(alloc, place, bytes, true)?;
+    let mut count = counting(whole.as_slice());
+    let mut reader = BitReader::<_, E>::new(&mut count);
+    let _: u8 = reader.read_unsigned_var(place)?;
+    let read = reader.read_to_vec(alloc, bytes.len())?;
+    let _ = reader;
+    Ok((read.as_slice() == bytes).then_some(count.requests))
+}
+
+#[test]
+fn long_vectors_go_in_pieces(rt: HostRuntime) -> Result<(), Fail> {
+    let bytes = pattern(rt.alloc(), 9000)?;
+    for (place, requests) in [(0, 3), (3, 1 + 4 + 4 + 1)] {
+        let high = vector::<BE>(rt.alloc(), place, bytes.as_slice())?;
+        let low = vector::<LE>(rt.alloc(), place, bytes.as_slice())?;
+        assert_eq!(rt;
+            (high, low),
+            (Some(requests), Some(requests)),
+            "behind {place} bits"
+        );
+    }
+    Ok(())
+}
+
+/// The byte behind so many bits and others that are skipped, in one call or bit by bit, and how many
+/// requests were made.
+fn skipped<E: Endianness>(
+    bytes: &[u8],
+    place: u32,
+    bits: u32,
+    at_once: bool,
+) -> Result<(u8, u64), Error> {
+    let mut count = counting(bytes);
+    let mut reader = BitReader::<_, E>::new(&mut count);
+    let _: u8 = reader.read_unsigned_var(place)?;
+    if at_once {
+        reader.skip(bits)?;
+    } else {
+        for _ in 0..bits {
+            reader.read_bit()?;
+        }
+    }
+    let next = reader.read_unsigned_var(8)?;
+    let _ = reader;
+    Ok((next, count.requests))
+}
+
+#[test]
+fn long_skips_go_in_pieces(rt: HostRuntime) -> Result<(), Fail> {
+    let bytes = pattern(rt.alloc(), 1100)?;
+    for (place, bits, requests) in [
+        (3, 131, 1 + 1 + 1 + 1),
+        (3, 8207, 1 + 2 + 1 + 1),
+        (0, 8192, 1 + 1),
+    ] {
+        let high = skipped::<BE>(bytes.as_slice(), place, bits, true)?;
+        let low = skipped::<LE>(bytes.as_slice(), place, bits, true)?;
+        assert_eq!(rt;
+            (high.1, low.1),
+            (requests, requests),
+            "{bits} bits behind {place}"
+        );
+        let each_high = skipped::<BE>(bytes.as_slice(), place, bits, false)?;
+        let each_low = skipped::<LE>(bytes.as_slice(), place, bits, false)?;
+        assert_eq!(rt;
+            (high.0, low.0),
+            (each_high.0, each_low.0),
+            "{bits} bits behind {place}"
+        );
+    }
+    Ok(())
+}
+
+/// What is written by so many ones, zeros, in one call or bit by bit, and a one, and how many requests
+/// were made.
+fn padded<E: Endianness>(
+    alloc: Global,
+    place: u32,
+    bits: u32,
+    at_once: bool,
+) -> Result<(Vec<u8>, u64), Error> {
+    let mut count = counting(Vec::new(alloc));
+    let mut writer = BitWriter::<_, E>::new(&mut count);
+    for _ in 0..place {
+        writer.write_bit(true)?;
+    }
+    if at_once {
+        writer.pad(bits)?;
+    } else {
+        for _ in 0..bits {
+            writer.write_bit(false)?;
+        }
+    }
+    writer.write_bit(true)?;
+    writer.byte_align()?;
+    let _ = writer;
+    Ok((count.inner, count.requests))
+}
+
+#[test]
+fn long_pads_go_in_pieces(rt: HostRuntime) -> Result<(), Fail> {
+    for (place, bits, requests) in [(3, 131, 1 + 1 + 1), (3, 8207, 1 + 2 + 1), (0, 8192, 1 + 1)] {
+        let high = padded::<BE>(rt.alloc(), place, bits, true)?;
+        let low = padded::<LE>(rt.alloc(), place, bits, true)?;
+        assert_eq!(rt;
+            (high.1, low.1),
+            (requests, requests),
+            "{bits} zeros behind {place} bits"
+        );
+        let each_high = padded::<BE>(rt.alloc(), place, bits, false)?;
+        let each_low = padded::<LE>(rt.alloc(), place, bits, false)?;
+        assert!(rt;
+            high.0 == each_high.0 && low.0 == each_low.0,
+            "{bits} zeros behind {place} bits"
+        );
+    }
     Ok(())
 }
 

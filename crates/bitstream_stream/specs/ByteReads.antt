@@ -104,3 +104,7 @@ lent_byte_source K = record {
   state = λ r. lent_bytes r.ghost_name (K.state r.now);
   may = K.may;
 }
+
+-- a reader of bytes inside a state
+abbrev pub inner_byte_source : {S R : Type 0} → (S → R) → ByteSource R → ByteSource S
+inner_byte_source f K = record { order = K.order; state = λ s. K.state (f s); may = K.may }
