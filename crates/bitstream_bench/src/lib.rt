@@ -1,5 +1,5 @@
-//! Streams for tests: one that drips, one that refuses, one that counts and one that never ends. And
-//! functions over bytes in memory, whose contracts tell all that they answer.
+//! Streams for tests: one that drips, one that refuses, one that counts and one that never ends; memory
+//! that refuses. And functions over bytes in memory, whose contracts tell all that they answer.
 #![tactic(auto)]
 
 #[cfg(test)]
@@ -15,6 +15,7 @@ mod endless;
 mod errors;
 #[cfg(test)]
 mod examples;
+mod memory;
 #[cfg(test)]
 mod numbers;
 #[cfg(test)]
@@ -31,4 +32,5 @@ mod words;
 pub use count::Count;
 pub use drip::Drip;
 pub use endless::Endless;
+pub use memory::RefuseMemory;
 pub use refuse::Refuse;

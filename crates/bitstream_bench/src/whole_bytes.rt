@@ -1,7 +1,9 @@
 //! Whole bytes: buffers of many lengths at each place in a byte, long skips and pads, how many requests
-//! they make, and lengths that the stream does not have.
-use crate::Count;
-use bitstream_io::{BE, BitRead, BitReader, BitWrite, BitWriter, Endianness, Error, LE};
+//! they make, lengths that the stream does not have, and memory that is refused.
+use crate::{Count, Endless, RefuseMemory};
+use bitstream_io::{
+    BE, BitRead, BitReader, BitWrite, BitWriter, ByteRead, ByteReader, Endianness, Error, LE,
+};
 use std::alloc::{AllocError, Global};
 use std::test::Fail;
 
@@ -237,4 +239,28 @@ fn false_lengths_end(rt: HostRuntime) {
     assert!(rt; matches!(answer, Err(Error::EndOfInput)));
     let later = reader.read_to_vec(rt.alloc(), 0);
     assert!(rt; matches!(later, Err(Error::Failed)));
+}
+
+/// Whether a vector that lacks memory for one of its growths answers so: a reader of bits has failed
+/// then, and one of bytes goes on.
+fn lacks_memory(alloc: Global, served: u32) -> bool {
+    let mut bits = BitReader::<_, BE>::new(Endless { byte: 0xa5 });
+    let answer = bits.read_to_vec(RefuseMemory::new(alloc, served), 9000);
+    let fails = matches!(answer, Err(Error::OutOfMemory))
+        && matches!(bits.read_bit(), Err(Error::Failed));
+    let mut bytes = ByteReader::<_, BE>::new(Endless { byte: 0xa5 });
+    let answer = bytes.read_to_vec(RefuseMemory::new(alloc, served), 9000);
+    let goes_on = matches!(answer, Err(Error::OutOfMemory)) && matches!(bytes.read(), Ok(0xa5_u8));
+    fails && goes_on
+}
+
+#[test]
+fn each_growth_may_lack_memory(rt: HostRuntime) -> Result<(), Fail> {
+    for served in 0..3 {
+        assert!(rt; lacks_memory(rt.alloc(), served), "growth {served}");
+    }
+    let mut reader = BitReader::<_, BE>::new(Endless { byte: 0xa5 });
+    let all = reader.read_to_vec(RefuseMemory::new(rt.alloc(), 3), 9000)?;
+    assert_eq!(rt; all.len(), 9000);
+    Ok(())
 }
