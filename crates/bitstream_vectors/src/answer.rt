@@ -16,6 +16,8 @@ pub fn error_name(error: Error) -> &'static str {
         Error::NoSignBit => "NoSignBit",
         Error::BoolWidth => "BoolWidth",
         Error::NonZeroWidth => "NonZeroWidth",
+        Error::VariableWidthOverflow => "VariableWidthOverflow",
+        Error::RunTooLong => "RunTooLong",
         Error::EndOfInput => "EndOfInput",
         Error::OutOfMemory => "OutOfMemory",
         Error::Failed => "Failed",

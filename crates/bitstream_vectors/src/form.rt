@@ -63,6 +63,8 @@ pub enum Form {
     Pad,
     /// Bits that are skipped.
     Skip,
+    /// Digits up to a stop digit.
+    Unary(bool),
     /// A number in so many bits, as a value.
     Value(Number),
     /// A vector of bytes.
@@ -78,7 +80,7 @@ impl Form {
     pub fn arguments(self) -> (usize, usize) {
         match self {
             Form::Align | Form::Aligned => (0, 0),
-            Form::Bit => (0, 1),
+            Form::Bit | Form::Unary(_) => (0, 1),
             Form::Bytes | Form::Pad | Form::Skip | Form::Vector => (1, 1),
             Form::Const => (2, 2),
             _ => (1, 2),
@@ -117,6 +119,8 @@ fn plain_form(name: &str) -> Option<Form> {
         "count" => Some(Form::Count),
         "pad" => Some(Form::Pad),
         "skip" => Some(Form::Skip),
+        "unary0" => Some(Form::Unary(false)),
+        "unary1" => Some(Form::Unary(true)),
         "vector" => Some(Form::Vector),
         _ => None,
     }
@@ -173,7 +177,7 @@ fn size_of(name: &str) -> Option<Size> {
 /// Whether a name is that of a call that the heads of the files name, and that is still to come.
 fn is_to_come(name: &str) -> bool {
     match name {
-        "limited0" | "limited1" | "prefix" | "unary0" | "unary1" => true,
+        "limited0" | "limited1" | "prefix" => true,
         _ => is_checked(name) || is_variable(name),
     }
 }

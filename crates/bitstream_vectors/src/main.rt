@@ -51,10 +51,11 @@ use std::io::ErrorKind;
 use std::rt::Files;
 
 /// The files of rows.
-const FILES: [&str; 4] = [
+const FILES: [&str; 5] = [
     "vectors.tsv",
     "r03_words.tsv",
     "r04_bytes.tsv",
+    "r05_codes.tsv",
     "r10_word_kernels.tsv",
 ];
 

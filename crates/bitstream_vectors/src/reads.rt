@@ -36,6 +36,7 @@ pub fn read_call<R: BitRead>(
         Form::Optional(size) => read_optional(alloc, reader, size, bits),
         Form::Pad => Err(Objection::BAD_FORM),
         Form::Skip => accepted(alloc, reader.skip(bits)),
+        Form::Unary(stop) => read_unary(alloc, reader, stop),
         Form::Value(number) => read_number(alloc, reader, number, bits),
         Form::Vector => read_vector(alloc, reader, bits),
         Form::Whole(order, number) => read_whole(alloc, reader, order, number),
@@ -55,6 +56,15 @@ fn read_bit<R: BitRead>(alloc: Global, reader: &mut R) -> Result<String, Objecti
 fn read_bool<R: BitRead>(alloc: Global, reader: &mut R, bits: u32) -> Result<String, Objection> {
     let answer = reader.read_var::<bool>(bits);
     shown(alloc, answer.map(|bit| u8::from(bit)))
+}
+
+fn read_unary<R: BitRead>(alloc: Global, reader: &mut R, stop: bool) -> Result<String, Objection> {
+    let answer = if stop {
+        reader.read_unary::<Bits<1>>()
+    } else {
+        reader.read_unary::<Bits<0>>()
+    };
+    shown(alloc, answer)
 }
 
 /// Bytes as hexadecimal digits; `-` for none.

@@ -39,6 +39,7 @@ pub fn write_call<W: BitWrite>(
         Form::Optional(size) => write_optional(writer, size, bits, value),
         Form::Pad => Ok(writer.pad(bits)),
         Form::Skip | Form::Vector => Err(Objection::BAD_FORM),
+        Form::Unary(stop) => Ok(write_unary(writer, stop, bits)),
         Form::Value(number) => write_number(writer, number, bits, value),
         Form::Whole(order, number) => write_whole(writer, order, number, value),
         Form::Word(number) => write_word(writer, number, bits, value),
@@ -60,6 +61,14 @@ fn write_bit<W: BitWrite>(writer: &mut W, bit: u32) -> Answer {
         0 => Ok(writer.write_bit(false)),
         1 => Ok(writer.write_bit(true)),
         _ => Err(Objection::BAD_FORM),
+    }
+}
+
+fn write_unary<W: BitWrite>(writer: &mut W, stop: bool, run: u32) -> Result<(), Error> {
+    if stop {
+        writer.write_unary::<Bits<1>>(run)
+    } else {
+        writer.write_unary::<Bits<0>>(run)
     }
 }
 
