@@ -152,6 +152,22 @@ pub extern "C" fn bench_read_bytes(
     }
 }
 
+/// Reads buffers from a `Slice`.
+#[unsafe(no_mangle)]
+pub extern "C" fn bench_read_bytes_slice(
+    order: u32,
+    skip: u32,
+    data: &[u8],
+    out: &mut [u8],
+    count: u64,
+) -> u64 {
+    if order == 0 {
+        read_bytes::<_, BE>(skip, Slice::new(data), out, count)
+    } else {
+        read_bytes::<_, LE>(skip, Slice::new(data), out, count)
+    }
+}
+
 /// Skips bits of a slice's bytes.
 #[unsafe(no_mangle)]
 pub extern "C" fn bench_skip(order: u32, step: u32, data: &[u8], count: u64) -> u64 {

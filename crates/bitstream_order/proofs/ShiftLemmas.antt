@@ -1,5 +1,5 @@
 -- Bits that are moved behind a queue.
-use Rattle.std.proofs.Common.{◌≡◌, ℕ, ◌+◌, ◌-◌, ◌^◌, ◌<◌, ◌≤◌, List, [], ◌++◌, Bool, length, take, drop, sym, ap, ap₂, ◌∙◌, subst, arith, append_assoc, append-nil, length-drop}
+use Rattle.std.proofs.Common.{◌≡◌, ℕ, ◌+◌, ◌-◌, ◌<◌, ◌≤◌, List, [], ◌++◌, Bool, length, take, drop, sym, ap, ap₂, ◌∙◌, subst, arith, append_assoc, append-nil, length-drop}
 use Rattle.std.proofs.Math.ListN.{drop_of_length-le}
 use Rattle.std.proofs.Math.Seq.{take-length}
 use Rattle.std.proofs.lemmas.List.{take-append-drop}
@@ -8,31 +8,22 @@ use borrow.Rule.Slice.PartMut.{put_mid}
 use lib.Seq.{take-add, drop-drop}
 use Rattle.bitstream_number.specs.Word.{Order, word, bits}
 use Rattle.bitstream_number.proofs.WordLemmas.{bits-append}
-use Rattle.bitstream_order.specs.Parts.{first_part, put_number, piece}
+use Rattle.bitstream_order.specs.Parts.{piece}
 use Rattle.bitstream_order.specs.Shift.{Shifts}
-use Rattle.bitstream_order.proofs.PartLemmas.{put_word, first_below}
-use Rattle.bitstream_order.proofs.PieceLemmas.{first_bits}
-use Rattle.bitstream_order.proofs.SendLemmas.{piece_below, piece_last}
+use Rattle.bitstream_order.proofs.SendLemmas.{piece_last}
 use Rattle.bitstream_order.proofs.TakeLemmas.{word-none}
 
--- a queue before the word of a value
-pub shifts_word : (o : Order) (size n rest queued queue acc value first left made : ℕ) → rest + queued ≡ size → n ≡ size → acc ≡ queue → queue < 2 ^ queued → value < 2 ^ size
-    → first ≡ first_part o value size rest → left ≡ piece o n value rest queued → made ≡ put_number o acc queued first rest
-    → Shifts o queued queue (word o size value) (word o size made) left
-shifts_word o size n rest queued queue acc value first left made sum same is below small cut last put =
-    let back : size - rest ≡ queued = omega arith in
-    let all : queued + rest ≡ size = omega arith in
-    let first_small : first < 2 ^ rest = subst (λ x. x < 2 ^ rest) (sym cut) (first_below o value size rest small (omega arith)) in
-    let left_is : word o queued (piece o size value rest queued) ≡ word o queued left = ap (λ k. word o queued (piece o k value rest queued)) (sym same) ∙ ap (word o queued) (sym last) in
-    let parts : word o size value ≡ word o rest first ++ word o queued left =
-    piece_last o size value rest (omega arith)
-    ∙ ap₂ (λ x y. x ++ y) (first_bits o value size rest (omega arith) ∙ ap (word o rest) (sym cut)) (ap (λ k. word o k (piece o size value rest k)) back ∙ left_is) in
-    let front : word o size made ≡ word o queued queue ++ word o rest first =
-    ap₂ (word o) (sym all) (put ∙ ap (λ a. put_number o a queued first rest) is) ∙ put_word o queue queued first rest below first_small in
-    ap (λ x. word o queued queue ++ x) parts ∙ sym (append_assoc (word o queued queue) (word o rest first) (word o queued left)) ∙ ap (λ x. x ++ word o queued left) (sym front)
-
-pub left_below : (o : Order) (size queued value left at : ℕ) → left ≡ piece o size value at queued → left < 2 ^ queued
-left_below o size queued value left at last = subst (λ x. x < 2 ^ queued) (sym last) (piece_below o size value at queued)
+-- a queue before the word of a value, whose last bits are left
+pub shifts_word : (o : Order) (size queued queue value made : ℕ) → queued ≤ size → word o size made ≡ word o queued queue ++ take (size - queued) (word o size value)
+    → Shifts o queued queue (word o size value) (word o size made) (piece o size value (size - queued) queued)
+shifts_word o size queued queue value made le is =
+    let at = size - queued in
+    let back : size - at ≡ queued = omega arith in
+    let q = word o queued queue in
+    let w = word o size value in
+    let left = word o queued (piece o size value at queued) in
+    let parts : w ≡ take at w ++ left = piece_last o size value at (omega arith) ∙ ap (λ k. take at w ++ word o k (piece o size value at k)) back in
+    ap (λ x. q ++ x) parts ∙ sym (append_assoc q (take at w) left) ∙ ap (λ x. x ++ left) (sym is)
 
 -- no bytes
 pub shifts_none : (o : Order) (queued queue : ℕ) → Shifts o queued queue [] [] queue

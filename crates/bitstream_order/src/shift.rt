@@ -1,37 +1,22 @@
 //! Bytes that are moved behind a queue of bits.
 ghost use Rattle.std.specs.Prelude.{◌≡◌, ◌+◌, ◌-◌, ◌^◌, ◌<◌, ◌≤◌, length, take, drop};
-ghost use Rattle.bitstream_number.specs.Word.{word, bits};
+ghost use Rattle.bitstream_number.specs.Word.{bits};
 ghost use Rattle.bitstream_order.specs.Shift.{Shifts};
 
 use crate::order::Endianness;
 use bitstream_number::number::{Numeric, Primitive, UnsignedInteger};
 
-/// Puts the bits of a queue before those of a value. Returns the value that begins so, and the bits
-/// that are left behind it, as many as were queued.
-#[inline(always)]
-fn shift_value<E: Endianness, U: UnsignedInteger>(queue: u8, queued: u32, value: U) -> (U, u8)
-    requires few { queued < 8 }
-    requires small { queue < 2 ^ queued }
-    ensures shifts { Shifts E.order queued queue (word E.order U.BITS_SIZE (U.value value))
-        (word E.order U.BITS_SIZE (U.value result.0)) result.1 }
-    ensures small { result.1 < 2 ^ queued }
-{
-    value.known();
-    let rest = U::BITS_SIZE - queued;
-    let first = E::front(value, rest);
-    let left = E::cut(value, U::BITS_SIZE, rest, queued);
-    (E::put(U::from_u8(queue), queued, first, rest), left)
-}
-
 /// Puts the bits of a queue before those of some bytes, in place, as many bytes at a time as U has,
 /// and leaves the rest, which are fewer. Returns how many bytes were shifted, and the bits that are
-/// left behind them, as many as were queued.
+/// left behind them, as many as were queued. From one value to the next it carries the whole value
+/// before, whose last bits count.
 #[inline(always)]
 fn shift_values<E: Endianness, U: UnsignedInteger>(
     queue: u8,
     queued: u32,
     bytes: &mut [u8],
 ) -> (usize, u8)
+    requires some { 1 ≤ queued }
     requires few { queued < 8 }
     requires small { queue < 2 ^ queued }
     ensures shifts { Shifts E.order queued queue (bits E.order (take result.0 bytes.old))
@@ -42,24 +27,27 @@ fn shift_values<E: Endianness, U: UnsignedInteger>(
     ensures most { length bytes.old < result.0 + U.BYTES }
     ensures len { length bytes.new ≡ length bytes.old }
 {
-    let mut left = queue;
+    let rest = U::BITS_SIZE - queued;
+    let mut before = E::put(U::ZERO, rest, U::from_u8(queue), queued);
     let mut at = 0;
     while bytes.len() - at >= U::BYTES {
         let end = at + U::BYTES;
         let mut part = U::buffer();
         U::as_bytes_mut(&mut part).copy_from_slice(&bytes[at..end]);
-        let (value, rest) = shift_value::<E, U>(left, queued, E::of_bytes::<U>(part));
-        bytes[at..end].copy_from_slice(U::as_bytes(&E::to_bytes(value)));
-        left = rest;
+        let value = E::of_bytes::<U>(part);
+        let shifted = E::to_bytes(E::carry(before, queued, value));
+        bytes[at..end].copy_from_slice(U::as_bytes(&shifted));
+        before = value;
         at = end;
     }
-    (at, left)
+    (at, E::cut(before, U::BITS_SIZE, rest, queued))
 }
 
 /// Puts the bits of a queue before those of some bytes, in place, and returns the bits that are left
 /// behind them, as many as were queued.
 #[inline(always)]
 pub fn shift<E: Endianness>(queue: u8, queued: u32, bytes: &mut [u8]) -> u8
+    requires some { 1 ≤ queued }
     requires few { queued < 8 }
     requires small { queue < 2 ^ queued }
     ensures shifts { Shifts E.order queued queue (bits E.order bytes.old)
@@ -67,9 +55,6 @@ pub fn shift<E: Endianness>(queue: u8, queued: u32, bytes: &mut [u8]) -> u8
     ensures small { result < 2 ^ queued }
     ensures len { length bytes.new ≡ length bytes.old }
 {
-    if queued == 0 {
-        return queue;
-    }
     let (at, left) = shift_values::<E, u64>(queue, queued, bytes);
     shift_values::<E, u8>(left, queued, &mut bytes[at..]).1
 }

@@ -138,9 +138,10 @@ impl<R: Source, E: Endianness> BitReader<R, E> {
         }
     }
 
-    /// Reads some bytes by one request.
+    /// Reads some bytes by one request, behind the bits that wait.
     fn fetch_bytes(&mut self, buf: &mut [u8]) -> Result<(), Error>
         requires fine { self.old.failed ≡ false }
+        requires waiting { 1 ≤ self.old.queued }
         requires some { 1 ≤ length buf.old }
         ensures reads { Reads ⟦<Self as BitRead>⟧.source (bytes_entry E.order (length buf.old))
             self.old (seen (λ _. buf.new) result) self.new }
@@ -342,6 +343,7 @@ impl<R: Source, E: Endianness> BitRead for BitReader<R, E> {
         }
     }
 
+    #[inline(always)]
     fn read_to<V: Primitive>(&mut self) -> Result<V, Error>
         ensures reads { Reads ⟦<Self as BitRead>⟧.source (bytes_entry E.order V.BYTES) self.old
             (seen (value_bytes E.order V.be_bytes V.le_bytes) result) self.new }
@@ -350,6 +352,7 @@ impl<R: Source, E: Endianness> BitRead for BitReader<R, E> {
         self.read_as_to::<E, V>()
     }
 
+    #[inline(always)]
     fn read_as_to<F: Endianness, V: Primitive>(&mut self) -> Result<V, Error>
         ensures reads { Reads ⟦<Self as BitRead>⟧.source (bytes_entry E.order V.BYTES) self.old
             (seen (value_bytes F.order V.be_bytes V.le_bytes) result) self.new }
@@ -360,6 +363,7 @@ impl<R: Source, E: Endianness> BitRead for BitReader<R, E> {
         Ok(F::value_of_bytes(bytes))
     }
 
+    #[inline(always)]
     fn read_bytes(&mut self, buf: &mut [u8]) -> Result<(), Error>
         ensures reads { Reads ⟦<Self as BitRead>⟧.source (bytes_entry E.order (length buf.old))
             self.old (seen (λ _. buf.new) result) self.new }

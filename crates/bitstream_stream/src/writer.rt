@@ -135,9 +135,10 @@ impl<W: Target, E: Endianness> BitWriter<W, E> {
         }
     }
 
-    /// Writes some bytes by one request. They are shifted in their place.
+    /// Writes some bytes by one request, behind the bits that wait. They are shifted in their place.
     fn send_shifted(&mut self, bytes: &mut [u8]) -> Result<(), Error>
         requires sound { self.old.failed ≡ false }
+        requires waiting { 1 ≤ self.old.queued }
         requires some { 1 ≤ length bytes.old }
         ensures pushes { Pushes (MayRefuse W.contents W.refuses) E.order (bits E.order bytes.old)
             (writer_state W.contents W.reference_names self.old) result
@@ -333,6 +334,7 @@ impl<W: Target, E: Endianness> BitWrite for BitWriter<W, E> {
         self.push(u8::from(bit), 1)
     }
 
+    #[inline(always)]
     fn write_from<V: Primitive>(&mut self, value: V) -> Result<(), Error>
         ensures writes { Writes ⟦<Self as BitWrite>⟧.sink
             (buffer E.order (value_bytes E.order V.be_bytes V.le_bytes value))
@@ -342,6 +344,7 @@ impl<W: Target, E: Endianness> BitWrite for BitWriter<W, E> {
         self.write_as_from::<E, V>(value)
     }
 
+    #[inline(always)]
     fn write_as_from<F: Endianness, V: Primitive>(&mut self, value: V) -> Result<(), Error>
         ensures writes { Writes ⟦<Self as BitWrite>⟧.sink
             (buffer E.order (value_bytes F.order V.be_bytes V.le_bytes value))
@@ -355,6 +358,7 @@ impl<W: Target, E: Endianness> BitWrite for BitWriter<W, E> {
         self.push_bytes::<8>(V::as_bytes(&bytes))
     }
 
+    #[inline(always)]
     fn write_bytes(&mut self, bytes: &[u8]) -> Result<(), Error>
         ensures writes { Writes ⟦<Self as BitWrite>⟧.sink (buffer E.order bytes.now)
             self.old result self.new }
