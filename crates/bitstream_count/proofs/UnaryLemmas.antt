@@ -1,7 +1,7 @@
 -- Runs: no word begins another, and what is written is read again.
-use Rattle.std.proofs.Common.{◌≡◌, ℕ, zero, suc, ◌+◌, ◌^◌, ◌<◌, ◌≤◌, Bool, true, false, not, List, [], ◌∷◌, ◌++◌, length, take, replicate, Ok, Err, refl, sym, ap, ◌∙◌, subst, arith, inl, inr, append-nil, length-append}
+use Rattle.std.proofs.Common.{◌≡◌, ℕ, zero, suc, ◌+◌, ◌^◌, ◌<◌, ◌≤◌, Bool, true, false, not, List, [], ◌∷◌, ◌++◌, length, take, replicate, Ok, Err, refl, sym, ap, ◌∙◌, subst, arith, inl, inr, append-nil, append_assoc, length-append}
 use Rattle.std.proofs.lemmas.Bool.{cases_lt, lt-ltb, le-ltb}
-use Rattle.std.proofs.lemmas.List.{length-replicate}
+use Rattle.std.proofs.lemmas.List.{length-replicate, replicate-append-replicate}
 use Rattle.bitstream_count.specs.Entry.{TooShort, Takes}
 use Rattle.bitstream_count.specs.declared.error.Error.{Error}
 use Rattle.bitstream_count.specs.declared.error.Error.TheVariants.{RunTooLong}
@@ -9,6 +9,13 @@ use Rattle.bitstream_count.specs.Unary.{unary, run, read_unary}
 
 pub length-unary : (stop : Bool) (k : ℕ) → length (unary stop k) ≡ k + 1
 length-unary stop k = length-append (replicate k (not stop)) (stop ∷ []) ∙ ap (λ n. n + 1) (length-replicate k (not stop))
+
+-- a run in parts
+pub others-split : (stop : Bool) (a b n : ℕ) → a + b ≡ n → replicate n (not stop) ≡ replicate a (not stop) ++ replicate b (not stop)
+others-split stop a b n sum = ap (λ k. replicate k (not stop)) (sym sum) ∙ sym (replicate-append-replicate a b (not stop))
+
+pub unary-split : (stop : Bool) (a b n : ℕ) → a + b ≡ n → unary stop n ≡ replicate a (not stop) ++ unary stop b
+unary-split stop a b n sum = ap (λ l. l ++ stop ∷ []) (others-split stop a b n sum) ∙ append_assoc (replicate a (not stop)) (replicate b (not stop)) (stop ∷ [])
 
 -- ---- how long a run is
 

@@ -14,3 +14,4 @@ pub mod slice;
 pub mod source;
 pub mod tally;
 pub mod target;
+pub mod unary;

@@ -1,11 +1,11 @@
 //! A stream, with counts of what was asked of it that clauses alone read.
-ghost use Rattle.std.specs.Prelude.{◌≡◌, [], ◌∷◌, OnOk};
+ghost use Rattle.std.specs.Prelude.{◌≡◌, ◌*◌, [], ◌∷◌, OnOk};
 ghost use Rattle.std.specs.Io.KnownBytes.{Keeps};
 ghost use Rattle.std.specs.Io.Seek.{SeekMoves};
 ghost use Rattle.std.specs.IoError.{error_kind};
 ghost use Rattle.bitstream_order.specs.Fault.{read_refusal_of, refusal_of};
 ghost use Rattle.bitstream_order.specs.Refusal.{Refusal, MayRefuse};
-ghost use Rattle.bitstream_order.specs.Port.{port_state, held_stream, with_stream, Fetches, Sends, Seeks};
+ghost use Rattle.bitstream_order.specs.Port.{port_state, fetched_count, held_stream, with_stream, Fetches, Sends, Seeks};
 
 use crate::refusals::Refusals;
 use crate::seek::SeekSource;
@@ -116,6 +116,15 @@ impl<S> Port<S> {
             (Lends (the_row S.row) S.row self.entry result (with_stream self.old)) }
     {
         &mut self.stream
+    }
+
+    /// Returns a tally of the bits of all bytes that were fetched.
+    pub fn fetched_bits(&self) -> Tally
+        ensures { result.count ≡ 8 * fetched_count self.now }
+    {
+        let mut bits = Tally::new();
+        bits.add_bits_of(&self.fetched);
+        bits
     }
 
     /// Gives the stream up.

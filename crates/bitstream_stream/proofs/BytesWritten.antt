@@ -88,12 +88,8 @@ pub word-zeros : (o : Order) (n : ℕ) → word o n 0 ≡ replicate n false
 word-zeros High n = digits-zeros n
 word-zeros Low n = ap reverse (digits-zeros n) ∙ reverse-replicate n false
 
--- the same bit, again and again, in two parts
-pub same-split : (bit : Bool) (a b n : ℕ) → a + b ≡ n → replicate n bit ≡ replicate a bit ++ replicate b bit
-same-split bit a b n sum = ap (λ (k : ℕ). replicate k bit) (sym sum) ∙ sym (replicate-append-replicate a b bit)
-
 pub zeros-split : (a b n : ℕ) → a + b ≡ n → replicate n false ≡ replicate a false ++ replicate b false
-zeros-split a b n sum = same-split false a b n sum
+zeros-split a b n sum = ap (λ (k : ℕ). replicate k false) (sym sum) ∙ sym (replicate-append-replicate a b false)
 
 pub accepts_zeros : (o : Order) (size n len : ℕ) → n ≤ size → unsigned o size n 0 len ≡ Ok (replicate n false)
 accepts_zeros o size n len le = unsigned-fits o size n 0 len le (pow_pos n) ∙ ap Ok (word-zeros o n)

@@ -9,7 +9,7 @@ use Rattle.bitstream_number.proofs.WordLemmas.{word_cat}
 use Rattle.bitstream_count.specs.Unary.{unary}
 use Rattle.bitstream_stream.specs.WriteTable.{unsigned}
 use Rattle.bitstream_stream.proofs.WriteLemmas.{unsigned-fits, word-bit}
-use Rattle.bitstream_stream.proofs.BytesWritten.{word-zeros, reverse-replicate, same-split}
+use Rattle.bitstream_stream.proofs.BytesWritten.{word-zeros, reverse-replicate}
 
 -- ---- bits that are all the same
 
@@ -40,8 +40,3 @@ ones_others size n all v le greatest is o = ap (word o n) (ones_number size n al
 -- they are accepted
 pub accepts_others : (stop : Bool) (o : Order) (size n v len : ℕ) → n ≤ size → v < 2 ^ n → ((o : Order) → word o n v ≡ replicate n (not stop)) → unsigned o size n v len ≡ Ok (replicate n (not stop))
 accepts_others stop o size n v len le small is = unsigned-fits o size n v len le small ∙ ap Ok (is o)
-
--- ---- a run in parts
-
-pub unary-split : (stop : Bool) (a b n : ℕ) → a + b ≡ n → unary stop n ≡ replicate a (not stop) ++ unary stop b
-unary-split stop a b n sum = ap (λ l. l ++ stop ∷ []) (same-split (not stop) a b n sum) ∙ append_assoc (replicate a (not stop)) (replicate b (not stop)) (stop ∷ [])

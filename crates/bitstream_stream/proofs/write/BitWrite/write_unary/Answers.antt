@@ -2,11 +2,10 @@ use Rattle.std.proofs.Common.{arith, ◌≡◌, ◌+◌, ◌-◌, ◌*◌, ◌%�
 use Rattle.std.specs.Prelude.{◌==◌}
 use Rattle.std.proofs.lemmas.Result.{err_from_is_err_and}
 use Rattle.bitstream_count.specs.Unary.{unary}
-use Rattle.bitstream_count.proofs.UnaryLemmas.{length-unary}
+use Rattle.bitstream_count.proofs.UnaryLemmas.{length-unary, others-split, unary-split}
 use Rattle.bitstream_stream.specs.Sink.{IsWithin, Writes}
 use Rattle.bitstream_stream.specs.WriteTable.{unsigned, unary_word, bit}
-use Rattle.bitstream_stream.proofs.BytesWritten.{same-split}
-use Rattle.bitstream_stream.proofs.UnaryWrites.{accepts_others, unary-split}
+use Rattle.bitstream_stream.proofs.UnaryWrites.{accepts_others}
 use Rattle.bitstream_stream.proofs.SinkParts.{from_ok, probe_failed, probe_passed, stop_later, last, begun, Begun-more}
 use Rattle.bitstream_stream.proofs.SinkLemmas.{within_less, past_limit, untold}
 use Rattle.bitstream_stream.proofs.WriteLemmas.{unsigned-none}
@@ -91,7 +90,7 @@ loop-done-preserved g c =
     let b = from_ok K (unsigned K.order 128 128 c.others-in-loop-done.result) _ _ _ _ (replicate 128 (not stop)) c.in_ok-write_unsigned_var-3.ensures.writes refl
     (accepts_others stop K.order 128 128 c.others-in-loop-done.result _ (omega arith) c.others-in-loop-done.ensures.below c.others-in-loop-done.ensures.word) in
     record {
-      begun = rw (same-split (not stop) at 128 (c.args.value % 128 + 128 * (c.loop-done._done + 1)) (omega arith)) (Begun-more K _ _ _ (replicate at (not stop)) (replicate 128 (not stop)) c.loop-done.invariant.begun b);
+      begun = rw (others-split stop at 128 (c.args.value % 128 + 128 * (c.loop-done._done + 1)) (omega arith)) (Begun-more K _ _ _ (replicate at (not stop)) (replicate 128 (not stop)) c.loop-done.invariant.begun b);
       room = c.loop-done.invariant.room;
     }
 

@@ -1,0 +1,46 @@
+-- What is taken from a port up to a stop digit.
+use Rattle.std.specs.Prelude.{◌≡◌, ℕ, ◌+◌, ◌^◌, ◌<◌, ◌++◌, Bool, not, List, [], ◌∷◌, length, replicate, Option, Some, None, Result, Ok, Err}
+use Rattle.std.specs.Io.KnownBytes.{Consumes}
+use Rattle.bitstream_count.specs.declared.error.Error.{Error}
+use Rattle.bitstream_count.specs.Unary.{unary}
+use Rattle.bitstream_number.specs.Word.{Order, word, bits}
+use Rattle.bitstream_order.specs.Parts.{first_part}
+use Rattle.bitstream_order.specs.Port.{PortState, Fetched, FetchRefused}
+use Rattle.bitstream_order.specs.Refusal.{Refusal}
+
+-- one byte was fetched, or its request refused
+abbrev pub FetchesByte : (Refusal → Type 0) → PortState → Result ℕ Error → PortState → Type 0
+FetchesByte may old (Ok byte) new = Fetched old (byte ∷ []) new
+FetchesByte may old (Err error) new = FetchRefused may error old 1 new
+
+-- From a port with the bits x in front of it to one with the bits y: the bits w between them were taken.
+pub record TakesBetween (o : Order) (x : List Bool) (old : PortState) (w y : List Bool) (new : PortState) : Type 0 where
+  pub bytes : List ℕ
+  pub loses : Consumes old.bytes new.bytes bytes
+  pub fetched : new.fetched ≡ old.fetched + length bytes
+  pub refusals : new.refusals ≡ old.refusals
+  pub reference_names : new.reference_names ≡ old.reference_names
+  pub word : x ++ bits o bytes ≡ w ++ y
+
+-- a run was too long: so many digits were taken, and fewer than 8 bits are left behind them
+pub record TakesLongRun (o : Order) (stop : Bool) (x : List Bool) (old new : PortState) : Type 0 where
+  pub count : ℕ
+  pub long : count ≡ 2 ^ 32
+  pub left : List Bool
+  pub few : length left < 8
+  pub takes : TakesBetween o x old (replicate count (not stop)) left new
+
+-- a byte was refused behind digits that are not the stop digit
+pub record RefusesRun (may : Refusal → Type 0) (o : Order) (stop : Bool) (x : List Bool) (old : PortState) (error : Error) (new : PortState) : Type 0 where
+  pub count : ℕ
+  pub few : count < 2 ^ 32
+  pub mid : PortState
+  pub takes : TakesBetween o x old (replicate count (not stop)) [] mid
+  pub refused : FetchRefused may error mid 1 new
+
+-- A run with the bits x in front: so many digits and the stop digit, with a byte whose first bits are those left, and how many they are;
+-- none where the run is too long; or the refusal of a byte.
+abbrev pub TakesRun : (Refusal → Type 0) → Order → Bool → List Bool → PortState → Result (Option (ℕ × ℕ × ℕ)) Error → PortState → Type 0
+TakesRun may o stop x old (Ok (Some r)) new = TakesBetween o x old (unary stop r.0) (word o r.2 (first_part o r.1 8 r.2)) new
+TakesRun may o stop x old (Ok None) new = TakesLongRun o stop x old new
+TakesRun may o stop x old (Err error) new = RefusesRun may o stop x old error new
