@@ -2,6 +2,10 @@ pub mod BackLemmas
 pub mod ItemLemmas
 pub mod NonZeroLemmas
 pub mod ReadSteps
+pub mod Rows
 pub mod SureLemmas
+pub mod TableLemmas
+pub mod TreeLemmas
 pub mod TruthLemmas
+pub mod WalkLemmas
 pub mod WriteSteps

@@ -1,3 +1,6 @@
+pub mod HuffmanTree
 pub mod Items
 pub mod NonZeros
+pub mod Table
+pub mod Tree
 pub mod Truths

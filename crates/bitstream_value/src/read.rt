@@ -1,6 +1,7 @@
 //! Values that a reader of bits reads.
 ghost use Rattle.bitstream_stream.specs.Reads.{Reads};
 
+use crate::huffman::FromBits;
 use crate::integer::Integer;
 use bitstream_count::count::{BitCount, Count};
 use bitstream_count::error::Error;
@@ -50,6 +51,14 @@ pub trait BitReadExt: BitRead {
     fn read_counted<C: Count, I: Integer>(&mut self, bits: C) -> Result<I, Error>
         ensures reads { Reads Self.source (I.reads Self.source.order (C.number bits))
             self.old result self.new };
+
+    /// Reads one word of a prefix code, and returns the symbol for which it stands.
+    ///
+    /// # Errors
+    ///
+    /// As [`FromBits::from_bits`].
+    fn read_huffman<T: FromBits>(&mut self, code: &T) -> Result<T::Symbol, Error>
+        ensures reads { Reads Self.source (T.entry code.now) self.old result self.new };
 }
 
 impl<R: BitRead> BitReadExt for R {
@@ -63,5 +72,9 @@ impl<R: BitRead> BitReadExt for R {
 
     fn read_counted<C: Count, I: Integer>(&mut self, bits: C) -> Result<I, Error> {
         I::read_var(self, bits)
+    }
+
+    fn read_huffman<T: FromBits>(&mut self, code: &T) -> Result<T::Symbol, Error> {
+        code.from_bits(self)
     }
 }

@@ -1,6 +1,8 @@
 //! Values that a sink of bits takes.
 ghost use Rattle.bitstream_stream.specs.Sink.{WritesAll};
+ghost use Rattle.bitstream_value.specs.Tree.{bit_by_bit};
 
+use crate::huffman::ToBits;
 use crate::integer::Integer;
 use bitstream_count::count::{BitCount, Count};
 use bitstream_count::error::Error;
@@ -48,6 +50,15 @@ pub trait BitWriteExt: BitWrite {
     fn write_counted<C: Count, I: Integer>(&mut self, bits: C, value: I) -> Result<(), Error>
         ensures writes { WritesAll Self.sink (I.writes Self.sink.order (C.number bits) value)
             self.old result self.new };
+
+    /// Writes the word of a symbol in a prefix code: nothing where it has none.
+    ///
+    /// # Errors
+    ///
+    /// As [`ToBits::to_bits`].
+    fn write_huffman<T: ToBits>(&mut self, code: &T, symbol: T::Symbol) -> Result<(), Error>
+        ensures writes { WritesAll Self.sink (bit_by_bit (T.word code.now symbol))
+            self.old result self.new };
 }
 
 impl<W: BitWrite> BitWriteExt for W {
@@ -61,5 +72,9 @@ impl<W: BitWrite> BitWriteExt for W {
 
     fn write_counted<C: Count, I: Integer>(&mut self, bits: C, value: I) -> Result<(), Error> {
         value.write_var(self, bits)
+    }
+
+    fn write_huffman<T: ToBits>(&mut self, code: &T, symbol: T::Symbol) -> Result<(), Error> {
+        code.to_bits(symbol, self)
     }
 }

@@ -1,0 +1,18 @@
+-- The tree that a table stands for.
+use Rattle.std.specs.Prelude.{◌≡◌, true, List, Option, Some, None, is_some}
+use Rattle.std.proofs.lemmas.Bool.{false≢true}
+use Rattle.bitstream_value.specs.Table.{table_tree}
+use Rattle.bitstream_value.specs.Tree.{Tree}
+use Rattle.bitstream_value.specs.declared.huffman.tree.HuffmanTree.{HuffmanTree}
+use Rattle.bitstream_value.specs.declared.huffman.tree.Node.{Node}
+
+-- a value that is there
+abbrev pub value_of : {T : Type 0} → (o : Option T) → is_some o ≡ true → T
+value_of None there = absurd (false≢true there)
+value_of (Some x) there = x
+
+abbrev pub table : {S A : Type 0} → HuffmanTree S A → List (Node S)
+table code = code.nodes.items
+
+unfoldable pub tree_of : {S A : Type 0} → HuffmanTree S A → Tree S
+tree_of code = value_of (table_tree (table code)) code.is_table

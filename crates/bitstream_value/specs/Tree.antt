@@ -1,0 +1,60 @@
+-- Prefix codes: a tree of symbols, whose words are the paths to its leaves.
+use Rattle.std.specs.Prelude.{◌≡◌, ◌⊎◌, Bool, true, false, List, [], ◌∷◌, map, Option, Some, None, option_map, if◌then◌else◌}
+use Rattle.bitstream_count.specs.Entry.{ReadEntry, WriteEntry, chain, gives}
+use Rattle.bitstream_stream.specs.ReadTable.{bit_entry}
+use Rattle.bitstream_stream.specs.WriteTable.{bit}
+
+-- a symbol alone, or two trees, of which the bit 0 leads to the first and the bit 1 to the second
+pub data Tree (S : Type 0) : Type 0 where
+  leaf : S → Tree S
+  node : (zero_side : Tree S) → (one_side : Tree S) → Tree S
+
+-- the word leads from the root to a leaf of s
+abbrev pub IsPath : {S : Type 0} → Tree S → List Bool → S → Type 0
+IsPath (leaf x) [] s = x ≡ s
+IsPath (leaf x) (b ∷ w) s = ⊥
+IsPath (node a b) [] s = ⊥
+IsPath (node a b) (false ∷ w) s = IsPath a w s
+IsPath (node a b) (true ∷ w) s = IsPath b w s
+
+-- a read of a path: it takes the path's bits, one after another, and answers the symbol at its leaf
+unfoldable pub path_entry : {S : Type 0} → Tree S → ReadEntry S
+path_entry (leaf x) = gives x
+path_entry (node a b) = chain bit_entry (λ c. if c then path_entry b else path_entry a)
+
+-- the first, where there is one
+abbrev pub or_else : {A : Type 0} → Option A → Option A → Option A
+or_else None y = y
+or_else (Some x) y = Some x
+
+-- the path of the first leaf from the side of 0 whose symbol is the same as s
+abbrev pub first_path : {S : Type 0} → (S → S → Bool) → Tree S → S → Option (List Bool)
+first_path same (leaf x) s = if same x s then Some [] else None
+first_path same (node a b) s =
+    or_else (option_map (λ w. false ∷ w) (first_path same a s)) (option_map (λ w. true ∷ w) (first_path same b s))
+
+abbrev pub or_nothing : {A : Type 0} → Option (List A) → List A
+or_nothing None = []
+or_nothing (Some xs) = xs
+
+-- what is written for s: nothing where no leaf has it
+unfoldable pub symbol_word : {S : Type 0} → (S → S → Bool) → Tree S → S → List Bool
+symbol_word same t s = or_nothing (first_path same t s)
+
+-- the calls that write a word, a bit each
+abbrev pub bit_by_bit : List Bool → List WriteEntry
+bit_by_bit w = map bit w
+
+-- u leads to the side of 0 where v leads to that of 1, at the first place where they part
+abbrev pub IsBefore : List Bool → List Bool → Type 0
+IsBefore [] v = ⊥
+IsBefore (b ∷ u) [] = ⊥
+IsBefore (false ∷ u) (true ∷ v) = Unit {0}
+IsBefore (true ∷ u) (false ∷ v) = ⊥
+IsBefore (false ∷ u) (false ∷ v) = IsBefore u v
+IsBefore (true ∷ u) (true ∷ v) = IsBefore u v
+
+-- w is the path of the first leaf whose symbol is the same as s
+pub record IsFirstPath {S : Type 0} (same : S → S → Bool) (t : Tree S) (s : S) (w : List Bool) : Type 0 where
+  pub leads : (x : S) × IsPath t w x × (same x s ≡ true)
+  pub first : (u : List Bool) (x : S) → IsPath t u x → same x s ≡ true → (w ≡ u) ⊎ IsBefore w u

@@ -1,0 +1,27 @@
+//! Two tables as one.
+ghost use Rattle.std.specs.Prelude.{IfOk};
+ghost use Rattle.bitstream_value.specs.HuffmanTree.{table};
+ghost use Rattle.bitstream_value.specs.Table.{Joined};
+
+use crate::huffman::tree::{HuffmanTree, Node};
+use std::alloc::{AllocError, Allocator};
+
+/// Puts one table behind another, and returns both with the places of their roots.
+///
+/// # Errors
+///
+/// Memory was refused, and both trees are dropped.
+pub(super) fn joined<S: Copy, A: Allocator>(
+    first: HuffmanTree<S, A>,
+    second: HuffmanTree<S, A>,
+) -> Result<(Vec<Node<S>, A>, usize, usize), AllocError>
+    ensures { IfOk result (λ r. Joined (table first) (table second) r.0.items r.1 r.2) }
+{
+    let mut nodes = first.nodes;
+    let len = nodes.len();
+    for node in second.nodes.iter() {
+        nodes.push(node.moved(len))?;
+    }
+    let end = nodes.len();
+    Ok((nodes, len - 1, end - 1))
+}

@@ -1,0 +1,97 @@
+//! The ways down a table: reading to a leaf, and writing to a symbol's first leaf.
+ghost use Rattle.std.specs.Prelude.{◌≡◌, ◌+◌, ◌<◌, ◌≤◌, ◌↔◌, length, nat_le, if◌then◌else◌, IsTrue};
+ghost use Rattle.bitstream_value.specs.HuffmanTree.{table, tree_of};
+ghost use Rattle.bitstream_value.specs.Table.{FindsFirst, HasSymbol};
+ghost use Rattle.bitstream_value.specs.Tree.{path_entry, symbol_word};
+
+use crate::huffman::tree::{HuffmanTree, Node};
+use crate::huffman::{FromBits, NextBit, PutBit, ToBits};
+use bitstream_count::error::Error;
+use std::alloc::Allocator;
+
+impl<S: Copy + Eq, A: Allocator> FromBits for HuffmanTree<S, A> {
+    type Symbol = S;
+
+    ghost entry = { λ code. path_entry (tree_of code) };
+
+    fn from_bits<N: NextBit>(&self, next: &mut N) -> Result<S, Error> {
+        let mut root = self.nodes.len() - 1;
+        loop {
+            match self.nodes[root] {
+                Node::Leaf(symbol) => return Ok(symbol),
+                Node::Branch { zero, one } => root = if next.next_bit()? { one } else { zero },
+            }
+        }
+    }
+}
+
+impl<S: Copy + Eq, A: Allocator> ToBits for HuffmanTree<S, A> {
+    type Symbol = S;
+
+    ghost word = { λ code symbol. symbol_word S.eq (tree_of code) symbol };
+
+    fn to_bits<P: PutBit>(&self, symbol: S, put: &mut P) -> Result<(), Error> {
+        let Some(mut leaf) = self.find(0, self.nodes.len(), symbol) else {
+            return Ok(());
+        };
+        let mut root = self.nodes.len() - 1;
+        while let Node::Branch { zero, one } = self.nodes[root] {
+            match self.leaf_on_zero_side(zero, one, leaf, symbol) {
+                Some(place) => {
+                    put.put_bit(false)?;
+                    root = zero;
+                    leaf = place;
+                }
+                None => {
+                    put.put_bit(true)?;
+                    root = one;
+                }
+            }
+        }
+        Ok(())
+    }
+}
+
+impl<S: Copy + Eq, A: Allocator> HuffmanTree<S, A> {
+    /// Returns the first place from `low` up to `end` whose leaf has the symbol.
+    fn find(&self, low: usize, end: usize, symbol: S) -> Option<usize>
+        requires { end ≤ length (table self.now) }
+        ensures { FindsFirst S.eq symbol (table self.now) low end result }
+    {
+        for place in low..end {
+            if self.has(place, symbol) {
+                return Some(place);
+            }
+        }
+        None
+    }
+
+    /// Returns whether a leaf with the symbol stands at a place.
+    fn has(&self, place: usize, symbol: S) -> bool
+        requires { place < length (table self.now) }
+        ensures { IsTrue result ↔ HasSymbol S.eq symbol (table self.now) place }
+    {
+        match self.nodes[place] {
+            Node::Leaf(other) => other == symbol,
+            Node::Branch { .. } => false,
+        }
+    }
+
+    /// Returns the place of the symbol's first leaf on the side of 0 of a branch, where it has one
+    /// there. `leaf` is the first in the branch's table.
+    ///
+    /// A side of 0 that stands behind the other one is gone through: it is the shorter of the two,
+    /// so that all that a write goes through grows as the table does.
+    fn leaf_on_zero_side(&self, zero: usize, one: usize, leaf: usize, symbol: S) -> Option<usize>
+        requires { zero < length (table self.now) }
+        ensures inside { zero < one → result ≡ (if nat_le leaf zero then Some leaf else None) }
+        ensures looked { one ≤ zero
+            → FindsFirst S.eq symbol (table self.now) (one + 1) (zero + 1) result }
+    {
+        if zero < one {
+            (leaf <= zero).then_some(leaf)
+        } else {
+            self.find(one + 1, zero + 1, symbol)
+        }
+    }
+}

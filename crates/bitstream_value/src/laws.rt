@@ -1,0 +1,32 @@
+//! What holds of prefix codes, whatever reads or writes them.
+//!
+//! Each function states a law by its contract, and has nothing to do.
+
+ghost use Rattle.std.specs.Prelude.{◌≡◌, ℕ, ◌≤◌, ◌↔◌, Bool, true, List, ◌++◌, length, take, IsSome, Some, Result, Ok};
+ghost use Rattle.bitstream_count.specs.Entry.{Takes};
+ghost use Rattle.bitstream_count.specs.declared.error.Error.{Error};
+ghost use Rattle.bitstream_value.specs.Tree.{Tree, IsPath, IsFirstPath, path_entry, first_path, symbol_word};
+
+/// No path of a tree begins another; a path is read again, whatever follows it; and a read takes a
+/// path, and answers the symbol at its leaf.
+pub fn paths_are_read<S>()
+    ensures apart { (t : Tree S) (u v x y : List Bool) (a b : S) → IsPath t u a → IsPath t v b
+        → u ++ x ≡ v ++ y → (u ≡ v) × (a ≡ b) }
+    ensures back { (t : Tree S) (w : List Bool) (s : S) (p : ℕ) (more : List Bool) → IsPath t w s
+        → (path_entry t).reads p (w ++ more) ≡ Takes (length w) (Ok s) }
+    ensures taken { (t : Tree S) (p : ℕ) (bits : List Bool) (n : ℕ) (answer : Result S Error)
+        → (path_entry t).reads p bits ≡ Takes n answer
+        → (n ≤ length bits) × ((s : S) × (answer ≡ Ok s) × IsPath t (take n bits) s) }
+{}
+
+/// A symbol has a word exactly where a leaf has the same symbol; the word is the path of the first
+/// such leaf, and is read as that leaf's symbol.
+pub fn symbols_have_words<S>()
+    ensures known { (same : S → S → Bool) (t : Tree S) (s : S) → IsSome (first_path same t s)
+        ↔ ((w : List Bool) × (x : S) × IsPath t w x × (same x s ≡ true)) }
+    ensures first { (same : S → S → Bool) (t : Tree S) (s : S) (w : List Bool)
+        → first_path same t s ≡ Some w → IsFirstPath same t s w × (symbol_word same t s ≡ w) }
+    ensures back { (same : S → S → Bool) (t : Tree S) (s : S) (w : List Bool)
+        → first_path same t s ≡ Some w → (x : S) × (same x s ≡ true)
+        × ((p : ℕ) (more : List Bool) → (path_entry t).reads p (w ++ more) ≡ Takes (length w) (Ok x)) }
+{}
