@@ -129,7 +129,7 @@ adds_bits contents reference_names o a b x h none aligned =
           ∙ ap (λ w. bits o h.bytes ++ w) (ap (λ (n : ℕ). word o n b.queue) all ∙ word-none o b.queue) ∙ append-nil (bits o h.bytes));
     }
 
-one_word : (o : Order) (b : Bool) (n : ℕ) → n ≡ bool_byte b → word o 1 n ≡ b ∷ []
+pub one_word : (o : Order) (b : Bool) (n : ℕ) → n ≡ bool_byte b → word o 1 n ≡ b ∷ []
 one_word o true n e = ap (word o 1) e ∙ word-bit o true
 one_word o false n e = ap (word o 1) e ∙ word-bit o false
 

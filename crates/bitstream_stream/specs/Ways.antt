@@ -50,6 +50,7 @@ aligned_reader reader = record {
   queue = 0;
   queued = 0;
   taken = record { seal = tt; count = reader.taken.count + reader.queued };
+  turns = reader.turns;
   failed = reader.failed;
   order = reader.order;
   few = none_few;

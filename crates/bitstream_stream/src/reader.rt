@@ -1,11 +1,11 @@
 //! A reader of bits over a stream of bytes.
-ghost use Rattle.std.specs.Prelude.{◌≡◌, ℕ, ◌+◌, ◌*◌, ◌/◌, ◌^◌, ◌<◌, ◌≤◌, ◌⊎◌, IsTrue, false, true, length, Ok, OnOk};
+ghost use Rattle.std.specs.Prelude.{◌≡◌, ℕ, ◌+◌, ◌*◌, ◌/◌, ◌^◌, ◌<◌, ◌≤◌, ◌⊎◌, ◌==◌, IsTrue, false, true, length, Ok, OnOk};
 ghost use Rattle.bitstream_number.specs.Word.{count_width};
 ghost use Rattle.bitstream_order.specs.Parts.{value_bytes};
 ghost use Rattle.bitstream_order.specs.TakeBits.{seen};
 ghost use Rattle.bitstream_order.specs.Port.{fetched_count};
 ghost use Rattle.bitstream_stream.specs.Reads.{Reads, ReadsConst};
-ghost use Rattle.bitstream_stream.specs.ReadTable.{bit_entry, unsigned_entry, signed_entry, const_entry, count_entry, align_entry, bytes_entry, skip_entry, is_full};
+ghost use Rattle.bitstream_stream.specs.ReadTable.{bit_entry, unsigned_entry, signed_entry, const_entry, unary_entry, count_entry, align_entry, bytes_entry, skip_entry, is_full};
 
 use crate::read::BitRead;
 use crate::width::count_bits;
@@ -19,6 +19,7 @@ use bitstream_order::shift::shift;
 use bitstream_order::sign::signed_of;
 use bitstream_order::source::Source;
 use bitstream_order::tally::Tally;
+use bitstream_order::unary::take_run;
 use std::marker::PhantomData;
 
 mod ways;
@@ -53,6 +54,7 @@ pub struct BitReader<R, E> {
     queue: u8,
     queued: u32,
     taken: Tally,
+    turns: Tally,
     failed: bool,
     order: PhantomData<E>,
     ghost few: { queued < 8 },
@@ -62,19 +64,21 @@ pub struct BitReader<R, E> {
 }
 
 impl<R: Source, E: Endianness> BitReader<R, E> {
-    ghost use Rattle.bitstream_stream.specs.Reader.{new_reader_state, queued_bits, requests_made, AsksForBytes, AsksForWord};
+    ghost use Rattle.bitstream_stream.specs.Reader.{new_reader_state, queued_bits, requests_made, turns_made, AsksForBytes, AsksForWord};
 
     /// Returns a reader of a stream's bytes. Nothing is asked of the stream yet.
     pub fn new(reader: R) -> BitReader<R, E>
         ensures state { ⟦<Self as BitRead>⟧.source.state result
             ≡ new_reader_state (R.remaining reader) (R.reference_names reader) }
         ensures requests { requests_made result ≡ 0 }
+        ensures turns { turns_made result ≡ 0 }
     {
         BitReader {
             port: Port::new(reader),
             queue: 0,
             queued: 0,
             taken: Tally::new(),
+            turns: Tally::new(),
             failed: false,
             order: PhantomData,
         }
@@ -87,6 +91,7 @@ impl<R: Source, E: Endianness> BitReader<R, E> {
         ensures state { ⟦<Self as BitRead>⟧.source.state result
             ≡ new_reader_state (R.remaining reader) (R.reference_names reader) }
         ensures requests { requests_made result ≡ 0 }
+        ensures turns { turns_made result ≡ 0 }
     {
         BitReader::new(reader)
     }
@@ -226,7 +231,7 @@ impl<R: Source, E: Endianness> BitReader<R, E> {
 }
 
 impl<R: Source, E: Endianness> BitRead for BitReader<R, E> {
-    ghost use Rattle.bitstream_stream.specs.Reader.{reader_source, requests_made, AsksForBytes, AsksForWord};
+    ghost use Rattle.bitstream_stream.specs.Reader.{reader_source, requests_made, AsksForBytes, AsksForWord, TurnsByBytes};
 
     ghost source = { reader_source R.remaining R.refuses R.reference_names E.order };
 
@@ -327,6 +332,41 @@ impl<R: Source, E: Endianness> BitRead for BitReader<R, E> {
     {
         let value: u32 = self.read_unsigned::<B, u32>()?;
         if value == V::BITS { Ok(()) } else { Err(err) }
+    }
+
+    #[inline(always)]
+    fn read_unary<S: Width>(&mut self) -> Result<u32, Error>
+        requires { S.BITS < 2 }
+        ensures reads { Reads ⟦<Self as BitRead>⟧.source (unary_entry (S.BITS == 1))
+            self.old result self.new }
+        ensures turns { TurnsByBytes self.old result self.new }
+    {
+        if self.failed {
+            return Err(Error::Failed);
+        }
+        let stop = S::BITS == 1;
+        let queue = self.queue;
+        let queued = self.queued;
+        self.queue = 0;
+        self.queued = 0;
+        self.failed = true;
+        match take_run::<R, E>(&mut self.port, &mut self.turns, queue, queued, stop) {
+            Ok(Some((count, left, waiting))) => {
+                self.taken.add(count as u64 + 1);
+                self.queue = left;
+                self.queued = waiting;
+                self.failed = false;
+                Ok(count)
+            }
+            Ok(None) => {
+                self.taken.add(1 << 32);
+                Err(Error::RunTooLong)
+            }
+            Err(error) => {
+                self.taken = self.port.fetched_bits();
+                Err(error)
+            }
+        }
     }
 
     fn read_count<C: Count>(&mut self) -> Result<C, Error>

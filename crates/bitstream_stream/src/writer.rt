@@ -1,7 +1,8 @@
 //! A writer of bits to a stream of bytes.
-ghost use Rattle.std.specs.Prelude.{◌≡◌, ℕ, ◌+◌, ◌*◌, ◌<◌, ◌≤◌, ◌^◌, ◌⊎◌, false, true, length, replicate, OnOk, Err};
+ghost use Rattle.std.specs.Prelude.{◌≡◌, ℕ, ◌+◌, ◌*◌, ◌<◌, ◌≤◌, ◌^◌, ◌⊎◌, ◌==◌, false, true, length, replicate, OnOk, Err};
 
 use crate::check::{check, check_signed};
+use crate::others::others;
 use crate::width::count_bits;
 use crate::write::BitWrite;
 use bitstream_count::count::{BitCount, Count, SignedCount};
@@ -223,7 +224,7 @@ impl<W: Target, E: Endianness> BitWrite for BitWriter<W, E> {
     ghost use Rattle.bitstream_order.specs.Parts.{value_bytes};
     ghost use Rattle.bitstream_stream.specs.Writer.{writer_sink, AsksForBytes, AsksForWord};
     ghost use Rattle.bitstream_stream.specs.Sink.{Writes};
-    ghost use Rattle.bitstream_stream.specs.WriteTable.{unsigned, signed, plain, bit as one_bit, count as count_entry, buffer};
+    ghost use Rattle.bitstream_stream.specs.WriteTable.{unsigned, signed, plain, unary_word, bit as one_bit, count as count_entry, buffer};
 
     ghost sink = { writer_sink W.contents W.refuses W.reference_names E.order };
 
@@ -312,6 +313,27 @@ impl<W: Target, E: Endianness> BitWrite for BitWriter<W, E> {
         ensures asks { AsksForWord B.BITS self.old self.new }
     {
         self.write_unsigned::<B, u32>(V::BITS)
+    }
+
+    #[inline(always)]
+    fn write_unary<S: Width>(&mut self, value: u32) -> Result<(), Error>
+        requires { S.BITS < 2 }
+        ensures writes { Writes ⟦<Self as BitWrite>⟧.sink (unary_word (S.BITS == 1) value)
+            self.old result self.new }
+        ensures asks { value < 64 → AsksForWord (value + 1) self.old self.new }
+    {
+        if self.failed {
+            return Err(Error::Failed);
+        }
+        let stop = S::BITS == 1;
+        for _done in 0..value / 64 {
+            self.push(others::<u64>(stop, 64), 64)?;
+        }
+        let last = value % 64;
+        self.push(
+            E::put::<u64>(others(stop, last), last, u64::from(stop), 1),
+            last + 1,
+        )
     }
 
     fn write_count<C: Count>(&mut self, count: C) -> Result<(), Error>

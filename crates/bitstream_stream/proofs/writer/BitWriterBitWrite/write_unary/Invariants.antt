@@ -1,0 +1,14 @@
+use Rattle.std.proofs.Common.{◌≡◌, ◌*◌, not, replicate}
+use Rattle.bitstream_order.specs.Refusal.{MayRefuse}
+use Rattle.bitstream_stream.specs.Sink.{Appended}
+use Rattle.bitstream_stream.specs.Writer.{writer_state, queue_sink}
+use Rattle.bitstream_stream.proofs.writer.BitWriterBitWrite.write_unary.Given as goal
+
+-- so many 64 bits were written, none of which is the stop bit
+abbrev pub invariant-loop-done : goal.invariant-loop-done
+invariant-loop-done g l =
+    let K = queue_sink (MayRefuse g.W.Target.contents g.W.Target.refuses) g.E.Endianness.order in
+    record {
+      wrote : Appended K (writer_state g.W.Target.contents g.W.Target.reference_names l.fn.self) (replicate (64 * l._done) (not l.stop)) (writer_state g.W.Target.contents g.W.Target.reference_names l.self);
+      none : l._done ≡ 0 → l.self ≡ l.fn.self;
+    }
