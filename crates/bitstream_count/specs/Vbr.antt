@@ -22,7 +22,8 @@ Vbr o field w v = (more : ℕ) × IsGroups o field more w v
 
 -- so it is accepted as a number below the limit of a type of `width` bits: each group begins within the type
 abbrev pub IsAccepted : Order → ℕ → ℕ → ℕ → List Bool → ℕ → Type 0
-IsAccepted o field width limit w v = (more : ℕ) × IsGroups o field more w v × (more * (field - 1) < width) × (v < limit)
+IsAccepted o field width limit w v =
+    (more : ℕ) × IsGroups o field more w v × (more * (field - 1) < width) × (v < limit)
 
 -- ---- writing
 

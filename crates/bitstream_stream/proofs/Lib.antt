@@ -19,3 +19,7 @@ pub mod WaysLemmas
 pub mod WriteLemmas
 pub mod WriteParts
 pub mod WriterLemmas
+pub mod VbrReads
+pub mod GroupLemmas
+pub mod ZigzagLemmas
+pub mod VbrWrites

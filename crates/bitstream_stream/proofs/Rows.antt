@@ -2,12 +2,13 @@
 use Rattle.std.specs.Prelude.{pos, negsuc, map, replicate, ◌-◌, ◌^◌}
 use Rattle.std.proofs.Common.{◌≡◌, ℕ, List, [], ◌∷◌, ◌++◌, drop, Bool, true, false, Some, None, Ok, Err, refl}
 use Rattle.bitstream_count.specs.declared.checked_error.CheckedError.TheVariants.{ExcessiveValue}
-use Rattle.bitstream_count.specs.declared.error.Error.TheVariants.{Checked, ReadBits, NoSignBit}
-use Rattle.bitstream_count.specs.Entry.{Takes, WriteEntry}
+use Rattle.bitstream_count.specs.declared.error.Error.TheVariants.{Checked, ReadBits, NoSignBit, VariableWidthOverflow}
+use Rattle.bitstream_count.specs.Entry.{Takes, WriteEntry, chain}
+use Rattle.bitstream_count.specs.Vbr.{groups, groups_at}
 use Rattle.bitstream_number.specs.Word.{Order, High, Low, digits, digits_number, bits}
-use Rattle.bitstream_stream.specs.ReadTable.{bit_entry, unsigned_entry, signed_entry, const_entry, unary_entry, count_entry, align_entry}
+use Rattle.bitstream_stream.specs.ReadTable.{bit_entry, unsigned_entry, signed_entry, const_entry, unary_entry, count_entry, align_entry, vbr_entry, signed_vbr_entry}
 use Rattle.bitstream_stream.specs.Run.{read_run, write_run, write_refusals}
-use Rattle.bitstream_stream.specs.WriteTable.{unsigned, unary_word, align}
+use Rattle.bitstream_stream.specs.WriteTable.{unsigned, unary_word, align, vbr, signed_vbr}
 
 -- B1 ED 3B C1
 four_bytes : List ℕ
@@ -140,3 +141,48 @@ misfit_words = refl
 misfit_refusals : write_refusals misfit_calls 0 ≡ None ∷ None ∷ Some (Checked ExcessiveValue) ∷ None ∷ []
 unfolding unsigned digits misfit_calls
 misfit_refusals = refl
+
+-- ---- variable width
+
+vbr_high : vbr High 4 8 0 ≡ Ok (bits High (129 ∷ []))
+unfolding groups digits
+vbr_high = refl
+
+vbr_low : vbr Low 4 8 0 ≡ Ok (bits Low (24 ∷ []))
+unfolding groups digits
+vbr_low = refl
+
+vbr_narrow : vbr High 2 255 0 ≡ Ok (bits High (255 ∷ 253 ∷ []))
+unfolding groups digits
+vbr_narrow = refl
+
+signed_vbr_least : write_run (signed_vbr High 4 (negsuc 127) ∷ align ∷ []) 0 ≡ bits High (255 ∷ 48 ∷ [])
+unfolding groups digits
+signed_vbr_least = refl
+
+vbr_run : read_run (replicate 4 (vbr_entry High 4 8 (2 ^ 8))) 0 (bits High four_bytes) ≡ (Ok 11, 8) ∷ (Ok 238, 20) ∷ (Ok 99, 32) ∷ []
+unfolding vbr_entry groups_at digits digits_number four_bytes
+vbr_run = refl
+
+signed_vbr_run : read_run (replicate 4 (signed_vbr_entry High 4 8)) 0 (bits High four_bytes) ≡ (Ok (negsuc 5), 8) ∷ (Ok (pos 119), 20) ∷ (Ok (negsuc 49), 32) ∷ []
+unfolding signed_vbr_entry vbr_entry chain groups_at digits digits_number four_bytes
+signed_vbr_run = refl
+
+-- groups that go on past the type
+vbr_endless : (vbr_entry High 2 8 (2 ^ 8)).reads 0 (bits High (255 ∷ 255 ∷ [])) ≡ Takes 16 (Err VariableWidthOverflow)
+unfolding vbr_entry groups_at digits digits_number
+vbr_endless = refl
+
+-- a sum that is too great, and the greatest number where one less is the limit
+vbr_too_great : (vbr_entry High 4 8 (2 ^ 8)).reads 0 (bits High (136 ∷ 64 ∷ [])) ≡ Takes 12 (Err VariableWidthOverflow)
+unfolding vbr_entry groups_at digits digits_number
+vbr_too_great = refl
+
+vbr_at_the_limit : (vbr_entry High 4 8 (2 ^ 8 - 1)).reads 0 (bits High (255 ∷ 48 ∷ [])) ≡ Takes 12 (Err VariableWidthOverflow)
+unfolding vbr_entry groups_at digits digits_number
+vbr_at_the_limit = refl
+
+-- a group of zeros behind one that goes on
+vbr_of_two_zeros : (vbr_entry High 4 8 (2 ^ 8)).reads 0 (bits High (128 ∷ [])) ≡ Takes 8 (Ok 0)
+unfolding vbr_entry groups_at digits digits_number
+vbr_of_two_zeros = refl

@@ -1,9 +1,10 @@
 -- The table of write calls: what each means behind so many bits written before.
 use Rattle.std.specs.Prelude.{ℕ, ℤ, pos, negsuc, ◌-◌, ◌^◌, ◌==◌, ◌||◌, nat_lt, if◌then◌else◌, Bool, false, List, [], ◌∷◌, replicate, Ok, Err}
 use Rattle.bitstream_stream.specs.Alignment.{to_boundary}
-use Rattle.bitstream_number.specs.Word.{Order, word, signed_word, bits, count_width}
+use Rattle.bitstream_number.specs.Word.{Order, word, signed_word, zig, bits, count_width}
 use Rattle.bitstream_count.specs.Entry.{WriteEntry}
 use Rattle.bitstream_count.specs.Unary.{unary}
+use Rattle.bitstream_count.specs.Vbr.{vbr_word}
 use Rattle.bitstream_count.specs.declared.error.Error.TheVariants.{Checked, NoSignBit}
 use Rattle.bitstream_count.specs.declared.checked_error.CheckedError.TheVariants.{ExcessiveBits, ExcessiveValue}
 
@@ -52,3 +53,11 @@ buffer o bytes = plain (bits o bytes)
 -- n zeros
 abbrev pub zeros : ℕ → WriteEntry
 zeros n = plain (replicate n false)
+
+-- a number in groups of `field` bits
+abbrev pub vbr : Order → ℕ → ℕ → WriteEntry
+vbr o field v = plain (vbr_word o field v)
+
+-- a number of either sign so, by its place in the order 0, -1, 1, -2, 2, ..
+abbrev pub signed_vbr : Order → ℕ → ℤ → WriteEntry
+signed_vbr o field x = vbr o field (zig x)

@@ -11,6 +11,8 @@ pub mod laws;
 mod others;
 pub mod read;
 pub mod reader;
+mod vbr;
 mod width;
 pub mod write;
 pub mod writer;
+mod zigzag;

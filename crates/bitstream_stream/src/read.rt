@@ -3,10 +3,11 @@ ghost use Rattle.std.specs.Prelude.{◌≡◌, ℕ, ◌+◌, ◌%◌, ◌^◌, �
 ghost use Rattle.bitstream_order.specs.Parts.{value_bytes};
 ghost use Rattle.bitstream_order.specs.TakeBits.{seen};
 ghost use Rattle.bitstream_stream.specs.Reads.{BitSource, Reads, ReadsConst, ReadsGrowing, failing, lent_source};
-ghost use Rattle.bitstream_stream.specs.ReadTable.{bit_entry, unsigned_entry, signed_entry, const_entry, unary_entry, count_entry, align_entry, bytes_entry, skip_entry, is_full};
+ghost use Rattle.bitstream_stream.specs.ReadTable.{bit_entry, unsigned_entry, signed_entry, const_entry, unary_entry, count_entry, align_entry, bytes_entry, skip_entry, is_full, vbr_entry, signed_vbr_entry};
 
 use crate::grow::grow;
 use crate::width::count_bits;
+use crate::zigzag::unzigzag;
 use bitstream_count::count::{BitCount, Count, SignedCount};
 use bitstream_count::error::Error;
 use bitstream_number::number::{Numeric, Primitive, SignedInteger, UnsignedInteger, Width};
@@ -299,6 +300,58 @@ pub trait BitRead {
         Ok(())
     }
 
+    /// Reads an unsigned number of variable width, and returns it: groups of as many bits as F says,
+    /// of which one tells whether another follows, and the others are digits, the lowest first.
+    ///
+    /// # Errors
+    ///
+    /// `VariableWidthOverflow` where the number is too great for U, or a group begins past its
+    /// bits: the groups up to the one that shows it are taken then. Those of the stream, after which
+    /// the reader has failed, and `Failed` from then on.
+    fn read_unsigned_vbr<F: Width, U: UnsignedInteger>(&mut self) -> Result<U, Error>
+        requires some { 2 ≤ F.BITS }
+        requires within { F.BITS < U.BITS_SIZE }
+        ensures reads { Reads source
+            (vbr_entry source.order F.BITS U.BITS_SIZE (2 ^ U.BITS_SIZE))
+            self.old (seen U.value result) self.new }
+    {
+        let payload = F::BITS - 1;
+        let mask = (U::ONE << payload) - U::ONE;
+        let mut value = U::ZERO;
+        let mut shift = 0;
+        while shift < U::BITS_SIZE {
+            let group: U = self.read_unsigned::<F, U>()?;
+            let digits = group & mask;
+            let placed = digits << shift;
+            value |= placed;
+            if group == digits {
+                return if placed >> shift == digits {
+                    Ok(value)
+                } else {
+                    Err(Error::VariableWidthOverflow)
+                };
+            }
+            shift += payload;
+        }
+        Err(Error::VariableWidthOverflow)
+    }
+
+    /// Reads a signed number of variable width, and returns it. It stands as an unsigned one: x as
+    /// 2x, or as -2x - 1 where x is below 0.
+    ///
+    /// # Errors
+    ///
+    /// As [`read_unsigned_vbr`](BitRead::read_unsigned_vbr).
+    fn read_signed_vbr<F: Width, S: SignedInteger>(&mut self) -> Result<S, Error>
+        requires some { 2 ≤ F.BITS }
+        requires within { F.BITS < S.BITS_SIZE }
+        ensures reads { Reads source (signed_vbr_entry source.order F.BITS S.BITS_SIZE)
+            self.old (seen S.integer result) self.new }
+    {
+        let place = self.read_unsigned_vbr::<F, S::Unsigned>()?;
+        Ok(unzigzag(place))
+    }
+
     /// Returns the reader by reference, for a function that takes a reader by value.
     fn by_ref(&mut self) -> &mut Self
         ensures value { result.now ≡ self.old }
@@ -388,5 +441,13 @@ impl<R: BitRead> BitRead for &mut R {
 
     fn skip(&mut self, bits: u32) -> Result<(), Error> {
         (**self).skip(bits)
+    }
+
+    fn read_unsigned_vbr<F: Width, U: UnsignedInteger>(&mut self) -> Result<U, Error> {
+        (**self).read_unsigned_vbr::<F, U>()
+    }
+
+    fn read_signed_vbr<F: Width, S: SignedInteger>(&mut self) -> Result<S, Error> {
+        (**self).read_signed_vbr::<F, S>()
     }
 }

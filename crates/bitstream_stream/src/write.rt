@@ -1,9 +1,11 @@
 //! Where bits go.
 use crate::others::others;
+use crate::vbr::vbr_bits;
 use crate::width::count_bits;
+use crate::zigzag::zigzag;
 use bitstream_count::count::{BitCount, Count, SignedCount};
 use bitstream_count::error::Error;
-use bitstream_number::number::{Primitive, SignedInteger, UnsignedInteger, Width};
+use bitstream_number::number::{Numeric, Primitive, SignedInteger, UnsignedInteger, Width};
 use bitstream_order::order::Endianness;
 
 /// Writes bits.
@@ -36,7 +38,7 @@ pub trait BitWrite {
     ghost use Rattle.bitstream_number.specs.Word.{word};
     ghost use Rattle.bitstream_order.specs.Parts.{value_bytes};
     ghost use Rattle.bitstream_stream.specs.Sink.{Sink, Writes, IsWithin};
-    ghost use Rattle.bitstream_stream.specs.WriteTable.{unsigned, signed, plain, unary_word, bit as one_bit, count as count_entry, align, buffer, zeros};
+    ghost use Rattle.bitstream_stream.specs.WriteTable.{unsigned, signed, plain, unary_word, bit as one_bit, count as count_entry, align, buffer, zeros, vbr, signed_vbr};
 
     // What the states of the sink mean.
     ghost sink: { Sink Self };
@@ -290,6 +292,50 @@ pub trait BitWrite {
         Ok(())
     }
 
+    /// Writes an unsigned number of variable width: groups of as many bits as F says, of which one
+    /// tells whether another follows, and the others are digits, the lowest first. The groups are as
+    /// few as hold the number.
+    ///
+    /// # Errors
+    ///
+    /// Those of the stream, after which the sink has failed, and `Failed` from then on.
+    /// `CounterOverflow` past a limit: nothing is written then.
+    fn write_unsigned_vbr<F: Width, U: UnsignedInteger>(&mut self, value: U) -> Result<(), Error>
+        requires some { 2 ≤ F.BITS }
+        requires within { F.BITS < U.BITS_SIZE }
+        ensures writes { Writes sink (vbr sink.order F.BITS (U.value value))
+            self.old result self.new }
+    {
+        self.write_unsigned_var(0, 0u8)?;
+        if !self.has_room(vbr_bits::<F, U>(value) as u128) {
+            return Err(Error::CounterOverflow);
+        }
+        let payload = F::BITS - 1;
+        let more = U::ONE << payload;
+        let mask = more - U::ONE;
+        let mut rest = value;
+        while rest >> payload != U::ZERO {
+            self.write_unsigned::<F, U>(more | (rest & mask))?;
+            rest >>= payload;
+        }
+        self.write_unsigned::<F, U>(rest)
+    }
+
+    /// Writes a signed number of variable width. It stands as an unsigned one: x as 2x, or as
+    /// -2x - 1 where x is below 0.
+    ///
+    /// # Errors
+    ///
+    /// As [`write_unsigned_vbr`](BitWrite::write_unsigned_vbr).
+    fn write_signed_vbr<F: Width, S: SignedInteger>(&mut self, value: S) -> Result<(), Error>
+        requires some { 2 ≤ F.BITS }
+        requires within { F.BITS < S.BITS_SIZE }
+        ensures writes { Writes sink (signed_vbr sink.order F.BITS (S.integer value))
+            self.old result self.new }
+    {
+        self.write_unsigned_vbr::<F, S::Unsigned>(zigzag(value))
+    }
+
     /// Returns the sink by reference, for a function that takes a sink by value.
     fn by_ref(&mut self) -> &mut Self
     where
@@ -380,5 +426,13 @@ impl<W: BitWrite> BitWrite for &mut W {
 
     fn pad(&mut self, bits: u32) -> Result<(), Error> {
         (**self).pad(bits)
+    }
+
+    fn write_unsigned_vbr<F: Width, U: UnsignedInteger>(&mut self, value: U) -> Result<(), Error> {
+        (**self).write_unsigned_vbr::<F, U>(value)
+    }
+
+    fn write_signed_vbr<F: Width, S: SignedInteger>(&mut self, value: S) -> Result<(), Error> {
+        (**self).write_signed_vbr::<F, S>(value)
     }
 }

@@ -406,6 +406,21 @@ impl<W: Target, E: Endianness> BitWrite for BitWriter<W, E> {
         self.push(0u8, rest % 8)
     }
 
+    fn write_unsigned_vbr<F: Width, U: UnsignedInteger>(&mut self, value: U) -> Result<(), Error> {
+        if self.failed {
+            return Err(Error::Failed);
+        }
+        let payload = F::BITS - 1;
+        let more = U::ONE << payload;
+        let mask = more - U::ONE;
+        let mut rest = value;
+        while rest >> payload != U::ZERO {
+            self.push(more | (rest & mask), F::BITS)?;
+            rest >>= payload;
+        }
+        self.push(rest, F::BITS)
+    }
+
     fn byte_aligned(&self) -> bool {
         !self.failed && self.queued == 0
     }

@@ -1,0 +1,261 @@
+-- Reading groups one after another, as a loop does.
+use Rattle.std.specs.Prelude.{ℤ, bit_and, bit_or}
+use Rattle.std.proofs.Common.{◌≡◌, ℕ, suc, ◌+◌, ◌-◌, ◌*◌, ◌/◌, ◌%◌, ◌^◌, ◌<◌, ◌≤◌, inl, inr, Bool, true, false, cond, ltb, List, length, drop, Result, Ok, Err, refl, sym, ap, ◌∙◌, subst, arith, add-zero}
+use Rattle.std.specs.Int.{div_ceil}
+use Rattle.std.proofs.Math.Nat.{div-eq_of_lt, mod-eq_of_lt, mod-lt, zero-div, zero-mod, add-div_right, add-mod_right, pow-le-pow_right}
+use Rattle.std.proofs.Math.Seq.{drop-append_seam}
+use Rattle.std.proofs.lemmas.Bool.{cases_lt, cond-true, cond-false, lt-ltb, le-ltb}
+use Rattle.std.proofs.lemmas.Nat.{pow-add, pow_pos, or_lt}
+use Rattle.bitstream_number.specs.Word.{Order, number, zag}
+use Rattle.bitstream_number.proofs.Masks.{masked-is}
+use Rattle.bitstream_count.specs.declared.error.Error.{Error}
+use Rattle.bitstream_count.specs.declared.error.Error.TheVariants.{Failed, VariableWidthOverflow}
+use Rattle.bitstream_count.specs.Entry.{ReadEntry, Front, TooShort, Takes, longer, call, takes, chain, gives}
+use Rattle.bitstream_count.specs.Vbr.{before, below, groups_at}
+use Rattle.bitstream_count.proofs.VbrLemmas.{groups_at_step}
+use Rattle.bitstream_stream.specs.Reads.{BitSource, Reads, stays_failed, is_run_too_long}
+use Rattle.bitstream_stream.specs.ReadTable.{unsigned_entry, vbr_entry, signed_vbr_entry}
+use Rattle.bitstream_stream.proofs.EntryLemmas.{Same, Split, split, chain-ok, chain-none, chain-failed, word_front-some, word_front-none}
+use Rattle.bitstream_stream.proofs.ReadsLemmas.{Reads-same, Reads-chain-ok, Reads-chain-err, Reads-gives, Reads-nothing}
+use Rattle.bitstream_stream.proofs.SignedLemmas.{unsigned-below}
+use Rattle.bitstream_stream.proofs.TableLemmas.{unsigned-takes}
+use Rattle.bitstream_stream.proofs.GroupLemmas.{placed_fits, placed_past, placed_sum, sum_fits, last_group, group_more, none_behind, stays_below}
+
+-- ---- an answer without a call
+
+abbrev answers : {A : Type 0} → Result A Error → ReadEntry A
+answers r = record { reads = λ _ _. Takes 0 r; on_failed = r }
+
+answers-by : {R A : Type 0} {K : BitSource R} (r : Result A Error) (s : R) (v : Bool) → is_run_too_long r ≡ false → (K.state s).failed ≡ v → Reads K (answers r) s r s
+answers-by r s true short h = stays_failed (record { failed = h; answer = refl; same = refl })
+answers-by r s false short h = Reads-nothing (answers r) r s h short (λ more. refl)
+
+Reads-answers : {R A : Type 0} {K : BitSource R} (r : Result A Error) (s : R) → is_run_too_long r ≡ false → Reads K (answers r) s r s
+Reads-answers {K = K} r s short = answers-by r s (K.state s).failed short refl
+
+-- ---- what stands behind some groups
+
+-- a number, or why it is none of the type
+abbrev pub number_below : ℕ → ℕ → Result ℕ Error
+number_below limit v = cond (ltb v limit) (Ok v) (Err VariableWidthOverflow)
+
+short_number : (b : Bool) (v : ℕ) → is_run_too_long (cond b (Ok v) (Err VariableWidthOverflow)) ≡ false
+short_number true v = refl
+short_number false v = refl
+
+-- a front behind groups that gave the lowest `shift` digits
+abbrev ahead : ℕ → ℕ → Front ℕ → Front ℕ
+ahead value shift TooShort = TooShort
+ahead value shift (Takes n (Ok high)) = Takes n (Ok (value + 2 ^ shift * high))
+ahead value shift (Takes n (Err e)) = Takes n (Err e)
+
+-- what is read there
+unfoldable pub rest_entry : Order → ℕ → ℕ → ℕ → ℕ → ℕ → ReadEntry ℕ
+rest_entry o field size limit value shift = call (λ _ bits. below limit (ahead value shift (groups_at (div_ceil (size - shift) (field - 1)) o field bits)))
+
+ahead-start : (front : Front ℕ) → ahead 0 0 front ≡ front
+ahead-start TooShort = refl
+ahead-start (Takes n (Ok high)) = ap (λ v. Takes n (Ok v)) (omega arith)
+ahead-start (Takes n (Err e)) = refl
+
+rest-start : (o : Order) (field size limit : ℕ) → Same (rest_entry o field size limit 0 0) (vbr_entry o field size limit)
+unfolding rest_entry vbr_entry
+rest-start o field size limit = record {
+  reads = λ p bits.
+      let all : size - 0 ≡ size = omega arith in
+      ap (λ n. below limit (ahead 0 0 (groups_at (div_ceil n (field - 1)) o field bits))) all ∙ ap (below limit) (ahead-start (groups_at (div_ceil size (field - 1)) o field bits));
+  on_failed = refl;
+}
+
+ahead-before : (value shift field low limit : ℕ) (front : Front ℕ)
+    → below limit (ahead value shift (before field low front)) ≡ longer field (below limit (ahead (value + 2 ^ shift * low) (shift + (field - 1)) front))
+ahead-before value shift field low limit TooShort = refl
+ahead-before value shift field low limit (Takes n (Ok high)) =
+    let same : value + 2 ^ shift * (low + 2 ^ (field - 1) * high) ≡ value + 2 ^ shift * low + 2 ^ (shift + (field - 1)) * high = rw (pow-add 2 shift (field - 1)) (omega arith) in
+    ap (λ v. Takes (field + n) (number_below limit v)) same
+ahead-before value shift field low limit (Takes n (Err e)) = refl
+
+ceil_step : (n m : ℕ) → 0 < n → 0 < m → div_ceil n m ≡ suc (div_ceil (n - m) m)
+ceil_step n m some wide =
+    elim (cases_lt n m) [
+      | inl small ↦
+          let none : n - m ≡ 0 = omega arith in
+          rw (none, div-eq_of_lt small, mod-eq_of_lt small, zero-div m, zero-mod m) (omega arith)
+      | inr large ↦
+          let parts : n ≡ (n - m) + m = omega arith in
+          omega (arith, ap (λ k. k / m) parts ∙ add-div_right (n - m) wide, ap (λ k. k % m) parts ∙ add-mod_right (n - m) m)
+    ]
+
+-- no group more begins within the type
+no_room : (size shift m : ℕ) → size ≤ shift → div_ceil (size - shift) m ≡ 0
+no_room size shift m past =
+    let none : size - shift ≡ 0 = omega arith in
+    rw (none, zero-div m, zero-mod m) refl
+
+-- then none is looked at, whatever the groups gave
+rest-past : (o : Order) (field size limit value shift p : ℕ) (bits : List Bool) → size ≤ shift → (rest_entry o field size limit value shift).reads p bits ≡ Takes 0 (Err VariableWidthOverflow)
+unfolding rest_entry groups_at
+rest-past o field size limit value shift p bits past = ap (λ r. below limit (ahead value shift (groups_at r o field bits))) (no_room size shift (field - 1) past)
+
+rest-any : (o : Order) (field size limit u v shift : ℕ) → size ≤ shift → Same (rest_entry o field size limit u shift) (rest_entry o field size limit v shift)
+unfolding rest_entry
+rest-any o field size limit u v shift past =
+    record { reads = λ p bits. rest-past o field size limit u shift p bits past ∙ sym (rest-past o field size limit v shift p bits past); on_failed = refl }
+
+-- what follows a group
+abbrev behind_group : Order → ℕ → ℕ → ℕ → ℕ → ℕ → ℕ → ReadEntry ℕ
+behind_group o field size limit value shift group =
+    cond (ltb group (2 ^ (field - 1))) (answers (number_below limit (value + 2 ^ shift * group)))
+    (rest_entry o field size limit (value + 2 ^ shift * (group - 2 ^ (field - 1))) (shift + (field - 1)))
+
+module _ (o : Order) (field size limit : ℕ) (wide : 2 ≤ field) (within : field ≤ size) where
+  rest-step : (value shift p : ℕ) (bits : List Bool) → shift < size
+      → (rest_entry o field size limit value shift).reads p bits ≡ below limit (ahead value shift (groups_at (suc (div_ceil (size - (shift + (field - 1))) (field - 1))) o field bits))
+  unfolding rest_entry
+  rest-step value shift p bits begins =
+      let room = ceil_step (size - shift) (field - 1) (omega arith) (omega arith) ∙ ap (λ n. suc (div_ceil n (field - 1))) (omega arith) in
+      ap (λ r. below limit (ahead value shift (groups_at r o field bits))) room
+
+  none_left : (room : ℕ) (bits : List Bool) → length bits < field → groups_at (suc room) o field bits ≡ TooShort
+  unfolding groups_at
+  none_left room bits short = rw (lt-ltb (length bits) field short) refl
+
+  rest-on_failed : (value shift : ℕ) → (rest_entry o field size limit value shift).on_failed ≡ Err Failed
+  unfolding rest_entry
+  rest-on_failed value shift = refl
+
+  -- the front of what is left, by its first group
+  first_group : (value shift p : ℕ) (bits : List Bool) → shift < size → (s : Split field bits)
+      → longer field ((behind_group o field size limit value shift (number o s.word)).reads (p + field) s.rest) ≡ (rest_entry o field size limit value shift).reads p bits
+  unfolding rest_entry
+  first_group value shift p bits begins s =
+      let room = div_ceil (size - (shift + (field - 1))) (field - 1) in
+      let g = number o s.word in
+      let whole = rest-step value shift p bits begins ∙ ap (λ b. below limit (ahead value shift (groups_at (suc room) o field b))) s.parts ∙ ap (λ f. below limit (ahead value shift f)) (groups_at_step o field (omega arith) room s.word s.rest s.len) in
+      elim (cases_lt g (2 ^ (field - 1))) [
+        | inl last ↦ sym (whole ∙ rw (lt-ltb g (2 ^ (field - 1)) last) (ap (λ n. Takes n (number_below limit (value + 2 ^ shift * g))) (sym (add-zero field))))
+        | inr more ↦ sym (whole ∙ rw (le-ltb g (2 ^ (field - 1)) more) (ahead-before value shift field (g - 2 ^ (field - 1)) limit (groups_at room o field s.rest)))
+      ]
+
+  group-then : (value shift : ℕ) → shift < size → Same (chain (unsigned_entry o size field) (behind_group o field size limit value shift)) (rest_entry o field size limit value shift)
+  group-then value shift begins = rw (unsigned-takes o size field within) (record {
+    reads = λ p bits. elim (split field bits) [
+      | inl short ↦
+          chain-none (takes field (λ w. Ok (number o w))) (behind_group o field size limit value shift) p bits (word_front-none field (λ w. Ok (number o w)) bits short)
+          ∙ sym (rest-step value shift p bits begins ∙ ap (λ f. below limit (ahead value shift f)) (none_left (div_ceil (size - (shift + (field - 1))) (field - 1)) bits short))
+      | inr s ↦
+          let first : (takes field (λ w. Ok (number o w))).reads p bits ≡ Takes field (Ok (number o s.word)) = rw s.parts (word_front-some field (λ w. Ok (number o w)) s.word s.rest s.len) in
+          let rest : drop field bits ≡ s.rest = rw (s.parts, ← s.len) (drop-append_seam s.word s.rest) in
+          chain-ok (takes field (λ w. Ok (number o w))) (behind_group o field size limit value shift) p bits field (number o s.word) first
+          ∙ ap (λ b. longer field ((behind_group o field size limit value shift (number o s.word)).reads (p + field) b)) rest ∙ first_group value shift p bits begins s
+    ];
+    on_failed = chain-failed (takes field (λ w. Ok (number o w))) (behind_group o field size limit value shift) ∙ sym (rest-on_failed value shift);
+  })
+
+-- ---- the loop
+
+-- what is read of the rest is what the call reads
+pub Told : {R : Type 0} → BitSource R → ℕ → ℕ → ℕ → R → ℕ → ℕ → R → Type 0
+Told {R} K field size limit s value shift t = (r : Result ℕ Error) (z : R) → Reads K (rest_entry K.order field size limit value shift) t r z → Reads K (vbr_entry K.order field size limit) s r z
+
+module _ {R : Type 0} (K : BitSource R) (field size limit : ℕ) where
+  pub told-start : (s : R) → Told K field size limit s 0 0 s
+  unfolding Told
+  told-start s r z h = Reads-same (rest-start K.order field size limit) h
+
+  -- where no group more begins within the type, what the groups gave does not matter
+  told-any : (s t : R) (u v shift : ℕ) → size ≤ shift → Told K field size limit s u shift t → Told K field size limit s v shift t
+  unfolding Told
+  told-any s t u v shift past told r z h = told r z (Reads-same (rest-any K.order field size limit v u shift past) h)
+
+  pub told-end : (s t : R) (value shift : ℕ) → size ≤ shift → (K.state t).failed ≡ false → Told K field size limit s value shift t → Reads K (vbr_entry K.order field size limit) s (Err VariableWidthOverflow) t
+  unfolding Told
+  told-end s t value shift past fine told =
+      told (Err VariableWidthOverflow) t (Reads-nothing (rest_entry K.order field size limit value shift) (Err VariableWidthOverflow) t fine refl (λ more. rest-past K.order field size limit value shift (K.state t).taken more past))
+
+  module _ (wide : 2 ≤ field) (within : field ≤ size) (s t z : R) (value shift : ℕ) (begins : shift < size) (told : Told K field size limit s value shift t) where
+    pub told-stop : (x : Error) → Reads K (unsigned_entry K.order size field) t (Err x) z → Reads K (vbr_entry K.order field size limit) s (Err x) z
+    unfolding Told
+    told-stop x h = told (Err x) z (Reads-same (group-then K.order field size limit wide within value shift begins) (Reads-chain-err _ (behind_group K.order field size limit value shift) h))
+
+    -- a group was read
+    told-group : (group : ℕ) (r : Result ℕ Error) (y : R) → Reads K (unsigned_entry K.order size field) t (Ok group) z → Reads K (behind_group K.order field size limit value shift group) z r y → Reads K (vbr_entry K.order field size limit) s r y
+    unfolding Told
+    told-group group r y h k = told r y (Reads-same (group-then K.order field size limit wide within value shift begins) (Reads-chain-ok _ (behind_group K.order field size limit value shift) h k))
+
+    told-last : (group : ℕ) → group < 2 ^ (field - 1) → Reads K (unsigned_entry K.order size field) t (Ok group) z → Reads K (vbr_entry K.order field size limit) s (number_below limit (value + 2 ^ shift * group)) z
+    told-last group last h =
+        let r = number_below limit (value + 2 ^ shift * group) in
+        told-group group r z h (subst (λ e. Reads K e z r z) (sym (cond-true _ _ _ (lt-ltb group (2 ^ (field - 1)) last))) (Reads-answers r z (short_number (ltb (value + 2 ^ shift * group) limit) (value + 2 ^ shift * group))))
+
+    told-more : (group : ℕ) → 2 ^ (field - 1) ≤ group → Reads K (unsigned_entry K.order size field) t (Ok group) z → Told K field size limit s (value + 2 ^ shift * (group - 2 ^ (field - 1))) (shift + (field - 1)) z
+    unfolding Told
+    told-more group more h = λ r y k. told-group group r y h (subst (λ e. Reads K e z r y) (sym (cond-false _ _ _ (le-ltb group (2 ^ (field - 1)) more))) k)
+
+-- ---- one turn of it, where the limit is that of the type
+
+module _ {R : Type 0} (K : BitSource R) (field size m : ℕ) (wide : 2 ≤ field) (within : field ≤ size) (payload : m ≡ field - 1) (s t z : R) (value shift : ℕ) (begins : shift < size) (told : Told K field size (2 ^ size) s value shift t) (small : value < 2 ^ shift)
+    (group mask digits placed next : ℕ) (read : Reads K (unsigned_entry K.order size field) t (Ok group) z) (masks : mask ≡ 2 ^ m - 1) (cut : digits ≡ bit_and group mask) (shifted : placed ≡ digits * 2 ^ shift % 2 ^ size) (joined : next ≡ bit_or value placed) where
+  low : digits ≡ group % 2 ^ m
+  low = masked-is group m mask digits masks cut
+
+  turn_last : group ≡ digits → Reads K (vbr_entry K.order field size (2 ^ size)) s (number_below (2 ^ size) (value + 2 ^ shift * digits)) z
+  turn_last last =
+      let ends : group < 2 ^ (field - 1) = subst (λ k. group < 2 ^ k) payload (last_group m group digits low last) in
+      subst (λ g. Reads K (vbr_entry K.order field size (2 ^ size)) s (number_below (2 ^ size) (value + 2 ^ shift * g)) z) last
+      (told-last K field size (2 ^ size) wide within s t z value shift begins told group ends read)
+
+  pub turn-ends : group ≡ digits → placed / 2 ^ shift ≡ digits → Reads K (vbr_entry K.order field size (2 ^ size)) s (Ok next) z
+  turn-ends last back =
+      let fits = placed_fits size shift digits placed shifted back in
+      let sum = placed_sum size shift value digits placed next small fits shifted joined in
+      let below = sum_fits size shift value digits (omega arith) small fits in
+      subst (λ r. Reads K (vbr_entry K.order field size (2 ^ size)) s r z) (cond-true _ _ _ (lt-ltb (value + 2 ^ shift * digits) (2 ^ size) below) ∙ ap Ok (sym sum)) (turn_last last)
+
+  pub turn-overflows : group ≡ digits → (placed / 2 ^ shift ≡ digits → ⊥) → Reads K (vbr_entry K.order field size (2 ^ size)) s (Err VariableWidthOverflow) z
+  turn-overflows last lost =
+      let past = placed_past size shift digits placed shifted lost in
+      let above : 2 ^ size ≤ value + 2 ^ shift * digits = omega (arith, past) in
+      subst (λ r. Reads K (vbr_entry K.order field size (2 ^ size)) s r z) (cond-false _ _ _ (le-ltb (value + 2 ^ shift * digits) (2 ^ size) above)) (turn_last last)
+
+  digits_below : digits < 2 ^ m
+  digits_below = omega (arith, low, mod-lt group (pow_pos m))
+
+  pub turn-told : (group ≡ digits → ⊥) → Told K field size (2 ^ size) s next (shift + m) z
+  turn-told more =
+      let g = group_more field m group digits payload (omega arith) low (unsigned-below K.order size field group read) more in
+      let on : Told K field size (2 ^ size) s (value + 2 ^ shift * digits) (shift + m) z =
+      subst (λ k. Told K field size (2 ^ size) s (value + 2 ^ shift * digits) (shift + k) z) (sym payload)
+      (subst (λ d. Told K field size (2 ^ size) s (value + 2 ^ shift * d) (shift + (field - 1)) z) g.1 (told-more K field size (2 ^ size) wide within s t z value shift begins told group g.0 read)) in
+      elim (cases_lt (2 ^ shift * digits) (2 ^ size)) [
+        | inl fits ↦ subst (λ v. Told K field size (2 ^ size) s v (shift + m) z) (sym (placed_sum size shift value digits placed next small fits shifted joined)) on
+        | inr past ↦ told-any K field size (2 ^ size) s z (value + 2 ^ shift * digits) next (shift + m) (none_behind size shift m digits digits_below past) on
+      ]
+
+  pub turn-below : next < 2 ^ (shift + m)
+  turn-below =
+      elim (cases_lt (2 ^ shift * digits) (2 ^ size)) [
+        | inl fits ↦ subst (λ v. v < 2 ^ (shift + m)) (sym (placed_sum size shift value digits placed next small fits shifted joined)) (stays_below shift m value digits digits_below small)
+        | inr past ↦
+            let n = shift + m in
+            let le : size ≤ n = none_behind size shift m digits digits_below past in
+            let more : shift ≤ n = omega arith in
+            let whole : 2 ^ size ≤ 2 ^ n = pow-le-pow_right (omega arith) le in
+            let part : 2 ^ shift ≤ 2 ^ n = pow-le-pow_right (omega arith) more in
+            let p : placed < 2 ^ n = omega (arith, shifted, mod-lt (digits * 2 ^ shift) (pow_pos size), whole) in
+            let v : value < 2 ^ n = omega (arith, small, part) in
+            subst (λ k. k < 2 ^ n) (sym joined) (or_lt n value placed v p)
+      ]
+
+-- ---- signed numbers
+
+module _ {R : Type 0} {K : BitSource R} (o : Order) (field size n : ℕ) (same : n ≡ size) {s t : R} where
+  pub signed_vbr-stops : (x : Error) → Reads K (vbr_entry o field n (2 ^ n)) s (Err x) t → Reads K (signed_vbr_entry o field size) s (Err x) t
+  unfolding signed_vbr_entry
+  signed_vbr-stops x h = Reads-chain-err _ (λ v. gives (zag v)) (subst (λ k. Reads K (vbr_entry o field k (2 ^ k)) s (Err x) t) same h)
+
+  pub signed_vbr-takes : (v : ℕ) (x : ℤ) → x ≡ zag v → Reads K (vbr_entry o field n (2 ^ n)) s (Ok v) t → Reads K (signed_vbr_entry o field size) s (Ok x) t
+  unfolding signed_vbr_entry
+  signed_vbr-takes v x is h =
+      subst (λ y. Reads K (chain (vbr_entry o field size (2 ^ size)) (λ k. gives (zag k))) s (Ok y) t) (sym is)
+      (Reads-chain-ok _ (λ k. gives (zag k)) (subst (λ k. Reads K (vbr_entry o field k (2 ^ k)) s (Ok v) t) same h) (Reads-gives (zag v) t))

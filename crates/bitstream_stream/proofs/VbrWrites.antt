@@ -1,0 +1,152 @@
+-- Writing groups one after another, as a loop does.
+use Rattle.std.specs.Prelude.{bit_and, bit_or}
+use Rattle.std.proofs.Common.{◌≡◌, ◌≢◌, ℕ, ◌+◌, ◌-◌, ◌/◌, ◌%◌, ◌^◌, ◌<◌, ◌≤◌, inl, inr, List, Bool, true, false, not, [], ◌++◌, length, Result, Ok, Err, refl, sym, ap, ap₂, ◌∙◌, subst, arith, append_assoc, length-append}
+use Rattle.std.proofs.Math.Nat.{div-eq_of_lt, div-lt_self, mod-lt, mod_self}
+use Rattle.std.proofs.lemmas.Bool.{cases_lt}
+use Rattle.std.proofs.lemmas.Nat.{pow_pos, pow_below, shr-shr, le-div}
+use Rattle.bitstream_number.specs.Word.{Order, word}
+use Rattle.bitstream_number.proofs.Masks.{masked-is, or-sum}
+use Rattle.bitstream_number.proofs.Shifts.{shr_past}
+use Rattle.bitstream_number.proofs.WordLemmas.{half, length-word}
+use Rattle.bitstream_count.specs.declared.error.Error.{Error}
+use Rattle.bitstream_count.specs.Vbr.{vbr_word}
+use Rattle.bitstream_count.proofs.VbrLemmas.{vbr_word_small, vbr_word_large}
+use Rattle.bitstream_order.specs.Refusal.{Refusal}
+use Rattle.bitstream_stream.specs.Carries.{WriterState}
+use Rattle.bitstream_stream.specs.Sink.{Sink, Writes, IsWithin}
+use Rattle.bitstream_stream.specs.Writer.{queue_sink, Pushes}
+use Rattle.bitstream_stream.specs.WriteTable.{unsigned, vbr}
+use Rattle.bitstream_stream.proofs.BytesWritten.{appended_none}
+use Rattle.bitstream_stream.proofs.WriterLemmas.{pushes_writes}
+use Rattle.bitstream_stream.proofs.WriteLemmas.{unsigned-fits}
+use Rattle.bitstream_stream.proofs.SinkParts.{Begun, begun, Begun-more, from_ok, stop_later, last}
+
+-- ---- the number of a group
+
+pub large_of : (m rest : ℕ) → rest / 2 ^ m ≢ 0 → 2 ^ m ≤ rest
+large_of m rest some = elim (cases_lt rest (2 ^ m)) [ inl small ↦ absurd (some (div-eq_of_lt small)) | inr large ↦ large ]
+
+pub small_of : (m rest : ℕ) → rest / 2 ^ m ≡ 0 → rest < 2 ^ m
+small_of m rest none = elim (cases_lt rest (2 ^ m)) [ inl small ↦ small | inr large ↦ absurd (omega (arith, none, le-div 1 rest (2 ^ m) (pow_pos m) (omega (arith, large)))) ]
+
+-- a number is less behind a group
+pub rest_less : (m rest : ℕ) → 0 < m → 2 ^ m ≤ rest → rest / 2 ^ m < rest
+rest_less m rest some large = div-lt_self (omega (arith, large, pow_pos m)) (pow_below 0 m some)
+
+-- the m lowest digits below the digit that says that another group follows
+pub group_is : (m more mask low rest group : ℕ) → more ≡ 2 ^ m → mask ≡ 2 ^ m - 1 → low ≡ bit_and rest mask → group ≡ bit_or more low → group ≡ 2 ^ m + rest % 2 ^ m
+group_is m more mask low rest group top masks cut joined =
+    let is : low ≡ rest % 2 ^ m = masked-is rest m mask low masks cut in
+    let small : low < 2 ^ m = omega (arith, is, mod-lt rest (pow_pos m)) in
+    let whole : more % 2 ^ m ≡ 0 = ap (λ k. k % 2 ^ m) top ∙ mod_self (2 ^ m) in
+    joined ∙ or-sum more low m whole small ∙ ap₂ (λ i j. i + j) top is
+
+module _ (o : Order) (field m : ℕ) (wide : 2 ≤ field) (payload : m ≡ field - 1) where
+  -- a group and those behind it
+  next_group : (rest group next : ℕ) → 2 ^ m ≤ rest → group ≡ 2 ^ m + rest % 2 ^ m → next ≡ rest / 2 ^ m → vbr_word o field rest ≡ word o field group ++ vbr_word o field next
+  next_group rest group next large is shifted =
+      let above : 2 ^ (field - 1) ≤ rest = subst (λ k. 2 ^ k ≤ rest) payload large in
+      vbr_word_large o field (omega arith) rest wide above
+      ∙ ap₂ (λ i j. word o field i ++ vbr_word o field j) (sym (is ∙ ap (λ k. 2 ^ k + rest % 2 ^ k) payload)) (sym (shifted ∙ ap (λ k. rest / 2 ^ k) payload))
+
+  last_group : (rest : ℕ) → rest < 2 ^ m → vbr_word o field rest ≡ word o field rest
+  last_group rest small = vbr_word_small o field (omega arith) rest (subst (λ k. rest < 2 ^ k) payload small)
+
+  pub group_fits : (rest group : ℕ) → group ≡ 2 ^ m + rest % 2 ^ m → group < 2 ^ field
+  group_fits rest group is =
+      let digits : rest % 2 ^ m < 2 ^ m = mod-lt rest (pow_pos m) in
+      let one : 2 ^ m ≡ 2 ^ (field - 1) = ap (λ k. 2 ^ k) payload in
+      omega (arith, is, digits, one, half field (omega arith))
+
+  pub last_fits : (rest : ℕ) → rest < 2 ^ m → rest < 2 ^ field
+  last_fits rest small =
+      let one : 2 ^ m ≡ 2 ^ (field - 1) = ap (λ k. 2 ^ k) payload in
+      omega (arith, small, one, half field (omega arith))
+
+  -- ---- how many bits the groups have
+
+  -- where the groups up to `shift` digits are counted, the last of them begins m digits before
+  pub bits-more : (v shift bits step : ℕ) → step ≡ field → m ≤ shift → v / 2 ^ shift ≢ 0 → bits + length (vbr_word o field (v / 2 ^ (shift - m))) ≡ length (vbr_word o field v) + field
+      → bits + step + length (vbr_word o field (v / 2 ^ (shift + m - m))) ≡ length (vbr_word o field v) + field
+  bits-more v shift bits step one le some count =
+      let rest = v / 2 ^ (shift - m) in
+      let all : shift - m + m ≡ shift = omega arith in
+      let back : shift + m - m ≡ shift = omega arith in
+      let next : rest / 2 ^ m ≡ v / 2 ^ shift = shr-shr v (shift - m) m ∙ ap (λ k. v / 2 ^ k) all in
+      let large : 2 ^ m ≤ rest = large_of m rest (λ e. some (sym next ∙ e)) in
+      let parts = ap length (next_group rest (2 ^ m + rest % 2 ^ m) (rest / 2 ^ m) large refl refl) in
+      let len = length-append (word o field (2 ^ m + rest % 2 ^ m)) (vbr_word o field (rest / 2 ^ m)) in
+      let same : length (vbr_word o field (v / 2 ^ (shift + m - m))) ≡ length (vbr_word o field (rest / 2 ^ m)) = ap (λ k. length (vbr_word o field k)) (ap (λ k. v / 2 ^ k) back ∙ sym next) in
+      omega (arith, one, count, parts, len, same, length-word o field (2 ^ m + rest % 2 ^ m))
+
+  pub bits-all : (v shift bits : ℕ) → m ≤ shift → v / 2 ^ shift ≡ 0 → bits + length (vbr_word o field (v / 2 ^ (shift - m))) ≡ length (vbr_word o field v) + field → length (vbr_word o field v) ≡ bits
+  bits-all v shift bits le none count =
+      let rest = v / 2 ^ (shift - m) in
+      let all : shift - m + m ≡ shift = omega arith in
+      let next : rest / 2 ^ m ≡ 0 = shr-shr v (shift - m) m ∙ ap (λ k. v / 2 ^ k) all ∙ none in
+      let small : rest < 2 ^ m = small_of m rest next in
+      omega (arith, count, ap length (last_group rest small), length-word o field rest)
+
+-- ---- tests of a number that is shifted
+
+pub begins_within : (size v shift : ℕ) → v < 2 ^ size → v / 2 ^ shift ≢ 0 → shift < size
+begins_within size v shift small some = elim (cases_lt shift size) [ inl less ↦ less | inr past ↦ absurd (some (shr_past v size shift small past)) ]
+
+pub is_other : {b : Bool} → true ≡ not b → b ≢ true
+is_other {b = true} p q = cc
+is_other {b = false} p q = cc
+
+pub is_same : {b : Bool} → false ≡ not b → b ≡ true
+is_same {b = true} p = refl
+is_same {b = false} p = absurd (cc)
+
+-- ---- the loop
+
+-- the first groups of v were written, and those of the rest are to follow
+pub record GroupsBegun {S : Type 0} (K : Sink S) (field v : ℕ) (old : S) (rest : ℕ) (mid : S) : Type 0 where
+  pub word : List Bool
+  pub done : Begun K old word mid
+  pub parts : word ++ vbr_word K.order field rest ≡ vbr_word K.order field v
+
+module _ {S : Type 0} (K : Sink S) (field size m v : ℕ) (wide : 2 ≤ field) (within : field ≤ size) (payload : m ≡ field - 1) where
+  pub groups-start : (old mid : S) → Begun K old [] mid → GroupsBegun K field v old v mid
+  groups-start old mid b = record { word = []; done = b; parts = refl }
+
+  module _ {T : Type 0} (old mid : S) (r : Result T Error) (new : S) (rest : ℕ) (b : GroupsBegun K field v old rest mid) where
+    pub groups-more : (group next : ℕ) (t : T) → 2 ^ m ≤ rest → group ≡ 2 ^ m + rest % 2 ^ m → next ≡ rest / 2 ^ m → Writes K (unsigned K.order size field group) mid r new → r ≡ Ok t → GroupsBegun K field v old next new
+    groups-more group next t large is shifted w q =
+        let x = word K.order field group in
+        record {
+          word = b.word ++ x;
+          done = Begun-more K old mid new b.word x b.done (from_ok K (unsigned K.order size field group) mid r new t x w q (unsigned-fits K.order size field group (K.len mid) within (group_fits K.order field m wide payload rest group is)));
+          parts = append_assoc b.word x (vbr_word K.order field next) ∙ ap (λ l. b.word ++ l) (sym (next_group K.order field m wide payload rest group next large is shifted)) ∙ b.parts;
+        }
+
+    -- a group was refused, before the others
+    pub groups-stop : {V : Type 0} (r' : Result V Error) (d : Error) (group : ℕ) → 2 ^ m ≤ rest → group ≡ 2 ^ m + rest % 2 ^ m → Writes K (unsigned K.order size field group) mid r new → r ≡ Err d → r' ≡ Err d
+        → IsWithin K.limit (K.len old + length (vbr_word K.order field v)) → Writes K (vbr K.order field v) old r' new
+    groups-stop r' d group large is w q q' room =
+        let x = word K.order field group in
+        let z = vbr_word K.order field (rest / 2 ^ m) in
+        let all : vbr_word K.order field v ≡ b.word ++ (x ++ z) = sym b.parts ∙ ap (λ l. b.word ++ l) (next_group K.order field m wide payload rest group (rest / 2 ^ m) large is refl) in
+        stop_later K (unsigned K.order size field group) (vbr K.order field v) old mid r r' new d b.word x z b.done w q q'
+        (unsigned-fits K.order size field group (K.len mid) within (group_fits K.order field m wide payload rest group is)) (ap Ok all) (subst (λ l. IsWithin K.limit (K.len old + length l)) all room)
+
+    -- the last group, whatever it answers
+    pub groups-last : rest < 2 ^ m → Writes K (unsigned K.order size field rest) mid r new → IsWithin K.limit (K.len old + length (vbr_word K.order field v)) → Writes K (vbr K.order field v) old r new
+    groups-last small w room =
+        let x = word K.order field rest in
+        let all : vbr_word K.order field v ≡ b.word ++ x = sym b.parts ∙ ap (λ l. b.word ++ l) (last_group K.order field m wide payload rest small) in
+        last K (unsigned K.order size field rest) (vbr K.order field v) old mid r new b.word x (begun b.done) w
+        (unsigned-fits K.order size field rest (K.len mid) within (last_fits K.order field m wide payload rest small)) (ap Ok all) (subst (λ l. IsWithin K.limit (K.len old + length l)) all room)
+
+-- ---- a group that was pushed behind a writer's queue
+
+pub group-pushed : (may : Refusal → Type 0) (o : Order) (field size n group : ℕ) (mid : WriterState) (r : Result (Unit {0}) Error) (new : WriterState) → n ≡ field → field ≤ size → group < 2 ^ field → mid.failed ≡ false
+    → Pushes may o (word o n group) mid r new → Writes (queue_sink may o) (unsigned o size field group) mid r new
+group-pushed may o field size n group mid r new same within small sound h =
+    pushes_writes may o (word o field group) (unsigned o size field group) mid r new sound (unsigned-fits o size field group ((queue_sink may o).len mid) within small) (subst (λ k. Pushes may o (word o k group) mid r new) same h)
+
+-- a writer that is sound, before the first group
+pub none_pushed : (may : Refusal → Type 0) (o : Order) (s : WriterState) → s.failed ≡ false → Begun (queue_sink may o) s [] s
+none_pushed may o s sound = record { was_sound = sound; within = tt; done = appended_none (queue_sink may o) s sound }

@@ -1,0 +1,127 @@
+use Rattle.std.proofs.Common.{rules, arith, ◌≡◌, ◌≢◌, true, false, ◌-◌, ◌/◌, ◌^◌, ◌<◌, sym, ap, ◌∙◌, pow_pos, ◌≤◌}
+use Rattle.bitstream_order.proofs.SignLemmas.{half_is}
+use Rattle.bitstream_stream.proofs.GroupLemmas.{mask_below}
+use Rattle.bitstream_stream.proofs.VbrReads.{told-start, told-stop, told-end, turn-ends, turn-overflows, turn-told, turn-below}
+use Rattle.bitstream_stream.proofs.BytesLemmas.{seen_stops}
+use Rattle.bitstream_stream.proofs.SignedLemmas.{Reads-fine}
+use Rattle.bitstream_stream.proofs.TableLemmas.{unsigned-on_failed}
+use Rattle.bitstream_stream.proofs.read.BitRead.read_unsigned_vbr.Goals as goal
+
+pub sub-mask-requires : goal.sub-mask-requires
+sub-mask-requires g c =
+    let u = g.U.UnsignedInteger in
+    let law = g.met.U.UnsignedInteger in
+    let one : u.value c.ONE.result ≡ 1 = search rules in
+    let unit : u.value c.ONE-2.result ≡ 1 = search rules in
+    let m = c.BITS-payload.result - 1 in
+    let size = g.U.Numeric.BITS_SIZE in
+    let field = c.BITS-payload.ensures in
+    let within = c.requires.within in
+    let less : m < size = omega (arith, field, within) in
+    law.can_sub_value_law _ _ (omega (arith, unit, half_is _ m size _ one less (law.shl_law _ _ _ c.shl.ensures), pow_pos m))
+
+pub loop-shift-init : goal.loop-shift-init
+loop-shift-init g c =
+    let u = g.U.UnsignedInteger in
+    let law = g.met.U.UnsignedInteger in
+    let one : u.value c.ONE.result ≡ 1 = search rules in
+    let unit : u.value c.ONE-2.result ≡ 1 = search rules in
+    let none : u.value c.ZERO-value.result ≡ 0 = search rules in
+    let m = c.BITS-payload.result - 1 in
+    let size = g.U.Numeric.BITS_SIZE in
+    let field = c.BITS-payload.ensures in
+    let within = c.requires.within in
+    let less : m < size = omega (arith, field, within) in
+    record {
+      mask = mask_below m size _ _ _ _ less one unit (law.shl_law _ _ _ c.shl.ensures) (law.sub_value_law _ _ _ c.sub-mask.ensures);
+      told = rw none (told-start g.Self.BitRead.source g.F.Width.BITS size (2 ^ size) _);
+      below = omega (arith, none);
+      sound = λ some. absurd (omega arith);
+    }
+
+pub returns-in_err-group : goal.returns-in_err-group
+returns-in_err-group g c =
+    let K = g.Self.BitRead.source in
+    let u = g.U.UnsignedInteger in
+    let law = g.met.U.UnsignedInteger in
+    let field = g.F.Width.BITS in
+    let size = g.U.Numeric.BITS_SIZE in
+    let m = c.BITS-payload.result - 1 in
+    let within = c.requires.within in
+    let inv = c.loop-shift.invariant in
+    let begins : c.loop-shift.shift < size = let less = c.loop-shift-test.true in let is = c.BITS_SIZE.ensures in omega (arith, less, is) in
+    record {
+      reads = seen_stops _ c.from_residual.result c.from_residual.ensures.1
+          (told-stop K field size (2 ^ size) c.requires.some (omega (arith, within)) _ _ _ _ _ begins inv.told _ c.in_err-group.ensures.reads);
+    }
+
+pub returns-then-eq-2 : goal.returns-then-eq-2
+returns-then-eq-2 g c =
+    let K = g.Self.BitRead.source in
+    let u = g.U.UnsignedInteger in
+    let law = g.met.U.UnsignedInteger in
+    let field = g.F.Width.BITS in
+    let size = g.U.Numeric.BITS_SIZE in
+    let m = c.BITS-payload.result - 1 in
+    let within = c.requires.within in
+    let inv = c.loop-shift.invariant in
+    let begins : c.loop-shift.shift < size = let less = c.loop-shift-test.true in let is = c.BITS_SIZE.ensures in omega (arith, less, is) in
+    let last = (law.eq_value_law _ _).0 (sym c.eq.ensures ∙ c.if-eq.true) in
+    let same = (law.eq_value_law _ _).0 (sym c.eq-then-eq.ensures ∙ c.if-eq-2.true) in
+    let back : u.value c.shl-placed.result / 2 ^ c.loop-shift.shift ≡ u.value c.bitand-digits.result = sym (law.shr_law _ _ _ c.shr.ensures) ∙ same in
+    record {
+      reads = turn-ends K field size m c.requires.some (omega (arith, within)) (ap (λ k. k - 1) c.BITS-payload.ensures) _ _ _ _ _ begins inv.told inv.below
+          _ _ _ _ _ c.in_ok-group.ensures.reads inv.mask (law.and_law _ _ _ c.bitand-digits.ensures) (law.shl_law _ _ _ c.shl-placed.ensures) (law.or_law _ _ _ (g.met.U.Numeric.bitor_assign_law _ _ _ c.bitor_assign.ensures.after)) last back;
+    }
+
+apart : true ≢ false
+apart e = cc
+
+pub returns-else-eq-2 : goal.returns-else-eq-2
+returns-else-eq-2 g c =
+    let K = g.Self.BitRead.source in
+    let u = g.U.UnsignedInteger in
+    let law = g.met.U.UnsignedInteger in
+    let field = g.F.Width.BITS in
+    let size = g.U.Numeric.BITS_SIZE in
+    let m = c.BITS-payload.result - 1 in
+    let within = c.requires.within in
+    let inv = c.loop-shift.invariant in
+    let begins : c.loop-shift.shift < size = let less = c.loop-shift-test.true in let is = c.BITS_SIZE.ensures in omega (arith, less, is) in
+    let last = (law.eq_value_law _ _).0 (sym c.eq.ensures ∙ c.if-eq.true) in
+    let lost : u.value c.shr.result ≢ u.value c.bitand-digits.result = λ e. apart (sym ((law.eq_value_law _ _).1 e) ∙ sym c.eq-then-eq.ensures ∙ c.if-eq-2.false) in
+    record {
+      reads = turn-overflows K field size m c.requires.some (omega (arith, within)) (ap (λ k. k - 1) c.BITS-payload.ensures) _ _ _ _ _ begins inv.told inv.below
+          _ _ _ _ _ c.in_ok-group.ensures.reads inv.mask (law.and_law _ _ _ c.bitand-digits.ensures) (law.shl_law _ _ _ c.shl-placed.ensures) (law.or_law _ _ _ (g.met.U.Numeric.bitor_assign_law _ _ _ c.bitor_assign.ensures.after)) last (λ back. lost (law.shr_law _ _ _ c.shr.ensures ∙ back));
+    }
+
+pub loop-shift-preserved : goal.loop-shift-preserved
+loop-shift-preserved g c =
+    let K = g.Self.BitRead.source in
+    let u = g.U.UnsignedInteger in
+    let law = g.met.U.UnsignedInteger in
+    let field = g.F.Width.BITS in
+    let size = g.U.Numeric.BITS_SIZE in
+    let m = c.BITS-payload.result - 1 in
+    let within = c.requires.within in
+    let inv = c.loop-shift.invariant in
+    let begins : c.loop-shift.shift < size = let less = c.loop-shift-test.true in let is = c.BITS_SIZE.ensures in omega (arith, less, is) in
+    let more : u.value c.in_ok-group.group ≢ u.value c.bitand-digits.result = λ e. apart (sym ((law.eq_value_law _ _).1 e) ∙ sym c.eq.ensures ∙ c.if-eq.false) in
+    record {
+      mask = inv.mask;
+      told = turn-told K field size m c.requires.some (omega (arith, within)) (ap (λ k. k - 1) c.BITS-payload.ensures) _ _ _ _ _ begins inv.told inv.below
+          _ _ _ _ _ c.in_ok-group.ensures.reads inv.mask (law.and_law _ _ _ c.bitand-digits.ensures) (law.shl_law _ _ _ c.shl-placed.ensures) (law.or_law _ _ _ (g.met.U.Numeric.bitor_assign_law _ _ _ c.bitor_assign.ensures.after)) more;
+      below = turn-below K field size m c.requires.some (omega (arith, within)) (ap (λ k. k - 1) c.BITS-payload.ensures) _ _ _ _ _ begins inv.told inv.below
+          _ _ _ _ _ c.in_ok-group.ensures.reads inv.mask (law.and_law _ _ _ c.bitand-digits.ensures) (law.shl_law _ _ _ c.shl-placed.ensures) (law.or_law _ _ _ (g.met.U.Numeric.bitor_assign_law _ _ _ c.bitor_assign.ensures.after));
+      sound = λ _. Reads-fine (unsigned-on_failed K.order size field) c.in_ok-group.ensures.reads;
+    }
+
+pub returns : goal.returns
+returns g c =
+    let size = g.U.Numeric.BITS_SIZE in
+    let past : size ≤ c.loop-shift.shift = let most = c.loop-shift-test.false in let is = c.BITS_SIZE.ensures in omega (arith, most, is) in
+    let some = c.requires.some in
+    let within = c.requires.within in
+    record {
+      reads = told-end g.Self.BitRead.source g.F.Width.BITS size (2 ^ size) _ _ _ _ past (c.loop-shift.invariant.sound (omega (arith, past, some, within))) c.loop-shift.invariant.told;
+    }

@@ -1,0 +1,23 @@
+//! How long a number of variable width is.
+ghost use Rattle.std.specs.Prelude.{◌≡◌, ℕ, ◌<◌, ◌≤◌, length};
+ghost use Rattle.bitstream_number.specs.Word.{Order};
+ghost use Rattle.bitstream_count.specs.Vbr.{vbr_word};
+
+use bitstream_number::number::{Numeric, UnsignedInteger, Width};
+
+/// Returns how many bits the groups of a number have, each as many as F says.
+pub(crate) fn vbr_bits<F: Width, U: UnsignedInteger>(value: U) -> u32
+    requires some { 2 ≤ F.BITS }
+    requires within { F.BITS < U.BITS_SIZE }
+    ensures { (o : Order) → length (vbr_word o F.BITS (U.value value)) ≡ result }
+{
+    value.known();
+    let payload = F::BITS - 1;
+    let mut bits = F::BITS;
+    let mut shift = payload;
+    while value.shr_default(shift) != U::ZERO {
+        bits += F::BITS;
+        shift += payload;
+    }
+    bits
+}
