@@ -1,5 +1,6 @@
 pub mod BackLemmas
 pub mod ItemLemmas
+pub mod LimitedLemmas
 pub mod NonZeroLemmas
 pub mod ReadSteps
 pub mod Rows

@@ -1,9 +1,10 @@
 -- Worked rows, by the definitions alone.
 use Rattle.std.specs.Prelude.{map, replicate}
-use Rattle.std.proofs.Common.{◌≡◌, ◌==◌, ℕ, List, [], ◌∷◌, false, Ok, refl}
+use Rattle.std.proofs.Common.{◌≡◌, ◌==◌, ℕ, List, [], ◌∷◌, ◌++◌, true, false, Some, None, Ok, refl}
 use Rattle.bitstream_count.specs.Entry.{Takes, chain}
 use Rattle.bitstream_number.specs.Word.{High, Low, digits, bits}
 use Rattle.bitstream_stream.specs.Run.{read_run}
+use Rattle.bitstream_value.specs.LimitedUnary.{limited_unary, limited_tree}
 use Rattle.bitstream_value.specs.Tree.{Tree, leaf, node, path_entry, symbol_word}
 
 -- ---- prefix codes
@@ -46,3 +47,14 @@ first_of_two = refl
 no_bits : (path_entry {S = ℕ} (leaf 9)).reads 0 [] ≡ Takes 0 (Ok 9)
 unfolding path_entry
 no_bits = refl
+
+-- ---- limited unary, of at most three digits
+
+three_ones : (path_entry (limited_tree false 0 3)).reads 0 (bits High (255 ∷ [])) ≡ Takes 3 (Ok None)
+unfolding path_entry limited_tree chain digits
+three_ones = refl
+
+-- two, none, and three, which has no word
+limited_words : limited_unary true 3 (Some 2) ++ limited_unary true 3 None ++ limited_unary true 3 (Some 3)
+    ≡ false ∷ false ∷ true ∷ false ∷ false ∷ false ∷ []
+limited_words = refl

@@ -1,5 +1,6 @@
 pub mod HuffmanTree
 pub mod Items
+pub mod LimitedUnary
 pub mod NonZeros
 pub mod Table
 pub mod Tree

@@ -7,8 +7,10 @@ ghost use Rattle.bitstream_stream.specs.Sink.{Sink, Writes, WritesAll};
 ghost use Rattle.bitstream_stream.specs.WriteTable.{bit};
 ghost use Rattle.bitstream_value.specs.Tree.{bit_by_bit};
 
+mod limited_unary;
 mod tree;
 
+pub use crate::huffman::limited_unary::LimitedUnary;
 pub use crate::huffman::tree::HuffmanTree;
 use bitstream_count::error::Error;
 use bitstream_stream::read::BitRead;

@@ -2,9 +2,10 @@
 //!
 //! Each function states a law by its contract, and has nothing to do.
 
-ghost use Rattle.std.specs.Prelude.{◌≡◌, ℕ, ◌≤◌, ◌↔◌, Bool, true, List, ◌++◌, length, take, IsSome, Some, Result, Ok};
+ghost use Rattle.std.specs.Prelude.{◌≡◌, ℕ, ◌<◌, ◌≤◌, ◌↔◌, Bool, true, List, ◌++◌, length, take, Option, IfSome, IsSome, Some, Result, Ok};
 ghost use Rattle.bitstream_count.specs.Entry.{Takes};
 ghost use Rattle.bitstream_count.specs.declared.error.Error.{Error};
+ghost use Rattle.bitstream_value.specs.LimitedUnary.{limited_unary, limited_tree};
 ghost use Rattle.bitstream_value.specs.Tree.{Tree, IsPath, IsFirstPath, path_entry, first_path, symbol_word};
 
 /// No path of a tree begins another; a path is read again, whatever follows it; and a read takes a
@@ -29,4 +30,14 @@ pub fn symbols_have_words<S>()
     ensures back { (same : S → S → Bool) (t : Tree S) (s : S) (w : List Bool)
         → first_path same t s ≡ Some w → (x : S) × (same x s ≡ true)
         × ((p : ℕ) (more : List Bool) → (path_entry t).reads p (w ++ more) ≡ Takes (length w) (Ok x)) }
+{}
+
+/// The words of limited unary are the paths of a tree, whose leaves are `None` and the numbers below
+/// the maximum.
+pub fn limited_runs_are_paths()
+    ensures word { (stop : Bool) (most : ℕ) (v : Option ℕ) → IfSome v (λ k. k < most)
+        → IsPath (limited_tree stop 0 most) (limited_unary stop most v) v }
+    ensures path { (stop : Bool) (most : ℕ) (w : List Bool) (v : Option ℕ)
+        → IsPath (limited_tree stop 0 most) w v
+        → IfSome v (λ k. k < most) × (w ≡ limited_unary stop most v) }
 {}
