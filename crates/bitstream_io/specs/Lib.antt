@@ -8,6 +8,7 @@ pub use Rattle.bitstream_count.specs.declared.checked_error.CheckedError
 pub use Rattle.bitstream_count.specs.declared.error.Error
 pub use Rattle.bitstream_count.specs.Entry
 pub use Rattle.bitstream_count.specs.Kind
+pub use Rattle.bitstream_count.specs.Unary
 pub use Rattle.bitstream_order.specs.TakeBits
 pub use Rattle.bitstream_order.specs.Fault
 pub use Rattle.bitstream_order.specs.Parts
@@ -31,6 +32,9 @@ pub use Rattle.bitstream_stream.specs.Sink
 pub use Rattle.bitstream_stream.specs.Ways
 pub use Rattle.bitstream_stream.specs.WriteTable
 pub use Rattle.bitstream_stream.specs.Writer
+pub use Rattle.bitstream_value.specs.HuffmanTree
 pub use Rattle.bitstream_value.specs.Items
+pub use Rattle.bitstream_value.specs.LimitedUnary
 pub use Rattle.bitstream_value.specs.NonZeros
+pub use Rattle.bitstream_value.specs.Tree
 pub use Rattle.bitstream_value.specs.Truths

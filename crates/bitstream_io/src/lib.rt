@@ -42,6 +42,13 @@ pub mod integer {
     pub use bitstream_value::integer::Integer;
 }
 
+/// Prefix codes: symbols that stand as words of bits, none of which begins another.
+pub mod huffman {
+    pub use bitstream_value::huffman::{
+        FromBits, HuffmanTree, LimitedUnary, NextBit, PutBit, ToBits,
+    };
+}
+
 /// The two orders of bits.
 pub mod order {
     pub use bitstream_order::order::{BE, BigEndian, Endianness, LE, LittleEndian};
@@ -90,6 +97,7 @@ pub mod laws {
     pub use bitstream_stream::laws::{
         bytes_are_numbers, dropped_queues_are_alignments, ends_are_known, slices_end, words_join,
     };
+    pub use bitstream_value::laws::{limited_runs_are_paths, paths_are_read, symbols_have_words};
 }
 
 pub use bytes::{ByteRead, ByteReader, ByteWrite, ByteWriter};
