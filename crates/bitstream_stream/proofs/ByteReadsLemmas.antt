@@ -1,9 +1,8 @@
 -- How reads of whole bytes compose.
-use Rattle.std.proofs.Common.{◌≡◌, ℕ, ◌+◌, ◌<◌, ◌≤◌, inl, inr, Bool, List, [], ◌∷◌, ◌++◌, ◌-◌, length, take, drop, replicate, set, Result, Ok, Err, refl, sym, ap, ap₂, ◌∙◌, subst, append-nil, length-append, length-drop, length-take-le, arith}
+use Rattle.std.proofs.Common.{◌≡◌, ℕ, ◌+◌, ◌<◌, ◌≤◌, inl, inr, Bool, List, [], ◌∷◌, ◌++◌, length, take, set, Result, Ok, Err, refl, sym, ap, ap₂, ◌∙◌, subst, append-nil, length-append, arith}
 use Rattle.std.specs.Io.KnownBytes.{Consumes}
 use Rattle.std.proofs.KnownBytes.{Consumes-nil, Consumes-trans}
-use Rattle.std.proofs.Math.Seq.{take-append_seam, drop-append_seam, take-length}
-use Rattle.std.proofs.lemmas.List.{nil_from_length, length-replicate, take_all}
+use Rattle.std.proofs.Math.Seq.{take-append_seam, take-length}
 use Rattle.std.proofs.lemmas.Grind.{take-set_at}
 use Rattle.std.specs.Prelude.{slice_index_or}
 use Rattle.std.proofs.lemmas.Bool.{le-leb, lt-leb, cases_lt}
@@ -115,6 +114,11 @@ bytes_more {K = K} a b x y s t u h k =
     let p = bytes_took a x s t h in
     let q = bytes_took b y t u k in
     bytes_taken (a + b) (x ++ y) s u (length-append x y ∙ ap₂ (λ i j. i + j) p.1 q.1) (TookBytes-trans x y (K.state s) (K.state t) (K.state u) p.0 q.0)
+
+-- the same, by all bytes
+pub bytes_then : {R : Type 0} {K : ByteSource R} {grows : Bool} (a b n : ℕ) (x y z : List ℕ) (s t u : R) → a + b ≡ n → z ≡ x ++ y → ByteReadOutcome K grows (given_bytes a) s (Ok x) t → ByteReads K (given_bytes b) t (Ok y) u
+    → ByteReadOutcome K grows (given_bytes n) s (Ok z) u
+bytes_then {K = K} {grows = grows} a b n x y z s t u sum is h k = rw (is, ← sum) (bytes_more a b x y s t u h k)
 
 -- some bytes of n, and then a call that was refused
 pub bytes_stop : {R : Type 0} {K : ByteSource R} {grows : Bool} (a b n : ℕ) (x : List ℕ) (e : Error) (s t u : R) → a + b ≤ n → ByteReadOutcome K grows (given_bytes a) s (Ok x) t → ByteReads K (given_bytes b) t (Err e) u
@@ -262,24 +266,6 @@ byte_put {K = K} i buf x s t u fits h k =
     let one : x ≡ slice_index_or x 0 0 ∷ [] = one_item x 0 (bytes_took 1 x t u read).1 in
     let all : take (i + 1) (set buf i (slice_index_or x 0 0)) ≡ take i buf ++ x = take-set_at buf i (i + 1) (slice_index_or x 0 0) refl fits ∙ ap (λ l. take i buf ++ l) (sym one) in
     rw all (bytes_more i 1 (take i buf) x s t u h read)
-
--- ---- a vector whose end is filled
-
--- the vector was grown from `old` by zeros, and these gave way to other bytes
-pub tail_filled : (n : ℕ) (old all items buf : List ℕ) → length old ≤ n → all ≡ take n old ++ replicate (n - length old) 0 → length buf ≡ length (take (length all - length old) (drop (length old) all))
-    → (take n ((take (length old) all ++ (buf ++ drop (length all - length old) (drop (length old) all))) ++ drop (length (take (length old) all ++ (buf ++ drop (length all - length old) (drop (length old) all)))) items) ≡ old ++ buf) × (length buf ≡ n - length old)
-tail_filled n old all items buf le grown filled =
-    let zeros : List ℕ = replicate (n - length old) 0 in
-    let whole : all ≡ old ++ zeros = grown ∙ ap (λ l. l ++ zeros) (take_all n old le) in
-    let size : length all ≡ n = let l = length-append old zeros in let z : length zeros ≡ n - length old = length-replicate (n - length old) 0 in ap (λ l. length l) whole ∙ omega (arith, l, z, le) in
-    let front : take (length old) all ≡ old = ap (take (length old)) whole ∙ take-append_seam old zeros in
-    let back : drop (length old) all ≡ zeros = ap (drop (length old)) whole ∙ drop-append_seam old zeros in
-    let rest : length (drop (length old) all) ≡ n - length old = ap (λ l. length l) back ∙ length-replicate (n - length old) 0 in
-    let few : length buf ≡ n - length old = filled ∙ length-take-le (length all - length old) (drop (length old) all) (omega arith) ∙ ap (λ (k : ℕ). k - length old) size in
-    let none : drop (length all - length old) (drop (length old) all) ≡ [] = nil_from_length _ (let l = length-drop (length all - length old) (drop (length old) all) in omega arith) in
-    let inner : take (length old) all ++ (buf ++ drop (length all - length old) (drop (length old) all)) ≡ old ++ buf = ap₂ (λ x y. x ++ (buf ++ y)) front none ∙ ap (λ l. old ++ l) (append-nil buf) in
-    let full : n ≡ length (old ++ buf) = let l = length-append old buf in omega arith in
-    (ap (λ l. take n (l ++ drop (length l) items)) inner ∙ ap (λ k. take k ((old ++ buf) ++ drop (length (old ++ buf)) items)) full ∙ take-append_seam (old ++ buf) (drop (length (old ++ buf)) items), few)
 
 -- ---- what the exit of a `?` returns
 

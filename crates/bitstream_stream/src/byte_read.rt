@@ -4,13 +4,12 @@ ghost use Rattle.bitstream_order.specs.Parts.{value_bytes};
 ghost use Rattle.bitstream_order.specs.TakeBits.{seen};
 ghost use Rattle.bitstream_stream.specs.ByteReads.{ByteSource, ByteReads, ByteReadsGrowing, given_bytes, skipped_bytes, lent_byte_source};
 
+use crate::grow::grow;
+use crate::piece::GROWTH;
 use bitstream_count::error::Error;
 use bitstream_number::number::Primitive;
 use bitstream_order::order::Endianness;
 use std::alloc::Allocator;
-
-/// How many bytes [`ByteRead::read_to_vec`] asks for at a time.
-const PIECE: usize = 4096;
 
 /// Reads whole bytes.
 ///
@@ -102,13 +101,15 @@ pub trait ByteRead {
         ensures reads { ByteReadsGrowing source (given_bytes bytes) self.old
             (seen (λ read. read.items) result) self.new }
     {
-        let mut read = Vec::with_capacity(alloc, bytes.min(PIECE))?;
-        while read.len() < bytes {
-            let start = read.len();
-            read.resize(start + (bytes - start).min(PIECE), 0)?;
-            self.read_bytes(&mut read[start..])?;
+        let mut buf = Vec::new(alloc);
+        let mut at = 0;
+        while at < bytes {
+            let end = at + GROWTH.min(bytes - at);
+            grow(&mut buf, end)?;
+            self.read_bytes(&mut buf.as_mut_slice()[at..])?;
+            at = end;
         }
-        Ok(read)
+        Ok(buf)
     }
 }
 

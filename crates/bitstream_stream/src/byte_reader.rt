@@ -6,6 +6,7 @@ ghost use Rattle.bitstream_order.specs.TakeBits.{seen};
 ghost use Rattle.bitstream_stream.specs.ByteReads.{ByteReads, given_bytes, skipped_bytes};
 
 use crate::byte_read::ByteRead;
+use crate::piece::PIECE;
 use bitstream_count::error::Error;
 use bitstream_number::number::Primitive;
 use bitstream_order::order::Endianness;
@@ -17,9 +18,6 @@ use std::io::{Seek, SeekFrom};
 use std::marker::PhantomData;
 
 mod ways;
-
-/// How many bytes are skipped at a time.
-const PIECE: usize = 256;
 
 /// Reads whole bytes from a stream, and holds none back.
 ///

@@ -3,6 +3,7 @@ ghost use Rattle.std.specs.Prelude.{◌≡◌};
 ghost use Rattle.bitstream_order.specs.Port.{fresh_port};
 
 use crate::byte_write::ByteWrite;
+use crate::piece::PIECE;
 use bitstream_count::error::Error;
 use bitstream_number::number::Primitive;
 use bitstream_order::order::Endianness;
@@ -11,9 +12,6 @@ use bitstream_order::target::Target;
 use std::marker::PhantomData;
 
 mod ways;
-
-/// How many zeros are written at a time.
-const PIECE: usize = 256;
 
 /// Writes whole bytes to a stream, and holds none back.
 ///

@@ -9,6 +9,7 @@ mod check;
 mod grow;
 pub mod laws;
 mod others;
+mod piece;
 pub mod read;
 pub mod reader;
 mod vbr;

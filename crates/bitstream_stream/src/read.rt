@@ -6,6 +6,7 @@ ghost use Rattle.bitstream_stream.specs.Reads.{BitSource, Reads, ReadsConst, Rea
 ghost use Rattle.bitstream_stream.specs.ReadTable.{bit_entry, unsigned_entry, signed_entry, const_entry, unary_entry, count_entry, align_entry, bytes_entry, skip_entry, is_full, vbr_entry, signed_vbr_entry};
 
 use crate::grow::grow;
+use crate::piece::GROWTH;
 use crate::width::count_bits;
 use crate::zigzag::unzigzag;
 use bitstream_count::count::{BitCount, Count, SignedCount};
@@ -274,7 +275,7 @@ pub trait BitRead {
         let _: u8 = self.read_unsigned_var(0)?;
         let mut at = 0;
         while at < bytes {
-            let end = at + 4096.min(bytes - at);
+            let end = at + GROWTH.min(bytes - at);
             let Ok(()) = grow(&mut buf, end) else {
                 self.fail();
                 return Err(Error::OutOfMemory);

@@ -7,6 +7,7 @@ ghost use Rattle.bitstream_order.specs.Port.{fetched_count};
 ghost use Rattle.bitstream_stream.specs.Reads.{Reads, ReadsConst};
 ghost use Rattle.bitstream_stream.specs.ReadTable.{bit_entry, unsigned_entry, signed_entry, const_entry, unary_entry, count_entry, align_entry, bytes_entry, skip_entry, is_full};
 
+use crate::piece::PIECE;
 use crate::read::BitRead;
 use crate::width::count_bits;
 use bitstream_count::count::{BitCount, Count, SignedCount};
@@ -23,9 +24,6 @@ use bitstream_order::unary::take_run;
 use std::marker::PhantomData;
 
 mod ways;
-
-/// How many bytes are moved at a time off a boundary of bytes, or skipped.
-const PIECE: usize = 1024;
 
 /// Reads bits from a stream of bytes. A byte is fetched only when a call needs a bit of it, so
 /// fewer than 8 bits are ever held back.

@@ -3,6 +3,7 @@ ghost use Rattle.std.specs.Prelude.{◌≡◌, ℕ, ◌+◌, ◌*◌, ◌<◌, �
 
 use crate::check::{check, check_signed};
 use crate::others::others;
+use crate::piece::PIECE;
 use crate::width::count_bits;
 use crate::write::BitWrite;
 use bitstream_count::count::{BitCount, Count, SignedCount};
@@ -17,9 +18,6 @@ use bitstream_order::target::Target;
 use std::marker::PhantomData;
 
 mod ways;
-
-/// How many bytes are moved at a time off a boundary of bytes, or are zeros.
-const PIECE: usize = 1024;
 
 /// Writes bits to a stream of bytes. A byte is sent as soon as it is full, so fewer than 8 bits
 /// wait in the writer. What waits when it is dropped is lost: align it first.

@@ -1,10 +1,14 @@
-use Rattle.std.proofs.Common.{◌≤◌, ◌-◌, length, Ok}
+use Rattle.std.proofs.Common.{◌≡◌, ◌-◌, ◌≤◌, length, Ok}
 use Rattle.bitstream_stream.specs.ByteReads.{ByteReadsGrowing, given_bytes}
 use Rattle.bitstream_stream.proofs.byte_read.ByteRead.read_to_vec.Given as goal
 
--- the bytes so far
-abbrev pub invariant-loop-read : goal.invariant-loop-read
-invariant-loop-read g l = ByteReadsGrowing g.Self.ByteRead.source (given_bytes (length l.read.items)) l.initial.self (Ok l.read.items) l.self × (length l.read.items ≤ l.bytes)
+-- the bytes of the buffer were read
+abbrev pub invariant-loop-at : goal.invariant-loop-at
+invariant-loop-at g l = record {
+  len : length l.buf.items ≡ l.at;
+  within : l.at ≤ l.bytes;
+  reads : ByteReadsGrowing g.Self.ByteRead.source (given_bytes l.at) l.initial.self (Ok l.buf.items) l.self;
+}
 
-abbrev pub decreases-loop-read : goal.decreases-loop-read
-decreases-loop-read g l = l.bytes - length l.read.items
+abbrev pub decreases-loop-at : goal.decreases-loop-at
+decreases-loop-at g l = l.bytes - l.at
