@@ -162,10 +162,6 @@ Packing-end K fields vs i old rest now end known =
 
 -- ---- a new writer of a stream
 
--- the first of the names
-pub heads : (n m : GName) (k l : List GName) → m ∷ l ≡ n ∷ k → m ≡ n
-heads n m k l e = cc
-
 length-packed : (o : Order) (fields : List Field) (vs : List FieldValue) → length (packed o fields vs 0) % 8 ≡ 0
 length-packed o fields vs =
     let w = write_run (field_writes o fields vs) 0 in

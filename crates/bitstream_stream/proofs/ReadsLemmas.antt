@@ -665,25 +665,26 @@ tails : (n m : GName) (k l : List GName) → m ∷ l ≡ n ∷ k → l ≡ k
 unfolding tail_of
 tails n m k l e = ap tail_of e
 
-heads : (n m : GName) (k l : List GName) → m ∷ l ≡ n ∷ k → m ≡ n
+-- the first of the references through which a stream is reached
+pub first_name : {m n : GName} {k l : List GName} → m ∷ l ≡ n ∷ k → m ≡ n
 unfolding head_of
-heads n m k l e = ap (head_of n) e
+first_name {n = n} e = ap (head_of n) e
 
 pub Reads-back : {R A : Type 0} {K : BitSource R} {grows : Bool} {e : ReadEntry A} {r : Result A Error} {s t : MutBor R} → ReadOutcome (lent_source K) grows e s r t → (t.ghost_name ≡ s.ghost_name) × ReadOutcome K grows e s.now r t.now
 unfolding named
 Reads-back {K = K} {s = s} {t = t} (stays_failed h) = (
-  heads s.ghost_name t.ghost_name (K.state s.now).reference_names (K.state t.now).reference_names (ap (λ (x : ReaderState). x.reference_names) h.same),
+  first_name {m = t.ghost_name} {n = s.ghost_name} {k = (K.state s.now).reference_names} {l = (K.state t.now).reference_names} (ap (λ (x : ReaderState). x.reference_names) h.same),
   stays_failed (record { failed = h.failed; answer = h.answer; same = same_behind s.ghost_name t.ghost_name (K.state s.now) (K.state t.now) h.same }),
 )
 Reads-back {K = K} {s = s} {t = t} (takes_front h) = (
-  heads s.ghost_name t.ghost_name (K.state s.now).reference_names (K.state t.now).reference_names h.reference_names,
+  first_name h.reference_names,
   takes_front (TakesFront-named _ _ (tails s.ghost_name t.ghost_name (K.state s.now).reference_names (K.state t.now).reference_names h.reference_names) h),
 )
 Reads-back {K = K} {s = s} {t = t} (meets_fault h) = (
-  heads s.ghost_name t.ghost_name (K.state s.now).reference_names (K.state t.now).reference_names h.reference_names,
+  first_name h.reference_names,
   meets_fault (ReadFault-named _ _ (tails s.ghost_name t.ghost_name (K.state s.now).reference_names (K.state t.now).reference_names h.reference_names) h),
 )
 Reads-back {K = K} {s = s} {t = t} (lacks_memory g h) = (
-  heads s.ghost_name t.ghost_name (K.state s.now).reference_names (K.state t.now).reference_names h.reference_names,
+  first_name h.reference_names,
   lacks_memory g (MemoryFault-named _ _ (tails s.ghost_name t.ghost_name (K.state s.now).reference_names (K.state t.now).reference_names h.reference_names) h),
 )

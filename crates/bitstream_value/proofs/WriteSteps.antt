@@ -22,6 +22,7 @@ use Rattle.bitstream_stream.proofs.WriterLemmas.{adds_bits}
 use Rattle.bitstream_stream.specs.Alignment.{to_boundary}
 use Rattle.bitstream_stream.specs.WriteTable.{align, signed}
 use Rattle.std.proofs.lemmas.List.{length-replicate}
+pub use Rattle.bitstream_stream.proofs.ReadsLemmas.{first_name}
 
 -- ---- what a function did that wrote
 
@@ -174,7 +175,3 @@ packed_stream held {refuses = refuses} reference_names {o = o} es {known = known
   whole = λ {xs} is. whole_bytes none (subst (AddsBits o known (write_run (es ++ align ∷ []) 0)) is (bytes_added held refuses reference_names o es known names a m b fresh h k));
   reached_as = names_kept held refuses reference_names o es known names a m b fresh h k;
 }
-
--- the first of the references through which a stream is reached
-pub first_name : {m n : GName} {k l : List GName} → m ∷ l ≡ n ∷ k → m ≡ n
-first_name {m = m} {n = n} e = let same : m ≡ n = cc in same
