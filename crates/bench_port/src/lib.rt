@@ -7,8 +7,12 @@ mod mix;
 mod reading;
 mod writing;
 
-use crate::reading::{read_bits, read_bytes, read_signed, read_unsigned, read_wide, skip_bits};
-use crate::writing::{write_bits, write_bytes, write_signed, write_unsigned, write_wide};
+use crate::reading::{
+    read_bits, read_bytes, read_signed, read_unary, read_unsigned, read_wide, skip_bits,
+};
+use crate::writing::{
+    write_bits, write_bytes, write_signed, write_unary, write_unsigned, write_wide,
+};
 use bitstream_io::{BE, Endianness, LE, Slice, Source};
 
 /// Reads unsigned numbers of up to 128 bits.
@@ -191,5 +195,42 @@ pub extern "C" fn bench_write_bytes(
         write_bytes::<BE>(skip, data, count, out)
     } else {
         write_bytes::<LE>(skip, data, count, out)
+    }
+}
+
+/// Reads numbers as runs from a slice's bytes.
+#[unsafe(no_mangle)]
+pub extern "C" fn bench_read_unary(order: u32, stop: u32, data: &[u8], count: u64) -> u64 {
+    if order == 0 {
+        read_unary::<_, BE>(stop, data, count)
+    } else {
+        read_unary::<_, LE>(stop, data, count)
+    }
+}
+
+/// Reads numbers as runs from a `Slice`.
+#[unsafe(no_mangle)]
+pub extern "C" fn bench_read_unary_slice(order: u32, stop: u32, data: &[u8], count: u64) -> u64 {
+    if order == 0 {
+        read_unary::<_, BE>(stop, Slice::new(data), count)
+    } else {
+        read_unary::<_, LE>(stop, Slice::new(data), count)
+    }
+}
+
+/// Writes numbers as runs.
+#[unsafe(no_mangle)]
+pub extern "C" fn bench_write_unary(
+    order: u32,
+    stop: u32,
+    limit: u32,
+    count: u64,
+    seed: u64,
+    out: &mut [u8],
+) -> u64 {
+    if order == 0 {
+        write_unary::<BE>(stop, limit, count, seed, out)
+    } else {
+        write_unary::<LE>(stop, limit, count, seed, out)
     }
 }

@@ -1,29 +1,12 @@
 //! The functions whose calls are not there yet. Each answers as a refused call does.
 
 #[unsafe(no_mangle)]
-pub extern "C" fn bench_read_unary(_order: u32, _stop: u32, _data: &[u8], _count: u64) -> u64 {
-    u64::MAX
-}
-
-#[unsafe(no_mangle)]
 pub extern "C" fn bench_read_vbr(_order: u32, _field: u32, _data: &[u8], _count: u64) -> u64 {
     u64::MAX
 }
 
 #[unsafe(no_mangle)]
 pub extern "C" fn bench_read_flac_header(_data: &[u8], _count: u64) -> u64 {
-    u64::MAX
-}
-
-#[unsafe(no_mangle)]
-pub extern "C" fn bench_write_unary(
-    _order: u32,
-    _stop: u32,
-    _limit: u32,
-    _count: u64,
-    _seed: u64,
-    _out: &mut [u8],
-) -> u64 {
     u64::MAX
 }
 

@@ -1,7 +1,7 @@
 //! Reading, of any source in either order.
 
 use crate::mix::mixed;
-use bitstream_io::{BitRead, BitReader, Endianness, Source};
+use bitstream_io::{BitRead, BitReader, Bits, Endianness, Source};
 
 /// Reads so many bits.
 pub(crate) fn read_bits<R: Source + Drop, E: Endianness>(source: R, count: u64) -> u64 {
@@ -71,6 +71,28 @@ pub(crate) fn read_signed<R: Source + Drop, E: Endianness>(
         match reader.read_signed_var::<i64>(width) {
             Ok(value) => {
                 sum = mixed(sum, value.cast_unsigned());
+            }
+            Err(_) => {
+                return u64::MAX;
+            }
+        }
+    }
+    sum
+}
+
+/// Reads so many numbers as runs that end with the stop bit.
+pub(crate) fn read_unary<R: Source + Drop, E: Endianness>(stop: u32, source: R, count: u64) -> u64 {
+    let mut reader = BitReader::<R, E>::new(source);
+    let mut sum = 0u64;
+    for _item in 0..count {
+        let answer = if stop == 0 {
+            reader.read_unary::<Bits<0>>()
+        } else {
+            reader.read_unary::<Bits<1>>()
+        };
+        match answer {
+            Ok(value) => {
+                sum = mixed(sum, u64::from(value));
             }
             Err(_) => {
                 return u64::MAX;

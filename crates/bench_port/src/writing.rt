@@ -1,7 +1,7 @@
 //! Writing, in either order.
 
 use crate::mix::{bytes_of, stepped};
-use bitstream_io::{BitWrite, BitWriter, Endianness};
+use bitstream_io::{BitWrite, BitWriter, Bits, Endianness};
 
 /// Writes so many bits. Returns the number of bytes written.
 pub(crate) fn write_bits<E: Endianness>(count: u64, seed: u64, out: &mut [u8]) -> u64 {
@@ -116,4 +116,38 @@ pub(crate) fn write_bytes<E: Endianness>(
     }
     let bits = count.saturating_mul(data.len() as u64).saturating_mul(8);
     bytes_of(bits.saturating_add(u64::from(skip)))
+}
+
+/// Writes so many numbers below a limit as runs that end with the stop bit. Returns the number of bytes
+/// written.
+pub(crate) fn write_unary<E: Endianness>(
+    stop: u32,
+    limit: u32,
+    count: u64,
+    seed: u64,
+    out: &mut [u8],
+) -> u64 {
+    if limit == 0 {
+        return u64::MAX;
+    }
+    let mut writer = BitWriter::<&mut [u8], E>::new(out);
+    let mut state = seed;
+    let mut bits = 0u64;
+    for _item in 0..count {
+        state = stepped(state);
+        let value = (state >> 32) as u32 % limit;
+        let answer = if stop == 0 {
+            writer.write_unary::<Bits<0>>(value)
+        } else {
+            writer.write_unary::<Bits<1>>(value)
+        };
+        if answer.is_err() {
+            return u64::MAX;
+        }
+        bits = bits.saturating_add(u64::from(value) + 1);
+    }
+    if writer.byte_align().is_err() {
+        return u64::MAX;
+    }
+    bytes_of(bits)
 }

@@ -10,6 +10,7 @@ pub use Rattle.bitstream_count.specs.Entry
 pub use Rattle.bitstream_count.specs.Kind
 pub use Rattle.bitstream_count.specs.Unary
 pub use Rattle.bitstream_order.specs.TakeBits
+pub use Rattle.bitstream_order.specs.TakeRun
 pub use Rattle.bitstream_order.specs.Fault
 pub use Rattle.bitstream_order.specs.Parts
 pub use Rattle.bitstream_order.specs.Pieces
