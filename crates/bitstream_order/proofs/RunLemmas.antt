@@ -9,7 +9,7 @@ use Rattle.std.proofs.lemmas.Bool.{cases_lt}
 use Rattle.std.proofs.lemmas.Bool.Decides.{eqb_tells}
 use Rattle.std.proofs.lemmas.List.{length-drop, length-take-le}
 use Rattle.bitstream_count.specs.Unary.{unary, run}
-use Rattle.bitstream_count.proofs.UnaryLemmas.{others-split, unary-split, take_others, take_unary}
+use Rattle.bitstream_count.proofs.UnaryLemmas.{run_le, others-split, unary-split, take_others, take_unary}
 use Rattle.bitstream_count.specs.declared.error.Error.{Error}
 use Rattle.bitstream_number.specs.Word.{Order, High, Low, digits, word, bits}
 use Rattle.bitstream_number.proofs.WordLemmas.{length-word, bits-append}
@@ -95,7 +95,7 @@ between_as o x w y v z old new same h = record {
 }
 
 -- a byte more
-pub between_more : (o : Order) (x w : List Bool) (b : ℕ) (old mid new : PortState) → TakesBetween o x old w [] mid → Fetched mid (b ∷ []) new → TakesBetween o x old w (word o 8 b) new
+between_more : (o : Order) (x w : List Bool) (b : ℕ) (old mid new : PortState) → TakesBetween o x old w [] mid → Fetched mid (b ∷ []) new → TakesBetween o x old w (word o 8 b) new
 between_more o x w b old mid new h k = record {
   bytes = h.bytes ++ b ∷ [];
   loses = Consumes-trans old.bytes mid.bytes new.bytes h.bytes (b ∷ []) h.loses k.loses;
@@ -114,8 +114,15 @@ held_bits : (o : Order) (byte left : ℕ) → left ≤ 8 → word o left (first_
 held_bits o byte left le = sym (first_bits o byte 8 left le)
 
 -- all of them
-pub held_byte : (o : Order) (byte : ℕ) → word o 8 byte ≡ word o 8 (first_part o byte 8 8)
+held_byte : (o : Order) (byte : ℕ) → word o 8 byte ≡ word o 8 (first_part o byte 8 8)
 held_byte o byte = sym (take_all 8 (word o 8 byte) (omega (arith, length-word o 8 byte))) ∙ first_bits o byte 8 8 (omega arith)
+
+-- a byte more, all of whose bits wait
+pub byte_waits : (o : Order) (x w : List Bool) (b : ℕ) (old mid new : PortState) → TakesBetween o x old w [] mid → Fetched mid (b ∷ []) new → TakesBetween o x old w (word o 8 (first_part o b 8 8)) new
+byte_waits o x w b old mid new h k = subst (λ y. TakesBetween o x old w y new) (held_byte o b) (between_more o x w b old mid new h k)
+
+pub run_of_byte : (o : Order) (stop : Bool) (b r : ℕ) → r ≡ run stop (word o 8 b) → r ≤ 8
+run_of_byte o stop b r is = omega (arith, is, run_le stop (word o 8 b), length-word o 8 b)
 
 -- those behind the first n
 rest_bits : (o : Order) (byte n r : ℕ) → ((k : ℕ) → n + k ≤ 8 → first_part o r 8 k ≡ piece o 8 byte n k) → (k : ℕ) → n + k ≤ 8 → take (n + k) (word o 8 byte) ≡ take n (word o 8 byte) ++ take k (word o 8 r)

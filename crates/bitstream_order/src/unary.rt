@@ -53,21 +53,24 @@ pub fn take_run<S: Source, E: Endianness>(
     ensures turns { OnOk result (turns.new.count
         ≡ turns.old.count + (fetched_count port.new - fetched_count port.old) + 1) }
 {
-    let mut byte = queue;
-    let mut left = queued;
-    let mut count = 0u32;
+    turns.add(1);
+    let first = E::run(queue, stop);
+    if first < queued {
+        let rest = E::rest(E::rest(queue, first), 1);
+        return Ok(Some((first, rest, queued - first - 1)));
+    }
+    let mut count = queued;
     loop {
+        let byte = fetch_byte(port)?;
         turns.add(1);
-        let run = E::run(byte, stop).min(left);
+        let run = E::run(byte, stop);
         let Some(more) = count.checked_add(run) else {
             return Ok(None);
         };
-        if run < left {
+        if run < 8 {
             let rest = E::rest(E::rest(byte, run), 1);
-            return Ok(Some((more, rest, left - run - 1)));
+            return Ok(Some((more, rest, 7 - run)));
         }
         count = more;
-        byte = fetch_byte(port)?;
-        left = 8;
     }
 }

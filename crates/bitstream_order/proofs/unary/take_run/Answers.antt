@@ -1,63 +1,70 @@
-use Rattle.std.proofs.Common.{rules, arith, ◌≡◌, ◌+◌, ◌^◌, ◌≤◌, not, refl, replicate, subst, ◌∙◌}
-use Rattle.bitstream_number.specs.Word.{word}
-use Rattle.bitstream_order.specs.Parts.{first_part}
+use Rattle.std.proofs.Common.{rules, arith, ◌≡◌, ◌+◌, ◌^◌, ◌≤◌, refl}
 use Rattle.bitstream_order.specs.Port.{port_state}
-use Rattle.bitstream_order.specs.TakeRun.{TakesBetween}
-use Rattle.bitstream_order.proofs.RunLemmas.{between_more, held_byte, all_others, run_ends, run_long, run_refused}
+use Rattle.bitstream_order.proofs.RunLemmas.{between_none, byte_waits, run_of_byte, all_others, run_ends, run_long, run_refused}
 use Rattle.bitstream_order.proofs.unary.take_run.Goals as goal
 
-pub returns-in_default-clause-takes : goal.returns-in_default-clause-takes
-returns-in_default-clause-takes g c =
-    let inv = c.loop-more.invariant in
-    let few = inv.few in
-    let run = c.run.ensures in
-    let least = c.min-run.ensures in
-    let long : 2 ^ 32 ≤ c.loop-more.count + c.min-run.result = omega (arith, c.in_default.ensures) in
-    run_long g.E.Endianness.order c.args.stop _ _ c.loop-more.count c.loop-more.byte c.loop-more.left c.min-run.result _ few (omega arith) (omega arith) inv.small long inv.takes
+pub returns-then-first-queued-clause-takes : goal.returns-then-first-queued-clause-takes
+returns-then-first-queued-clause-takes g c =
+    let o = g.E.Endianness.order in
+    let few = c.requires in
+    run_ends o c.args.stop _ _ 0 c.args.queue c.args.queued c.run-first.result c.run-first.result _ c.rest.result c.rest-rest.result _
+    (omega arith) c.run-first.ensures c.if-first-queued.true refl (omega arith) c.rest.ensures c.rest-rest.ensures (between_none o _ _)
 
-pub returns-then-run-left-clause-takes : goal.returns-then-run-left-clause-takes
-returns-then-run-left-clause-takes g c =
-    let inv = c.loop-more.invariant in
-    let run = c.run.ensures in
-    let least = c.min-run.ensures in
-    let less = c.if-run-left.true in
-    let is : c.min-run.result ≡ c.run.result = omega arith in
-    run_ends g.E.Endianness.order c.args.stop _ _ c.loop-more.count c.loop-more.byte c.loop-more.left c.min-run.result c.in-Some.more _ c.rest.result c.rest-rest.result _
-    inv.few (is ∙ run) less refl (search rules) c.rest.ensures c.rest-rest.ensures inv.takes
+pub loop-byte-init : goal.loop-byte-init
+loop-byte-init g c =
+    let o = g.E.Endianness.order in
+    let few = c.requires in
+    let run = c.run-first.ensures in
+    let none = c.if-first-queued.false in
+    let turn = c.add.ensures in
+    record {
+      small = omega arith;
+      takes = all_others o c.args.stop _ _ 0 c.args.queue c.args.queued c.args.queued _ (omega arith) (omega arith) (omega arith) (between_none o _ _);
+      turns = omega arith;
+      fetched = omega arith;
+    }
 
 pub returns-in_err-byte-clause-takes : goal.returns-in_err-byte-clause-takes
 returns-in_err-byte-clause-takes g c =
-    let inv = c.loop-more.invariant in
-    let run = c.run.ensures in
-    let least = c.min-run.ensures in
-    let more = c.if-run-left.false in
-    let sum : c.in-Some.more ≡ c.loop-more.count + c.min-run.result = search rules in
     run_refused _ g.E.Endianness.order c.args.stop _ _ _ _ c.from_residual.result c.from_residual.ensures.1 (record {
-      count = c.in-Some.more;
-      few = search rules;
-      mid = port_state g.S.Source.remaining g.S.Source.reference_names c.loop-more.port;
-      takes = all_others g.E.Endianness.order c.args.stop _ _ c.loop-more.count c.loop-more.byte c.loop-more.left c.in-Some.more _ inv.few (omega arith) (omega arith) inv.takes;
+      count = c.loop-byte.count;
+      few = c.loop-byte.invariant.small;
+      mid = port_state g.S.Source.remaining g.S.Source.reference_names c.loop-byte.port;
+      takes = c.loop-byte.invariant.takes;
       refused = c.in_err-byte.ensures;
     })
 
-pub loop-more-preserved : goal.loop-more-preserved
-loop-more-preserved g c =
+pub returns-in_default-clause-takes : goal.returns-in_default-clause-takes
+returns-in_default-clause-takes g c =
     let o = g.E.Endianness.order in
-    let inv = c.loop-more.invariant in
-    let run = c.run.ensures in
-    let least = c.min-run.ensures in
-    let more = c.if-run-left.false in
-    let sum : c.in-Some.more ≡ c.loop-more.count + c.min-run.result = search rules in
+    let inv = c.loop-byte.invariant in
+    let run = c.run-run.ensures in
+    let long : 2 ^ 32 ≤ c.loop-byte.count + c.run-run.result = omega (arith, c.in_default.ensures) in
+    run_long o c.args.stop _ _ c.loop-byte.count c.in_ok-byte.byte 8 c.run-run.result _ (omega arith) (run_of_byte o c.args.stop c.in_ok-byte.byte _ run) (omega arith) inv.small long
+    (byte_waits o _ _ c.in_ok-byte.byte _ _ _ inv.takes c.in_ok-byte.ensures)
+
+pub returns-then-run-lt8-clause-takes : goal.returns-then-run-lt8-clause-takes
+returns-then-run-lt8-clause-takes g c =
+    let o = g.E.Endianness.order in
+    let less = c.if-run-lt8.true in
+    run_ends o c.args.stop _ _ c.loop-byte.count c.in_ok-byte.byte 8 c.run-run.result c.in-Some.more _ c.rest-then-run-lt8.result c.rest-rest-then-run-lt8.result _
+    (omega arith) c.run-run.ensures less (omega arith) (search rules) c.rest-then-run-lt8.ensures c.rest-rest-then-run-lt8.ensures (byte_waits o _ _ c.in_ok-byte.byte _ _ _ c.loop-byte.invariant.takes c.in_ok-byte.ensures)
+
+pub loop-byte-preserved : goal.loop-byte-preserved
+loop-byte-preserved g c =
+    let o = g.E.Endianness.order in
+    let inv = c.loop-byte.invariant in
+    let run = c.run-run.ensures in
+    let most = run_of_byte o c.args.stop c.in_ok-byte.byte _ run in
+    let least = c.if-run-lt8.false in
+    let sum : c.in-Some.more ≡ c.loop-byte.count + c.run-run.result = search rules in
     let fetched = c.in_ok-byte.ensures.fetched in
     let turns = inv.turns in
     let before = inv.fetched in
-    let turn = c.add.ensures in
+    let turn = c.add-in-loop-byte.ensures in
     record {
       small = search rules;
-      few = omega arith;
-      takes = subst (λ w. TakesBetween o (word o c.args.queued (first_part o c.args.queue 8 c.args.queued)) (port_state g.S.Source.remaining g.S.Source.reference_names c.args.port.now) (replicate c.in-Some.more (not c.args.stop)) w (port_state g.S.Source.remaining g.S.Source.reference_names c.fetch_byte.new.port))
-          (held_byte o c.in_ok-byte.byte)
-          (between_more o _ _ c.in_ok-byte.byte _ _ _ (all_others o c.args.stop _ _ c.loop-more.count c.loop-more.byte c.loop-more.left c.in-Some.more _ inv.few (omega arith) (omega arith) inv.takes) c.in_ok-byte.ensures);
+      takes = all_others o c.args.stop _ _ c.loop-byte.count c.in_ok-byte.byte 8 c.in-Some.more _ (omega arith) (omega arith) (omega arith) (byte_waits o _ _ c.in_ok-byte.byte _ _ _ inv.takes c.in_ok-byte.ensures);
       turns = omega arith;
       fetched = omega arith;
     }

@@ -1,23 +1,22 @@
-use Rattle.std.proofs.Common.{◌≡◌, ◌+◌, ◌-◌, ◌^◌, ◌<◌, ◌≤◌, not, replicate}
+use Rattle.std.proofs.Common.{◌≡◌, ◌+◌, ◌-◌, ◌^◌, ◌<◌, ◌≤◌, [], not, replicate}
 use Rattle.bitstream_number.specs.Word.{word}
 use Rattle.bitstream_order.specs.Parts.{first_part}
 use Rattle.bitstream_order.specs.Port.{port_state, fetched_count}
 use Rattle.bitstream_order.specs.TakeRun.{TakesBetween}
 use Rattle.bitstream_order.proofs.unary.take_run.Given as goal
 
--- so many digits so far, none of which is the stop digit, and the first bits of a byte wait; each turn but this one fetched a byte
-abbrev pub invariant-loop-more : goal.invariant-loop-more
-invariant-loop-more g l =
+-- so many digits so far, none of which is the stop digit, and no bit waits; there was a turn for each byte fetched, and one before
+abbrev pub invariant-loop-byte : goal.invariant-loop-byte
+invariant-loop-byte g l =
     let o = g.E.Endianness.order in
     let first = port_state g.S.Source.remaining g.S.Source.reference_names l.fn.port in
     let now = port_state g.S.Source.remaining g.S.Source.reference_names l.port in
     record {
       small : l.count < 2 ^ 32;
-      few : l.left ≤ 8;
-      takes : TakesBetween o (word o l.queued (first_part o l.queue 8 l.queued)) first (replicate l.count (not l.stop)) (word o l.left (first_part o l.byte 8 l.left)) now;
-      turns : l.turns.count + fetched_count l.fn.port ≡ l.fn.turns.count + fetched_count l.port;
+      takes : TakesBetween o (word o l.queued (first_part o l.queue 8 l.queued)) first (replicate l.count (not l.stop)) [] now;
+      turns : l.turns.count + fetched_count l.fn.port ≡ l.fn.turns.count + fetched_count l.port + 1;
       fetched : fetched_count l.fn.port ≤ fetched_count l.port;
     }
 
-abbrev pub decreases-loop-more : goal.decreases-loop-more
-decreases-loop-more g l = (2 ^ 32 - l.count) + (8 - l.left)
+abbrev pub decreases-loop-byte : goal.decreases-loop-byte
+decreases-loop-byte g l = 2 ^ 32 - l.count
