@@ -4,6 +4,7 @@ pub mod BytesLemmas
 pub mod BytesWritten
 pub mod ConstLemmas
 pub mod EntryLemmas
+pub mod GroupLemmas
 pub mod LawLemmas
 pub mod ReaderLemmas
 pub mod ReadsLemmas
@@ -15,11 +16,10 @@ pub mod SliceLemmas
 pub mod TableLemmas
 pub mod UnaryReads
 pub mod UnaryWrites
+pub mod VbrReads
+pub mod VbrWrites
 pub mod WaysLemmas
 pub mod WriteLemmas
 pub mod WriteParts
 pub mod WriterLemmas
-pub mod VbrReads
-pub mod GroupLemmas
 pub mod ZigzagLemmas
-pub mod VbrWrites

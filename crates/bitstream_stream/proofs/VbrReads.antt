@@ -10,7 +10,7 @@ use Rattle.bitstream_number.specs.Word.{Order, number, zag}
 use Rattle.bitstream_number.proofs.Masks.{masked-is}
 use Rattle.bitstream_count.specs.declared.error.Error.{Error}
 use Rattle.bitstream_count.specs.declared.error.Error.TheVariants.{Failed, VariableWidthOverflow}
-use Rattle.bitstream_count.specs.Entry.{ReadEntry, Front, TooShort, Takes, longer, call, takes, chain, gives}
+use Rattle.bitstream_count.specs.Entry.{ReadEntry, Front, TooShort, Takes, front_then, longer, call, takes, chain, gives}
 use Rattle.bitstream_count.specs.Vbr.{before, below, groups_at}
 use Rattle.bitstream_count.proofs.VbrLemmas.{groups_at_step}
 use Rattle.bitstream_stream.specs.Reads.{BitSource, Reads, stays_failed, is_run_too_long}
@@ -246,6 +246,33 @@ module _ {R : Type 0} (K : BitSource R) (field size m : ℕ) (wide : 2 ≤ field
             let v : value < 2 ^ n = omega (arith, small, part) in
             subst (λ k. k < 2 ^ n) (sym joined) (or_lt n value placed v p)
       ]
+
+-- ---- a smaller limit
+
+below-limited : (limit most : ℕ) → limit ≤ most → (front : Front ℕ) → front_then (below most front) (λ n v. Takes 0 (number_below limit v)) ≡ below limit front
+below-limited limit most le TooShort = refl
+below-limited limit most le (Takes n (Err e)) = refl
+below-limited limit most le (Takes n (Ok v)) = elim (cases_lt v most) [
+  | inl less ↦ rw (lt-ltb v most less) (ap (λ k. Takes k (number_below limit v)) (add-zero n))
+  | inr past ↦ let above : limit ≤ v = omega arith in rw (le-ltb v most past, le-ltb v limit above) refl
+]
+
+limited : (o : Order) (field size limit most : ℕ) → limit ≤ most → Same (chain (vbr_entry o field size most) (λ v. answers (number_below limit v))) (vbr_entry o field size limit)
+unfolding chain vbr_entry
+limited o field size limit most le = record { reads = λ p bits. below-limited limit most le (groups_at (div_ceil size (field - 1)) o field bits); on_failed = refl }
+
+module _ {R : Type 0} {K : BitSource R} (o : Order) (field size limit most : ℕ) (le : limit ≤ most) {s t : R} where
+  pub limit-stops : (x : Error) → Reads K (vbr_entry o field size most) s (Err x) t → Reads K (vbr_entry o field size limit) s (Err x) t
+  limit-stops x h = Reads-same (limited o field size limit most le) (Reads-chain-err _ (λ v. answers (number_below limit v)) h)
+
+  limit-tells : (v : ℕ) → Reads K (vbr_entry o field size most) s (Ok v) t → Reads K (vbr_entry o field size limit) s (number_below limit v) t
+  limit-tells v h = Reads-same (limited o field size limit most le) (Reads-chain-ok _ (λ k. answers (number_below limit k)) h (Reads-answers (number_below limit v) t (short_number (ltb v limit) v)))
+
+  pub limit-holds : (v : ℕ) → v < limit → Reads K (vbr_entry o field size most) s (Ok v) t → Reads K (vbr_entry o field size limit) s (Ok v) t
+  limit-holds v less h = subst (λ r. Reads K (vbr_entry o field size limit) s r t) (cond-true _ _ _ (lt-ltb v limit less)) (limit-tells v h)
+
+  pub limit-passed : (v : ℕ) → limit ≤ v → Reads K (vbr_entry o field size most) s (Ok v) t → Reads K (vbr_entry o field size limit) s (Err VariableWidthOverflow) t
+  limit-passed v past h = subst (λ r. Reads K (vbr_entry o field size limit) s r t) (cond-false _ _ _ (le-ltb v limit past)) (limit-tells v h)
 
 -- ---- signed numbers
 

@@ -6,15 +6,16 @@ use Rattle.std.proofs.Math.Nat.{pow-le-pow_right}
 use Rattle.std.proofs.lemmas.Bool.{lt-ltb, le-ltb}
 use Rattle.std.proofs.lemmas.Nat.{pow-add}
 use Rattle.bitstream_count.specs.declared.error.Error.{Error}
-use Rattle.bitstream_count.specs.declared.error.Error.TheVariants.{NonZeroWidth}
+use Rattle.bitstream_count.specs.declared.error.Error.TheVariants.{NonZeroWidth, VariableWidthOverflow}
 use Rattle.bitstream_count.specs.Entry.{refuses, gives}
 use Rattle.bitstream_number.specs.Word.{Order}
-use Rattle.bitstream_stream.specs.ReadTable.{unsigned_entry}
+use Rattle.bitstream_stream.specs.ReadTable.{unsigned_entry, vbr_entry}
 use Rattle.bitstream_stream.specs.Reads.{BitSource, Reads}
 use Rattle.bitstream_stream.specs.Sink.{Sink, WritesAll, Writes}
 use Rattle.bitstream_stream.specs.WriteTable.{unsigned}
-use Rattle.bitstream_stream.proofs.ReadsLemmas.{Reads-chain-ok, Reads-gives, exit}
-use Rattle.bitstream_value.specs.NonZeros.{non_zero_entry, non_zero, if_any, option_entry}
+use Rattle.bitstream_stream.proofs.ReadsLemmas.{Reads-chain-ok, Reads-chain-err, Reads-gives, exit}
+use Rattle.bitstream_stream.proofs.VbrReads.{limit-stops, limit-holds, limit-passed}
+use Rattle.bitstream_value.specs.NonZeros.{non_zero_entry, non_zero, non_zero_vbr_entry, if_any, option_entry, option_vbr_entry}
 
 module _ {A : Type 0} (after : ℕ → A) where
   -- the value of a number, or none of 0
@@ -45,6 +46,30 @@ module _ {A : Type 0} (after : ℕ → A) {R : Type 0} {K : BitSource R} where
   pub option-takes_front : (o : Order) (size n v : ℕ) (x : Option A) {s t : R} → if_any after v ≡ x → Reads K (unsigned_entry o size n) s (Ok v) t → Reads K (option_entry after o size n) s (Ok x) t
   unfolding option_entry
   option-takes_front o size n v x {s = s} {t = t} is h = rw (← is) (Reads-chain-ok _ (λ k. gives (if_any after k)) h (Reads-gives (if_any after v) t))
+
+  -- ---- in groups
+
+  pub non_zero_vbr-stops : (o : Order) (field size : ℕ) {x : Error} {r : Result A Error} {s t : R} → IsErrAnd r (λ y. y ≡ x) → Reads K (vbr_entry o field size (2 ^ size)) s (Err x) t → Reads K (non_zero_vbr_entry after o field size) s r t
+  unfolding non_zero_vbr_entry
+  non_zero_vbr-stops o field size {x = x} {r = r} h k = exit (λ v. gives (after v)) r h (limit-stops o field size (2 ^ size - 1) (2 ^ size) (omega arith) x k)
+
+  pub non_zero_vbr-takes_front : (o : Order) (field size v : ℕ) (a : A) {s t : R} → v + 1 < 2 ^ size → after v ≡ a → Reads K (vbr_entry o field size (2 ^ size)) s (Ok v) t → Reads K (non_zero_vbr_entry after o field size) s (Ok a) t
+  unfolding non_zero_vbr_entry
+  non_zero_vbr-takes_front o field size v a {s = s} {t = t} less is h =
+      rw (← is) (Reads-chain-ok _ (λ k. gives (after k)) (limit-holds o field size (2 ^ size - 1) (2 ^ size) (omega arith) v (omega arith) h) (Reads-gives (after v) t))
+
+  -- the greatest number has none after it
+  pub non_zero_vbr-overflows : (o : Order) (field size v : ℕ) {s t : R} → v ≡ 2 ^ size - 1 → Reads K (vbr_entry o field size (2 ^ size)) s (Ok v) t → Reads K (non_zero_vbr_entry after o field size) s (Err VariableWidthOverflow) t
+  unfolding non_zero_vbr_entry
+  non_zero_vbr-overflows o field size v is h = Reads-chain-err _ (λ k. gives (after k)) (limit-passed o field size (2 ^ size - 1) (2 ^ size) (omega arith) v (omega arith) h)
+
+  pub option_vbr-stops : (o : Order) (field size : ℕ) {x : Error} {r : Result (Option A) Error} {s t : R} → IsErrAnd r (λ y. y ≡ x) → Reads K (vbr_entry o field size (2 ^ size)) s (Err x) t → Reads K (option_vbr_entry after o field size) s r t
+  unfolding option_vbr_entry
+  option_vbr-stops o field size {r = r} h k = exit (λ v. gives (if_any after v)) r h k
+
+  pub option_vbr-takes_front : (o : Order) (field size v : ℕ) (x : Option A) {s t : R} → if_any after v ≡ x → Reads K (vbr_entry o field size (2 ^ size)) s (Ok v) t → Reads K (option_vbr_entry after o field size) s (Ok x) t
+  unfolding option_vbr_entry
+  option_vbr-takes_front o field size v x {s = s} {t = t} is h = rw (← is) (Reads-chain-ok _ (λ k. gives (if_any after k)) h (Reads-gives (if_any after v) t))
 
 -- a number of fewer bits than the type has is not its greatest
 pub next_fits : (n size v : ℕ) → n < size → v < 2 ^ n → v + 1 < 2 ^ size

@@ -1,11 +1,11 @@
 -- Numbers that are not 0, and the numbers that stand for them.
 use Rattle.std.specs.Coded.{le_prop}
-use Rattle.std.specs.Prelude.{◌≡◌, ℕ, zero, suc, ◌-◌, ◌<◌, nat_lt, if◌then◌else◌, Option, Some, None, Err}
+use Rattle.std.specs.Prelude.{◌≡◌, ℕ, zero, suc, ◌-◌, ◌^◌, ◌<◌, nat_lt, if◌then◌else◌, Option, Some, None, Err}
 use Rattle.std.proofs.Common.{ap, subst}
 use Rattle.bitstream_count.specs.declared.error.Error.TheVariants.{NonZeroWidth}
 use Rattle.bitstream_count.specs.Entry.{ReadEntry, WriteEntry, chain, refuses, gives}
 use Rattle.bitstream_number.specs.Word.{Order}
-use Rattle.bitstream_stream.specs.ReadTable.{unsigned_entry}
+use Rattle.bitstream_stream.specs.ReadTable.{unsigned_entry, vbr_entry}
 use Rattle.bitstream_stream.specs.WriteTable.{unsigned}
 
 -- a number v that is not 0, of a type of `size` bits, stands as v - 1; `after` gives the value of v + 1
@@ -15,6 +15,10 @@ non_zero_entry after o size n =
 
 unfoldable pub non_zero : Order → ℕ → ℕ → ℕ → WriteEntry
 non_zero o size n v = if nat_lt n size then unsigned o size n (v - 1) else λ _. Err NonZeroWidth
+
+-- so in groups of `field` bits: the greatest number of the type has none after it
+unfoldable pub non_zero_vbr_entry : {A : Type 0} → (ℕ → A) → Order → ℕ → ℕ → ReadEntry A
+non_zero_vbr_entry after o field size = chain (vbr_entry o field size (2 ^ size - 1)) (λ v. gives (after v))
 
 -- 0 stands for none; `after` gives the value of v + 1
 abbrev pub if_any : {A : Type 0} → (ℕ → A) → ℕ → Option A
@@ -28,6 +32,9 @@ number_or_zero number (Some x) = number x
 
 unfoldable pub option_entry : {A : Type 0} → (ℕ → A) → Order → ℕ → ℕ → ReadEntry (Option A)
 option_entry after o size n = chain (unsigned_entry o size n) (λ v. gives (if_any after v))
+
+unfoldable pub option_vbr_entry : {A : Type 0} → (ℕ → A) → Order → ℕ → ℕ → ReadEntry (Option A)
+option_vbr_entry after o field size = chain (vbr_entry o field size (2 ^ size)) (λ v. gives (if_any after v))
 
 -- what is made of a number is the same for the same number
 pub made-same : {A : Type 0} (make : (k : ℕ) → 0 < k → A) (m n : ℕ) (p : 0 < m) (q : 0 < n) → m ≡ n → make m p ≡ make n q

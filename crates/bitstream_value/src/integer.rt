@@ -84,3 +84,41 @@ pub trait Integer: Sized {
         ensures writes { WritesAll W.sink (writes W.sink.order (C.number bits) self)
             writer.old result writer.new };
 }
+
+/// An integer type whose values are read and written in groups of bits too, as few as hold a value:
+/// the integers, arrays of such types, and numbers that are not 0 with the options of them.
+///
+/// A number that is not 0 stands as one less. An array is its items in order, as it is for
+/// [`Integer`]; any other value is one call.
+pub trait VBRInteger: Integer {
+    // What a value is in groups of so many bits, in either order of bits: read, and written.
+    ghost reads_vbr: { Order → ℕ → ReadEntry Self };
+
+    ghost writes_vbr: { Order → ℕ → Self → List WriteEntry };
+
+    // The sizes that a group may have.
+    ghost IsFieldSize: { ℕ → Type 0 };
+
+    /// Reads a value in groups of as many bits as F says, and returns it.
+    ///
+    /// # Errors
+    ///
+    /// `VariableWidthOverflow` where a number is too great for its type, or a group begins past its
+    /// bits: the groups up to the one that shows it are read then. Those of the reader's stream,
+    /// after which it has failed, and `Failed` from then on.
+    fn read_vbr<F: Width, R: BitRead>(reader: &mut R) -> Result<Self, Error>
+        requires { IsFieldSize F.BITS }
+        ensures reads { Reads R.source (reads_vbr R.source.order F.BITS)
+            reader.old result reader.new };
+
+    /// Writes a value in groups of as many bits as F says.
+    ///
+    /// # Errors
+    ///
+    /// Those of the writer's stream, after which it has failed, and `Failed` from then on.
+    /// `CounterOverflow` past its limit, where it has one.
+    fn write_vbr<F: Width, W: BitWrite>(self, writer: &mut W) -> Result<(), Error>
+        requires { IsFieldSize F.BITS }
+        ensures writes { WritesAll W.sink (writes_vbr W.sink.order F.BITS self)
+            writer.old result writer.new };
+}

@@ -2,13 +2,13 @@
 ghost use Rattle.bitstream_stream.specs.Reads.{Reads};
 
 use crate::huffman::FromBits;
-use crate::integer::Integer;
+use crate::integer::{Integer, VBRInteger};
 use bitstream_count::count::{BitCount, Count};
 use bitstream_count::error::Error;
 use bitstream_number::number::Width;
 use bitstream_stream::read::BitRead;
 
-/// Reads values of any [`Integer`] type. Each reader of bits does.
+/// Reads values of any [`Integer`] and [`VBRInteger`] type. Each reader of bits does.
 ///
 /// # Examples
 ///
@@ -52,6 +52,16 @@ pub trait BitReadExt: BitRead {
         ensures reads { Reads Self.source (I.reads Self.source.order (C.number bits))
             self.old result self.new };
 
+    /// Reads a value in groups of as many bits as F says, and returns it.
+    ///
+    /// # Errors
+    ///
+    /// As [`VBRInteger::read_vbr`].
+    fn read_vbr<F: Width, I: VBRInteger>(&mut self) -> Result<I, Error>
+        requires { I.IsFieldSize F.BITS }
+        ensures reads { Reads Self.source (I.reads_vbr Self.source.order F.BITS)
+            self.old result self.new };
+
     /// Reads one word of a prefix code, and returns the symbol for which it stands.
     ///
     /// # Errors
@@ -72,6 +82,10 @@ impl<R: BitRead> BitReadExt for R {
 
     fn read_counted<C: Count, I: Integer>(&mut self, bits: C) -> Result<I, Error> {
         I::read_var(self, bits)
+    }
+
+    fn read_vbr<F: Width, I: VBRInteger>(&mut self) -> Result<I, Error> {
+        I::read_vbr::<F, R>(self)
     }
 
     fn read_huffman<T: FromBits>(&mut self, code: &T) -> Result<T::Symbol, Error> {

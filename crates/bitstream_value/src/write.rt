@@ -3,13 +3,13 @@ ghost use Rattle.bitstream_stream.specs.Sink.{WritesAll};
 ghost use Rattle.bitstream_value.specs.Tree.{bit_by_bit};
 
 use crate::huffman::ToBits;
-use crate::integer::Integer;
+use crate::integer::{Integer, VBRInteger};
 use bitstream_count::count::{BitCount, Count};
 use bitstream_count::error::Error;
 use bitstream_number::number::Width;
 use bitstream_stream::write::BitWrite;
 
-/// Writes values of any [`Integer`] type. Each sink of bits does.
+/// Writes values of any [`Integer`] and [`VBRInteger`] type. Each sink of bits does.
 ///
 /// # Examples
 ///
@@ -51,6 +51,16 @@ pub trait BitWriteExt: BitWrite {
         ensures writes { WritesAll Self.sink (I.writes Self.sink.order (C.number bits) value)
             self.old result self.new };
 
+    /// Writes a value in groups of as many bits as F says.
+    ///
+    /// # Errors
+    ///
+    /// As [`VBRInteger::write_vbr`].
+    fn write_vbr<F: Width, I: VBRInteger>(&mut self, value: I) -> Result<(), Error>
+        requires { I.IsFieldSize F.BITS }
+        ensures writes { WritesAll Self.sink (I.writes_vbr Self.sink.order F.BITS value)
+            self.old result self.new };
+
     /// Writes the word of a symbol in a prefix code: nothing where it has none.
     ///
     /// # Errors
@@ -72,6 +82,10 @@ impl<W: BitWrite> BitWriteExt for W {
 
     fn write_counted<C: Count, I: Integer>(&mut self, bits: C, value: I) -> Result<(), Error> {
         value.write_var(self, bits)
+    }
+
+    fn write_vbr<F: Width, I: VBRInteger>(&mut self, value: I) -> Result<(), Error> {
+        value.write_vbr::<F, W>(self)
     }
 
     fn write_huffman<T: ToBits>(&mut self, code: &T, symbol: T::Symbol) -> Result<(), Error> {

@@ -2,9 +2,10 @@
 ghost use Rattle.std.specs.List.{flat_map};
 ghost use Rattle.bitstream_value.specs.Items.{items_entry};
 
-use crate::integer::Integer;
+use crate::integer::{Integer, VBRInteger};
 use bitstream_count::count::Count;
 use bitstream_count::error::Error;
+use bitstream_number::number::Width;
 use bitstream_stream::read::BitRead;
 use bitstream_stream::write::BitWrite;
 
@@ -26,6 +27,29 @@ impl<I: Integer + Copy + Default, const SIZE: usize> Integer for [I; SIZE] {
     fn write_var<C: Count, W: BitWrite>(self, writer: &mut W, bits: C) -> Result<(), Error> {
         for item in self.iter() {
             (*item).write_var(writer, bits)?;
+        }
+        Ok(())
+    }
+}
+
+impl<I: VBRInteger + Copy + Default, const SIZE: usize> VBRInteger for [I; SIZE] {
+    ghost reads_vbr = { λ o field. items_entry (I.reads_vbr o field) SIZE };
+
+    ghost writes_vbr = { λ o field items. flat_map (I.writes_vbr o field) items };
+
+    ghost IsFieldSize = { I.IsFieldSize };
+
+    fn read_vbr<F: Width, R: BitRead>(reader: &mut R) -> Result<[I; SIZE], Error> {
+        let mut items = [I::default(); SIZE];
+        for i in 0..SIZE {
+            items[i] = I::read_vbr::<F, R>(reader)?;
+        }
+        Ok(items)
+    }
+
+    fn write_vbr<F: Width, W: BitWrite>(self, writer: &mut W) -> Result<(), Error> {
+        for item in self.iter() {
+            (*item).write_vbr::<F, W>(writer)?;
         }
         Ok(())
     }

@@ -1,18 +1,18 @@
 //! Numbers that are not 0, and options of them.
-ghost use Rattle.std.specs.Prelude.{◌≡◌, ℕ, ◌+◌, ◌^◌, ◌<◌, ◌≤◌, [], ◌∷◌, MatchOption};
+ghost use Rattle.std.specs.Prelude.{◌≡◌, ℕ, ◌+◌, ◌-◌, ◌^◌, ◌<◌, ◌≤◌, [], ◌∷◌, MatchOption};
 ghost use Rattle.std.specs.Int.NonZero.{non_zero_u8_get, non_zero_u16_get, non_zero_u32_get, non_zero_u64_get, non_zero_u128_get};
 ghost use Rattle.std.proofs.Common.{sym, arith};
 ghost use Rattle.bitstream_stream.specs.Reads.{Reads};
 ghost use Rattle.bitstream_stream.specs.Sink.{WritesAll};
-ghost use Rattle.bitstream_stream.specs.WriteTable.{unsigned};
-ghost use Rattle.bitstream_value.specs.NonZeros.{non_zero_entry, non_zero, option_entry, number_or_zero, made-same};
+ghost use Rattle.bitstream_stream.specs.WriteTable.{unsigned, vbr};
+ghost use Rattle.bitstream_value.specs.NonZeros.{non_zero_entry, non_zero, non_zero_vbr_entry, option_entry, option_vbr_entry, number_or_zero, made-same};
 
-use crate::integer::Integer;
-use crate::integer::unsigned::write_number;
+use crate::integer::unsigned::{write_number, write_number_vbr};
+use crate::integer::{Integer, VBRInteger};
 use crate::refuse::{refuse_read, refuse_write};
 use bitstream_count::count::Count;
 use bitstream_count::error::Error;
-use bitstream_number::number::{Numeric, UnsignedInteger};
+use bitstream_number::number::{Numeric, UnsignedInteger, Width};
 use bitstream_stream::read::BitRead;
 use bitstream_stream::write::BitWrite;
 use std::num::NonZero;
@@ -81,6 +81,45 @@ fn write_non_zero<N: NonZeroInteger, C: Count, W: BitWrite>(
     }
 }
 
+/// Reads a number that is not 0 in groups, which stands as one less.
+fn read_non_zero_vbr<F: Width, N: NonZeroInteger, R: BitRead>(reader: &mut R) -> Result<N, Error>
+    requires some { 2 ≤ F.BITS }
+    requires within { F.BITS < N.Base.BITS_SIZE }
+    ensures reads { Reads R.source
+        (non_zero_vbr_entry N.after R.source.order F.BITS N.Base.BITS_SIZE)
+        reader.old result reader.new }
+{
+    let base = reader.read_unsigned_vbr::<F, N::Base>()?;
+    if base == N::Base::ALL {
+        return Err(Error::VariableWidthOverflow);
+    }
+    base.known();
+    Ok(N::next(base))
+}
+
+/// Writes a number that is not 0 in groups, as one less.
+fn write_non_zero_vbr<F: Width, N: NonZeroInteger, W: BitWrite>(
+    value: N,
+    writer: &mut W,
+) -> Result<(), Error>
+    requires some { 2 ≤ F.BITS }
+    requires within { F.BITS < N.Base.BITS_SIZE }
+    ensures writes { WritesAll W.sink (vbr W.sink.order F.BITS (N.number value - 1) ∷ [])
+        writer.old result writer.new }
+{
+    write_number_vbr::<F, N::Base, W>(value.base() - N::Base::ONE, writer)
+}
+
+/// Returns the number of a value, or 0 for none.
+fn base_or_zero<N: NonZeroInteger>(value: Option<N>) -> N::Base
+    ensures { N.Base.value result ≡ number_or_zero N.number value }
+{
+    match value {
+        Some(value) => value.base(),
+        None => N::Base::ZERO,
+    }
+}
+
 impl<N: NonZeroInteger> Integer for Option<N> {
     ghost reads = { λ o n. option_entry N.after o N.Base.BITS_SIZE n };
 
@@ -94,11 +133,24 @@ impl<N: NonZeroInteger> Integer for Option<N> {
     }
 
     fn write_var<C: Count, W: BitWrite>(self, writer: &mut W, bits: C) -> Result<(), Error> {
-        let base = match self {
-            Some(value) => value.base(),
-            None => N::Base::ZERO,
-        };
-        write_number(base, writer, bits)
+        write_number(base_or_zero(self), writer, bits)
+    }
+}
+
+impl<N: NonZeroInteger> VBRInteger for Option<N> {
+    ghost reads_vbr = { λ o field. option_vbr_entry N.after o field N.Base.BITS_SIZE };
+
+    ghost writes_vbr = { λ o field x. vbr o field (number_or_zero N.number x) ∷ [] };
+
+    ghost IsFieldSize = { λ field. (2 ≤ field) × (field < N.Base.BITS_SIZE) };
+
+    fn read_vbr<F: Width, R: BitRead>(reader: &mut R) -> Result<Option<N>, Error> {
+        let base = reader.read_unsigned_vbr::<F, N::Base>()?;
+        Ok(N::of(base))
+    }
+
+    fn write_vbr<F: Width, W: BitWrite>(self, writer: &mut W) -> Result<(), Error> {
+        write_number_vbr::<F, N::Base, W>(base_or_zero(self), writer)
     }
 }
 
@@ -143,6 +195,23 @@ impl Integer for NonZero<u8> {
     }
 }
 
+impl VBRInteger for NonZero<u8> {
+    ghost reads_vbr = { λ o field.
+        non_zero_vbr_entry ⟦<NonZero<u8> as NonZeroInteger>⟧.after o field 8 };
+
+    ghost writes_vbr = { λ o field x. vbr o field (non_zero_u8_get x - 1) ∷ [] };
+
+    ghost IsFieldSize = { λ field. (2 ≤ field) × (field < 8) };
+
+    fn read_vbr<F: Width, R: BitRead>(reader: &mut R) -> Result<NonZero<u8>, Error> {
+        read_non_zero_vbr::<F, NonZero<u8>, R>(reader)
+    }
+
+    fn write_vbr<F: Width, W: BitWrite>(self, writer: &mut W) -> Result<(), Error> {
+        write_non_zero_vbr::<F, NonZero<u8>, W>(self, writer)
+    }
+}
+
 impl NonZeroInteger for NonZero<u16> {
     type Base = u16;
 
@@ -181,6 +250,23 @@ impl Integer for NonZero<u16> {
 
     fn write_var<C: Count, W: BitWrite>(self, writer: &mut W, bits: C) -> Result<(), Error> {
         write_non_zero(self, writer, bits)
+    }
+}
+
+impl VBRInteger for NonZero<u16> {
+    ghost reads_vbr = { λ o field.
+        non_zero_vbr_entry ⟦<NonZero<u16> as NonZeroInteger>⟧.after o field 16 };
+
+    ghost writes_vbr = { λ o field x. vbr o field (non_zero_u16_get x - 1) ∷ [] };
+
+    ghost IsFieldSize = { λ field. (2 ≤ field) × (field < 16) };
+
+    fn read_vbr<F: Width, R: BitRead>(reader: &mut R) -> Result<NonZero<u16>, Error> {
+        read_non_zero_vbr::<F, NonZero<u16>, R>(reader)
+    }
+
+    fn write_vbr<F: Width, W: BitWrite>(self, writer: &mut W) -> Result<(), Error> {
+        write_non_zero_vbr::<F, NonZero<u16>, W>(self, writer)
     }
 }
 
@@ -225,6 +311,23 @@ impl Integer for NonZero<u32> {
     }
 }
 
+impl VBRInteger for NonZero<u32> {
+    ghost reads_vbr = { λ o field.
+        non_zero_vbr_entry ⟦<NonZero<u32> as NonZeroInteger>⟧.after o field 32 };
+
+    ghost writes_vbr = { λ o field x. vbr o field (non_zero_u32_get x - 1) ∷ [] };
+
+    ghost IsFieldSize = { λ field. (2 ≤ field) × (field < 32) };
+
+    fn read_vbr<F: Width, R: BitRead>(reader: &mut R) -> Result<NonZero<u32>, Error> {
+        read_non_zero_vbr::<F, NonZero<u32>, R>(reader)
+    }
+
+    fn write_vbr<F: Width, W: BitWrite>(self, writer: &mut W) -> Result<(), Error> {
+        write_non_zero_vbr::<F, NonZero<u32>, W>(self, writer)
+    }
+}
+
 impl NonZeroInteger for NonZero<u64> {
     type Base = u64;
 
@@ -266,6 +369,23 @@ impl Integer for NonZero<u64> {
     }
 }
 
+impl VBRInteger for NonZero<u64> {
+    ghost reads_vbr = { λ o field.
+        non_zero_vbr_entry ⟦<NonZero<u64> as NonZeroInteger>⟧.after o field 64 };
+
+    ghost writes_vbr = { λ o field x. vbr o field (non_zero_u64_get x - 1) ∷ [] };
+
+    ghost IsFieldSize = { λ field. (2 ≤ field) × (field < 64) };
+
+    fn read_vbr<F: Width, R: BitRead>(reader: &mut R) -> Result<NonZero<u64>, Error> {
+        read_non_zero_vbr::<F, NonZero<u64>, R>(reader)
+    }
+
+    fn write_vbr<F: Width, W: BitWrite>(self, writer: &mut W) -> Result<(), Error> {
+        write_non_zero_vbr::<F, NonZero<u64>, W>(self, writer)
+    }
+}
+
 impl NonZeroInteger for NonZero<u128> {
     type Base = u128;
 
@@ -304,5 +424,22 @@ impl Integer for NonZero<u128> {
 
     fn write_var<C: Count, W: BitWrite>(self, writer: &mut W, bits: C) -> Result<(), Error> {
         write_non_zero(self, writer, bits)
+    }
+}
+
+impl VBRInteger for NonZero<u128> {
+    ghost reads_vbr = { λ o field.
+        non_zero_vbr_entry ⟦<NonZero<u128> as NonZeroInteger>⟧.after o field 128 };
+
+    ghost writes_vbr = { λ o field x. vbr o field (non_zero_u128_get x - 1) ∷ [] };
+
+    ghost IsFieldSize = { λ field. (2 ≤ field) × (field < 128) };
+
+    fn read_vbr<F: Width, R: BitRead>(reader: &mut R) -> Result<NonZero<u128>, Error> {
+        read_non_zero_vbr::<F, NonZero<u128>, R>(reader)
+    }
+
+    fn write_vbr<F: Width, W: BitWrite>(self, writer: &mut W) -> Result<(), Error> {
+        write_non_zero_vbr::<F, NonZero<u128>, W>(self, writer)
     }
 }

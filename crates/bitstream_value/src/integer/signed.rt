@@ -1,13 +1,13 @@
 //! Signed integers.
-ghost use Rattle.std.specs.Prelude.{[], ◌∷◌, ◌≤◌};
-ghost use Rattle.bitstream_stream.specs.ReadTable.{signed_entry};
+ghost use Rattle.std.specs.Prelude.{[], ◌∷◌, ◌<◌, ◌≤◌};
+ghost use Rattle.bitstream_stream.specs.ReadTable.{signed_entry, signed_vbr_entry};
 ghost use Rattle.bitstream_stream.specs.Sink.{WritesAll};
-ghost use Rattle.bitstream_stream.specs.WriteTable.{signed};
+ghost use Rattle.bitstream_stream.specs.WriteTable.{signed, signed_vbr};
 
-use crate::integer::Integer;
+use crate::integer::{Integer, VBRInteger};
 use bitstream_count::count::Count;
 use bitstream_count::error::Error;
-use bitstream_number::number::SignedInteger;
+use bitstream_number::number::{SignedInteger, Width};
 use bitstream_stream::read::BitRead;
 use bitstream_stream::write::BitWrite;
 
@@ -24,6 +24,19 @@ fn write_signed<S: SignedInteger, C: Count, W: BitWrite>(
     writer.write_signed_var(bits.bits(), number)
 }
 
+/// Writes a signed number in groups of as many bits as F says, by one call.
+fn write_signed_vbr<F: Width, S: SignedInteger, W: BitWrite>(
+    number: S,
+    writer: &mut W,
+) -> Result<(), Error>
+    requires some { 2 ≤ F.BITS }
+    requires within { F.BITS < S.BITS_SIZE }
+    ensures writes { WritesAll W.sink (signed_vbr W.sink.order F.BITS (S.integer number) ∷ [])
+        writer.old result writer.new }
+{
+    writer.write_signed_vbr::<F, S>(number)
+}
+
 impl Integer for i8 {
     ghost reads = { λ o n. signed_entry o 8 n };
 
@@ -37,6 +50,22 @@ impl Integer for i8 {
 
     fn write_var<C: Count, W: BitWrite>(self, writer: &mut W, bits: C) -> Result<(), Error> {
         write_signed(self, writer, bits)
+    }
+}
+
+impl VBRInteger for i8 {
+    ghost reads_vbr = { λ o field. signed_vbr_entry o field 8 };
+
+    ghost writes_vbr = { λ o field x. signed_vbr o field x ∷ [] };
+
+    ghost IsFieldSize = { λ field. (2 ≤ field) × (field < 8) };
+
+    fn read_vbr<F: Width, R: BitRead>(reader: &mut R) -> Result<i8, Error> {
+        reader.read_signed_vbr::<F, i8>()
+    }
+
+    fn write_vbr<F: Width, W: BitWrite>(self, writer: &mut W) -> Result<(), Error> {
+        write_signed_vbr::<F, i8, W>(self, writer)
     }
 }
 
@@ -56,6 +85,22 @@ impl Integer for i16 {
     }
 }
 
+impl VBRInteger for i16 {
+    ghost reads_vbr = { λ o field. signed_vbr_entry o field 16 };
+
+    ghost writes_vbr = { λ o field x. signed_vbr o field x ∷ [] };
+
+    ghost IsFieldSize = { λ field. (2 ≤ field) × (field < 16) };
+
+    fn read_vbr<F: Width, R: BitRead>(reader: &mut R) -> Result<i16, Error> {
+        reader.read_signed_vbr::<F, i16>()
+    }
+
+    fn write_vbr<F: Width, W: BitWrite>(self, writer: &mut W) -> Result<(), Error> {
+        write_signed_vbr::<F, i16, W>(self, writer)
+    }
+}
+
 impl Integer for i32 {
     ghost reads = { λ o n. signed_entry o 32 n };
 
@@ -69,6 +114,22 @@ impl Integer for i32 {
 
     fn write_var<C: Count, W: BitWrite>(self, writer: &mut W, bits: C) -> Result<(), Error> {
         write_signed(self, writer, bits)
+    }
+}
+
+impl VBRInteger for i32 {
+    ghost reads_vbr = { λ o field. signed_vbr_entry o field 32 };
+
+    ghost writes_vbr = { λ o field x. signed_vbr o field x ∷ [] };
+
+    ghost IsFieldSize = { λ field. (2 ≤ field) × (field < 32) };
+
+    fn read_vbr<F: Width, R: BitRead>(reader: &mut R) -> Result<i32, Error> {
+        reader.read_signed_vbr::<F, i32>()
+    }
+
+    fn write_vbr<F: Width, W: BitWrite>(self, writer: &mut W) -> Result<(), Error> {
+        write_signed_vbr::<F, i32, W>(self, writer)
     }
 }
 
@@ -88,6 +149,22 @@ impl Integer for i64 {
     }
 }
 
+impl VBRInteger for i64 {
+    ghost reads_vbr = { λ o field. signed_vbr_entry o field 64 };
+
+    ghost writes_vbr = { λ o field x. signed_vbr o field x ∷ [] };
+
+    ghost IsFieldSize = { λ field. (2 ≤ field) × (field < 64) };
+
+    fn read_vbr<F: Width, R: BitRead>(reader: &mut R) -> Result<i64, Error> {
+        reader.read_signed_vbr::<F, i64>()
+    }
+
+    fn write_vbr<F: Width, W: BitWrite>(self, writer: &mut W) -> Result<(), Error> {
+        write_signed_vbr::<F, i64, W>(self, writer)
+    }
+}
+
 impl Integer for i128 {
     ghost reads = { λ o n. signed_entry o 128 n };
 
@@ -101,5 +178,21 @@ impl Integer for i128 {
 
     fn write_var<C: Count, W: BitWrite>(self, writer: &mut W, bits: C) -> Result<(), Error> {
         write_signed(self, writer, bits)
+    }
+}
+
+impl VBRInteger for i128 {
+    ghost reads_vbr = { λ o field. signed_vbr_entry o field 128 };
+
+    ghost writes_vbr = { λ o field x. signed_vbr o field x ∷ [] };
+
+    ghost IsFieldSize = { λ field. (2 ≤ field) × (field < 128) };
+
+    fn read_vbr<F: Width, R: BitRead>(reader: &mut R) -> Result<i128, Error> {
+        reader.read_signed_vbr::<F, i128>()
+    }
+
+    fn write_vbr<F: Width, W: BitWrite>(self, writer: &mut W) -> Result<(), Error> {
+        write_signed_vbr::<F, i128, W>(self, writer)
     }
 }

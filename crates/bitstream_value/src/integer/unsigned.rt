@@ -1,13 +1,13 @@
 //! Unsigned integers.
-ghost use Rattle.std.specs.Prelude.{[], ◌∷◌, ◌≤◌};
-ghost use Rattle.bitstream_stream.specs.ReadTable.{unsigned_entry};
+ghost use Rattle.std.specs.Prelude.{[], ◌∷◌, ◌^◌, ◌<◌, ◌≤◌};
+ghost use Rattle.bitstream_stream.specs.ReadTable.{unsigned_entry, vbr_entry};
 ghost use Rattle.bitstream_stream.specs.Sink.{WritesAll};
-ghost use Rattle.bitstream_stream.specs.WriteTable.{unsigned};
+ghost use Rattle.bitstream_stream.specs.WriteTable.{unsigned, vbr};
 
-use crate::integer::Integer;
+use crate::integer::{Integer, VBRInteger};
 use bitstream_count::count::Count;
 use bitstream_count::error::Error;
-use bitstream_number::number::UnsignedInteger;
+use bitstream_number::number::{UnsignedInteger, Width};
 use bitstream_stream::read::BitRead;
 use bitstream_stream::write::BitWrite;
 
@@ -24,6 +24,19 @@ pub(crate) fn write_number<U: UnsignedInteger, C: Count, W: BitWrite>(
     writer.write_unsigned_counted(bits, number)
 }
 
+/// Writes a number in groups of as many bits as F says, by one call.
+pub(crate) fn write_number_vbr<F: Width, U: UnsignedInteger, W: BitWrite>(
+    number: U,
+    writer: &mut W,
+) -> Result<(), Error>
+    requires some { 2 ≤ F.BITS }
+    requires within { F.BITS < U.BITS_SIZE }
+    ensures writes { WritesAll W.sink (vbr W.sink.order F.BITS (U.value number) ∷ [])
+        writer.old result writer.new }
+{
+    writer.write_unsigned_vbr::<F, U>(number)
+}
+
 impl Integer for u8 {
     ghost reads = { λ o n. unsigned_entry o 8 n };
 
@@ -37,6 +50,22 @@ impl Integer for u8 {
 
     fn write_var<C: Count, W: BitWrite>(self, writer: &mut W, bits: C) -> Result<(), Error> {
         write_number(self, writer, bits)
+    }
+}
+
+impl VBRInteger for u8 {
+    ghost reads_vbr = { λ o field. vbr_entry o field 8 (2 ^ 8) };
+
+    ghost writes_vbr = { λ o field v. vbr o field v ∷ [] };
+
+    ghost IsFieldSize = { λ field. (2 ≤ field) × (field < 8) };
+
+    fn read_vbr<F: Width, R: BitRead>(reader: &mut R) -> Result<u8, Error> {
+        reader.read_unsigned_vbr::<F, u8>()
+    }
+
+    fn write_vbr<F: Width, W: BitWrite>(self, writer: &mut W) -> Result<(), Error> {
+        write_number_vbr::<F, u8, W>(self, writer)
     }
 }
 
@@ -56,6 +85,22 @@ impl Integer for u16 {
     }
 }
 
+impl VBRInteger for u16 {
+    ghost reads_vbr = { λ o field. vbr_entry o field 16 (2 ^ 16) };
+
+    ghost writes_vbr = { λ o field v. vbr o field v ∷ [] };
+
+    ghost IsFieldSize = { λ field. (2 ≤ field) × (field < 16) };
+
+    fn read_vbr<F: Width, R: BitRead>(reader: &mut R) -> Result<u16, Error> {
+        reader.read_unsigned_vbr::<F, u16>()
+    }
+
+    fn write_vbr<F: Width, W: BitWrite>(self, writer: &mut W) -> Result<(), Error> {
+        write_number_vbr::<F, u16, W>(self, writer)
+    }
+}
+
 impl Integer for u32 {
     ghost reads = { λ o n. unsigned_entry o 32 n };
 
@@ -69,6 +114,22 @@ impl Integer for u32 {
 
     fn write_var<C: Count, W: BitWrite>(self, writer: &mut W, bits: C) -> Result<(), Error> {
         write_number(self, writer, bits)
+    }
+}
+
+impl VBRInteger for u32 {
+    ghost reads_vbr = { λ o field. vbr_entry o field 32 (2 ^ 32) };
+
+    ghost writes_vbr = { λ o field v. vbr o field v ∷ [] };
+
+    ghost IsFieldSize = { λ field. (2 ≤ field) × (field < 32) };
+
+    fn read_vbr<F: Width, R: BitRead>(reader: &mut R) -> Result<u32, Error> {
+        reader.read_unsigned_vbr::<F, u32>()
+    }
+
+    fn write_vbr<F: Width, W: BitWrite>(self, writer: &mut W) -> Result<(), Error> {
+        write_number_vbr::<F, u32, W>(self, writer)
     }
 }
 
@@ -88,6 +149,22 @@ impl Integer for u64 {
     }
 }
 
+impl VBRInteger for u64 {
+    ghost reads_vbr = { λ o field. vbr_entry o field 64 (2 ^ 64) };
+
+    ghost writes_vbr = { λ o field v. vbr o field v ∷ [] };
+
+    ghost IsFieldSize = { λ field. (2 ≤ field) × (field < 64) };
+
+    fn read_vbr<F: Width, R: BitRead>(reader: &mut R) -> Result<u64, Error> {
+        reader.read_unsigned_vbr::<F, u64>()
+    }
+
+    fn write_vbr<F: Width, W: BitWrite>(self, writer: &mut W) -> Result<(), Error> {
+        write_number_vbr::<F, u64, W>(self, writer)
+    }
+}
+
 impl Integer for u128 {
     ghost reads = { λ o n. unsigned_entry o 128 n };
 
@@ -101,5 +178,21 @@ impl Integer for u128 {
 
     fn write_var<C: Count, W: BitWrite>(self, writer: &mut W, bits: C) -> Result<(), Error> {
         write_number(self, writer, bits)
+    }
+}
+
+impl VBRInteger for u128 {
+    ghost reads_vbr = { λ o field. vbr_entry o field 128 (2 ^ 128) };
+
+    ghost writes_vbr = { λ o field v. vbr o field v ∷ [] };
+
+    ghost IsFieldSize = { λ field. (2 ≤ field) × (field < 128) };
+
+    fn read_vbr<F: Width, R: BitRead>(reader: &mut R) -> Result<u128, Error> {
+        reader.read_unsigned_vbr::<F, u128>()
+    }
+
+    fn write_vbr<F: Width, W: BitWrite>(self, writer: &mut W) -> Result<(), Error> {
+        write_number_vbr::<F, u128, W>(self, writer)
     }
 }
