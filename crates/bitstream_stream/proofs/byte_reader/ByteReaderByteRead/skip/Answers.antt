@@ -12,7 +12,7 @@ returns-in_err-read_bytes g c =
     let k = c.loop-left.invariant.0 in
     let is = c.loop-left.invariant.1 in
     let piece = c.min-piece.result in
-    let few : piece ≤ 256 = search rules in
+    let few : piece ≤ 1024 = search rules in
     let within : piece ≤ c.loop-left.left = search rules in
     let size : length (take piece c.loop-left.skipped) ≡ piece = length-take-le piece c.loop-left.skipped (search rules) in
     record {
@@ -26,7 +26,7 @@ loop-left-preserved g c =
     let k = c.loop-left.invariant.0 in
     let is = c.loop-left.invariant.1 in
     let piece = c.min-piece.result in
-    let few : piece ≤ 256 = search rules in
+    let few : piece ≤ 1024 = search rules in
     let within : piece ≤ c.loop-left.left = search rules in
     let size : length (take piece c.loop-left.skipped) ≡ piece = length-take-le piece c.loop-left.skipped (search rules) in (
       k + length (take piece c.loop-left.skipped),

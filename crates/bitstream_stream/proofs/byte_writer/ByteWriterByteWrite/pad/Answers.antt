@@ -11,12 +11,12 @@ returns-in_err-write_bytes g c =
     let k = c.loop-left.invariant.0 in
     let is = c.loop-left.invariant.1 in
     let piece = c.min-piece.result in
-    let few : piece ≤ 256 = search rules in
+    let few : piece ≤ 1024 = search rules in
     let within : piece ≤ c.loop-left.left = search rules in
     let p = err_from_is_err_and c.from_residual.result c.from_residual.ensures.1 in
     record {
       writes = met_refusal _ tt (p.1 ∙ ap Err p.2)
-          (zeros_stopped K k piece 256 c.args.bytes _ c.args.self.now c.loop-left.self c.write_bytes.new.self few (omega arith) refl c.loop-left.invariant.2 c.in_err-write_bytes.ensures.writes);
+          (zeros_stopped K k piece 1024 c.args.bytes _ c.args.self.now c.loop-left.self c.write_bytes.new.self few (omega arith) refl c.loop-left.invariant.2 c.in_err-write_bytes.ensures.writes);
     }
 
 pub loop-left-preserved : goal.loop-left-preserved
@@ -25,9 +25,9 @@ loop-left-preserved g c =
     let k = c.loop-left.invariant.0 in
     let is = c.loop-left.invariant.1 in
     let piece = c.min-piece.result in
-    let few : piece ≤ 256 = search rules in
+    let few : piece ≤ 1024 = search rules in
     let within : piece ≤ c.loop-left.left = search rules in
-    (k + piece, omega arith, zeros_more K k piece 256 c.args.self.now c.loop-left.self c.write_bytes.new.self _ few c.loop-left.invariant.2 c.in_ok-write_bytes.ensures.writes)
+    (k + piece, omega arith, zeros_more K k piece 1024 c.args.self.now c.loop-left.self c.write_bytes.new.self _ few c.loop-left.invariant.2 c.in_ok-write_bytes.ensures.writes)
 
 pub returns : goal.returns
 returns g c =
