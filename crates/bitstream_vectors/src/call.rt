@@ -1,5 +1,5 @@
 //! Calls, as rows spell them.
-use crate::form::{Form, Items, form_of};
+use crate::form::{Form, Items, Tree, form_of};
 use crate::objection::Objection;
 use crate::row::Kind;
 use std::alloc::Global;
@@ -41,7 +41,8 @@ impl<'a> Call<'a> {
         }
         let (bits, value) = match (form, kind) {
             (Form::Bytes, Kind::Write) => (0, word_at(&words, 1)),
-            (Form::Whole(_, _), _) => (0, word_at(&words, 2)),
+            (Form::Whole(_, _) | Form::Variable(_, _), _) => (0, word_at(&words, 2)),
+            (Form::Prefix(_) | Form::Limited(_, _), _) => (0, word_at(&words, 2)),
             _ if arguments == 0 => (0, ""),
             _ => (number(word_at(&words, 1))?, word_at(&words, 2)),
         };
@@ -73,6 +74,20 @@ impl<'a> Call<'a> {
         }
     }
 
+    /// Whether the word of the symbol that it writes has a bit.
+    fn has_bits(&self) -> bool {
+        match self.form {
+            Form::Limited(_, most) => match self.value.parse::<u32>() {
+                Ok(run) => run < most,
+                Err(_) => most > 0,
+            },
+            Form::Prefix(Tree::OneSided) => matches!(self.value, "0" | "1" | "2" | "5"),
+            Form::Prefix(Tree::TwoSided) => matches!(self.value, "0" | "1" | "2" | "3" | "4"),
+            Form::Prefix(Tree::TwoSevens) => matches!(self.value, "7" | "8"),
+            _ => false,
+        }
+    }
+
     /// What it answers on a stream that has failed.
     pub fn answer_of_failed(&self, kind: Kind) -> &'static str {
         match (self.form, kind) {
@@ -80,6 +95,9 @@ impl<'a> Call<'a> {
             (Form::Align, Kind::Read) => "ok",
             (Form::Array(Items::None), Kind::Read) => "-",
             (Form::Array(Items::None), Kind::Write) => "ok",
+            (Form::Limited(_, 0), Kind::Read) => "none",
+            (Form::Prefix(Tree::Leaf), Kind::Read) => "9",
+            (Form::Limited(_, _) | Form::Prefix(_), Kind::Write) if !self.has_bits() => "ok",
             _ => "Failed",
         }
     }

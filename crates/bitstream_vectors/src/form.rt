@@ -31,6 +31,27 @@ pub enum Items {
     None,
 }
 
+/// A value that is written as a number of variable width.
+#[derive(Clone, Copy, Drop)]
+pub enum Grouped {
+    Number(Number),
+    NonZero(Size),
+    Optional(Size),
+}
+
+/// A tree of symbols.
+#[derive(Clone, Copy, Drop)]
+pub enum Tree {
+    /// [0,[1,[2,5]]]
+    OneSided,
+    /// [[[4,3],2],[1,0]]
+    TwoSided,
+    /// [7,[7,8]]
+    TwoSevens,
+    /// 9
+    Leaf,
+}
+
 /// The order of the bytes of a primitive.
 #[derive(Clone, Copy, Drop)]
 pub enum ByteOrder {
@@ -57,16 +78,22 @@ pub enum Form {
     Counted(Number),
     /// A number in a constant number of bits.
     Fixed(Number),
+    /// Digits up to a stop digit, or at most so many.
+    Limited(bool, u32),
     NonZero(Size),
     Optional(Size),
     /// Zeros.
     Pad,
+    /// A symbol of a tree.
+    Prefix(Tree),
     /// Bits that are skipped.
     Skip,
     /// Digits up to a stop digit.
     Unary(bool),
     /// A number in so many bits, as a value.
     Value(Number),
+    /// A number in groups of so many bits.
+    Variable(Grouped, u32),
     /// A vector of bytes.
     Vector,
     /// A primitive.
@@ -95,6 +122,8 @@ impl Form {
 /// `NotYet` for a call that is still to come, else that the name spells none.
 pub fn form_of(name: &str, next: &str) -> Result<Form, Objection> {
     let named = plain_form(name).or_else(|| whole_form(name, next));
+    let named = named.or_else(|| variable_form(name, next));
+    let named = named.or_else(|| symbol_form(name, next));
     if let Some(form) = named.or_else(|| number_form(name)) {
         Ok(form)
     } else if is_to_come(name) {
@@ -137,6 +166,37 @@ fn whole_form(name: &str, next: &str) -> Option<Form> {
     Some(Form::Whole(order, number_of(next)?))
 }
 
+/// The form of a call for a number in groups, of the type that the next word spells.
+fn variable_form(name: &str, next: &str) -> Option<Form> {
+    if let Some(field) = name.strip_prefix("svbr") {
+        let size = size_of(next.strip_prefix('i')?)?;
+        let value = Grouped::Number(Number::Signed(size));
+        return Some(Form::Variable(value, field.parse().ok()?));
+    }
+    let field = name.strip_prefix("vbr")?.parse().ok()?;
+    let value = if let Some(size) = next.strip_prefix("nonzero") {
+        Grouped::NonZero(size_of(size)?)
+    } else if let Some(size) = next.strip_prefix("optional") {
+        Grouped::Optional(size_of(size)?)
+    } else {
+        Grouped::Number(Number::Unsigned(size_of(next.strip_prefix('u')?)?))
+    };
+    Some(Form::Variable(value, field))
+}
+
+/// The form of a call for a symbol of the code that the next word spells.
+fn symbol_form(name: &str, next: &str) -> Option<Form> {
+    match (name, next) {
+        ("prefix", "a") => Some(Form::Prefix(Tree::OneSided)),
+        ("prefix", "b") => Some(Form::Prefix(Tree::TwoSided)),
+        ("prefix", "c") => Some(Form::Prefix(Tree::TwoSevens)),
+        ("prefix", "d") => Some(Form::Prefix(Tree::Leaf)),
+        ("limited0", most) => Some(Form::Limited(false, most.parse().ok()?)),
+        ("limited1", most) => Some(Form::Limited(true, most.parse().ok()?)),
+        _ => None,
+    }
+}
+
 /// The form of a call whose name ends with a type.
 fn number_form(name: &str) -> Option<Form> {
     if let Some(number) = name.strip_prefix("counted-") {
@@ -176,19 +236,5 @@ fn size_of(name: &str) -> Option<Size> {
 
 /// Whether a name is that of a call that the heads of the files name, and that is still to come.
 fn is_to_come(name: &str) -> bool {
-    match name {
-        "limited0" | "limited1" | "prefix" => true,
-        _ => is_checked(name) || is_variable(name),
-    }
-}
-
-fn is_checked(name: &str) -> bool {
     name.strip_prefix("checked-").and_then(number_of).is_some()
-}
-
-/// Whether a name is that of a number in fields of so many bits.
-fn is_variable(name: &str) -> bool {
-    let unsigned = name.strip_prefix("vbr");
-    let field = unsigned.or_else(|| name.strip_prefix("svbr"));
-    field.is_some_and(|bits| bits.parse::<u32>().is_ok())
 }

@@ -41,6 +41,8 @@ mod play;
 mod reads;
 mod replay;
 mod row;
+mod symbols;
+mod variable;
 mod writes;
 
 use objection::Objection;
@@ -51,11 +53,12 @@ use std::io::ErrorKind;
 use std::rt::Files;
 
 /// The files of rows.
-const FILES: [&str; 5] = [
+const FILES: [&str; 6] = [
     "vectors.tsv",
     "r03_words.tsv",
     "r04_bytes.tsv",
     "r05_codes.tsv",
+    "r06_prefix.tsv",
     "r10_word_kernels.tsv",
 ];
 

@@ -6,6 +6,8 @@ use crate::call::{Call, number};
 use crate::fixed::read_fixed;
 use crate::form::{ByteOrder, Form, Items, Number, Size};
 use crate::objection::Objection;
+use crate::symbols::{read_limited, read_symbol};
+use crate::variable::read_variable;
 use bitstream_io::{
     BE, BitCount, BitRead, BitReadExt, Bits, Error, Integer, LE, Primitive, SignedInteger,
     UnsignedInteger, Width,
@@ -32,12 +34,15 @@ pub fn read_call<R: BitRead>(
         Form::Count => read_count(alloc, reader, bits),
         Form::Counted(number) => read_counted(alloc, reader, number, bits),
         Form::Fixed(number) => read_fixed(alloc, reader, number, bits),
+        Form::Limited(stop, most) => read_limited(alloc, reader, stop, most),
         Form::NonZero(size) => read_non_zero(alloc, reader, size, bits),
         Form::Optional(size) => read_optional(alloc, reader, size, bits),
         Form::Pad => Err(Objection::BAD_FORM),
+        Form::Prefix(tree) => read_symbol(alloc, reader, tree),
         Form::Skip => accepted(alloc, reader.skip(bits)),
         Form::Unary(stop) => read_unary(alloc, reader, stop),
         Form::Value(number) => read_number(alloc, reader, number, bits),
+        Form::Variable(value, field) => read_variable(alloc, reader, value, field),
         Form::Vector => read_vector(alloc, reader, bits),
         Form::Whole(order, number) => read_whole(alloc, reader, order, number),
         Form::Word(number) => read_word(alloc, reader, number, bits),
@@ -210,7 +215,7 @@ fn read_non_zero<R: BitRead>(
 }
 
 /// A value, or `none`.
-fn shown_or_none<T: Display + Drop>(
+pub fn shown_or_none<T: Display + Drop>(
     alloc: Global,
     answer: Result<Option<T>, Error>,
 ) -> Result<String, Objection> {

@@ -6,6 +6,8 @@ use crate::call::{Call, number};
 use crate::fixed::write_fixed;
 use crate::form::{ByteOrder, Form, Items, Number, Size};
 use crate::objection::Objection;
+use crate::symbols::{write_limited, write_symbol};
+use crate::variable::write_variable;
 use bitstream_io::{
     BE, BitCount, BitWrite, BitWriteExt, Bits, Error, Integer, LE, Primitive, SignedInteger,
     UnsignedInteger, Width,
@@ -35,12 +37,15 @@ pub fn write_call<W: BitWrite>(
         Form::Count => write_count(writer, bits, number(value)?),
         Form::Counted(number) => write_counted(writer, number, bits, value),
         Form::Fixed(number) => write_fixed(writer, number, bits, value),
+        Form::Limited(stop, most) => write_limited(writer, stop, most, value),
         Form::NonZero(size) => write_non_zero(writer, size, bits, value),
         Form::Optional(size) => write_optional(writer, size, bits, value),
         Form::Pad => Ok(writer.pad(bits)),
+        Form::Prefix(tree) => write_symbol(alloc, writer, tree, value),
         Form::Skip | Form::Vector => Err(Objection::BAD_FORM),
         Form::Unary(stop) => Ok(write_unary(writer, stop, bits)),
         Form::Value(number) => write_number(writer, number, bits, value),
+        Form::Variable(kind, field) => write_variable(writer, kind, field, value),
         Form::Whole(order, number) => write_whole(writer, order, number, value),
         Form::Word(number) => write_word(writer, number, bits, value),
     };

@@ -1,0 +1,88 @@
+//! Calls for symbols of prefix codes, by the codes that the rows name.
+use crate::answer::shown;
+use crate::call::number;
+use crate::form::Tree;
+use crate::objection::Objection;
+use crate::reads::shown_or_none;
+use bitstream_io::huffman::{HuffmanTree, LimitedUnary};
+use bitstream_io::{BitRead, BitReadExt, BitWrite, BitWriteExt, Error};
+use std::alloc::{AllocError, Global};
+
+/// A code whose words are the paths of a tree.
+type Code = HuffmanTree<u32, Global>;
+
+/// What a write call answers, where its row spells one.
+type Answer = Result<Result<(), Error>, Objection>;
+
+/// A tree of one symbol.
+fn leaf(alloc: Global, symbol: u32) -> Result<Code, AllocError> {
+    HuffmanTree::leaf(alloc, symbol)
+}
+
+/// The code of a tree.
+fn code(alloc: Global, tree: Tree) -> Result<Code, AllocError> {
+    match tree {
+        Tree::OneSided => {
+            let last = HuffmanTree::node(leaf(alloc, 2)?, leaf(alloc, 5)?)?;
+            HuffmanTree::node(leaf(alloc, 0)?, HuffmanTree::node(leaf(alloc, 1)?, last)?)
+        }
+        Tree::TwoSided => {
+            let first = HuffmanTree::node(leaf(alloc, 4)?, leaf(alloc, 3)?)?;
+            let last = HuffmanTree::node(leaf(alloc, 1)?, leaf(alloc, 0)?)?;
+            HuffmanTree::node(HuffmanTree::node(first, leaf(alloc, 2)?)?, last)
+        }
+        Tree::TwoSevens => {
+            let last = HuffmanTree::node(leaf(alloc, 7)?, leaf(alloc, 8)?)?;
+            HuffmanTree::node(leaf(alloc, 7)?, last)
+        }
+        Tree::Leaf => leaf(alloc, 9),
+    }
+}
+
+/// Reads a symbol of a tree, and spells the answer.
+pub fn read_symbol<R: BitRead>(
+    alloc: Global,
+    reader: &mut R,
+    tree: Tree,
+) -> Result<String, Objection> {
+    shown(alloc, reader.read_huffman(&code(alloc, tree)?))
+}
+
+/// Writes the symbol of a tree that a text spells.
+pub fn write_symbol<W: BitWrite>(alloc: Global, writer: &mut W, tree: Tree, value: &str) -> Answer {
+    Ok(writer.write_huffman(&code(alloc, tree)?, number(value)?))
+}
+
+/// Reads a run of at most so many digits, and spells the answer.
+pub fn read_limited<R: BitRead>(
+    alloc: Global,
+    reader: &mut R,
+    stop: bool,
+    most: u32,
+) -> Result<String, Objection> {
+    let answer = match (stop, most) {
+        (false, 0) => reader.read_huffman(&LimitedUnary::<0, 0> {}),
+        (false, 3) => reader.read_huffman(&LimitedUnary::<0, 3> {}),
+        (false, 10) => reader.read_huffman(&LimitedUnary::<0, 10> {}),
+        (true, 3) => reader.read_huffman(&LimitedUnary::<1, 3> {}),
+        (true, 10) => reader.read_huffman(&LimitedUnary::<1, 10> {}),
+        _ => return Err(Objection::NotYet),
+    };
+    shown_or_none(alloc, answer)
+}
+
+/// Writes the run of at most so many digits that a text spells: a number, or none.
+pub fn write_limited<W: BitWrite>(writer: &mut W, stop: bool, most: u32, value: &str) -> Answer {
+    let run: Option<u32> = match value {
+        "none" => None,
+        _ => Some(number(value)?),
+    };
+    match (stop, most) {
+        (false, 0) => Ok(writer.write_huffman(&LimitedUnary::<0, 0> {}, run)),
+        (false, 3) => Ok(writer.write_huffman(&LimitedUnary::<0, 3> {}, run)),
+        (false, 10) => Ok(writer.write_huffman(&LimitedUnary::<0, 10> {}, run)),
+        (true, 3) => Ok(writer.write_huffman(&LimitedUnary::<1, 3> {}, run)),
+        (true, 10) => Ok(writer.write_huffman(&LimitedUnary::<1, 10> {}, run)),
+        _ => Err(Objection::NotYet),
+    }
+}
