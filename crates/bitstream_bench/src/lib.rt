@@ -22,6 +22,8 @@ mod numbers;
 mod own;
 mod refuse;
 #[cfg(test)]
+mod runs;
+#[cfg(test)]
 mod streams;
 pub mod sure;
 #[cfg(test)]

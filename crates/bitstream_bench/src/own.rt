@@ -9,6 +9,7 @@ use bitstream_io::{
     ByteReader, Count, Endianness, Error, LE, Primitive, SignedCount, SignedInteger,
     UnsignedInteger,
 };
+use std::alloc::Global;
 use std::test::Fail;
 
 /// A reader before another, to which it hands each required call.
@@ -198,5 +199,47 @@ fn inherited_reads_of_bytes_are_the_same(rt: HostRuntime) -> Result<(), Fail> {
     );
     let rest = own.read_to_vec(rt.alloc(), usize::MAX);
     assert!(rt; matches!(rest, Err(Error::EndOfInput)));
+    Ok(())
+}
+
+/// Writes numbers as runs, short and long, by each stop bit.
+fn writes_runs<W: BitWrite>(writer: &mut W) -> Result<(), Error> {
+    for value in 0..300 {
+        writer.write_unary::<Bits<0>>(value)?;
+        writer.write_unary::<Bits<1>>(value)?;
+    }
+    writer.byte_align()
+}
+
+/// Reads them, and tells whether they are the same.
+fn reads_runs<R: BitRead>(reader: &mut R) -> Result<bool, Error> {
+    for value in 0..300 {
+        if reader.read_unary::<Bits<0>>()? != value || reader.read_unary::<Bits<1>>()? != value {
+            return Ok(false);
+        }
+    }
+    Ok(true)
+}
+
+/// Whether runs are the same bytes and the same numbers by what a reader and a writer inherit.
+fn inherits_runs<E: Endianness + Drop>(alloc: Global) -> Result<bool, Error> {
+    let mut plain = Vec::new(alloc);
+    writes_runs(&mut BitWriter::<_, E>::new(&mut plain))?;
+    let mut own = Vec::new(alloc);
+    writes_runs(&mut OwnWriter {
+        inner: BitWriter::<_, E>::new(&mut own),
+    })?;
+    let same = own.as_slice() == plain.as_slice();
+    let read = reads_runs(&mut BitReader::<_, E>::new(plain.as_slice()))?;
+    let inherited = reads_runs(&mut OwnReader {
+        inner: BitReader::<_, E>::new(plain.as_slice()),
+    })?;
+    Ok(same && read && inherited)
+}
+
+#[test]
+fn inherited_runs_are_the_same(rt: HostRuntime) -> Result<(), Fail> {
+    assert!(rt; inherits_runs::<BE>(rt.alloc())?);
+    assert!(rt; inherits_runs::<LE>(rt.alloc())?);
     Ok(())
 }
