@@ -9,6 +9,7 @@ pub use Rattle.bitstream_count.specs.declared.error.Error
 pub use Rattle.bitstream_count.specs.Entry
 pub use Rattle.bitstream_count.specs.Kind
 pub use Rattle.bitstream_count.specs.Unary
+pub use Rattle.bitstream_count.specs.Vbr
 pub use Rattle.bitstream_order.specs.TakeBits
 pub use Rattle.bitstream_order.specs.TakeRun
 pub use Rattle.bitstream_order.specs.Fault

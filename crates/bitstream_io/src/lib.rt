@@ -39,7 +39,7 @@ pub mod count {
 
 /// Types whose values are words of bits.
 pub mod integer {
-    pub use bitstream_value::integer::Integer;
+    pub use bitstream_value::integer::{Integer, VBRInteger};
 }
 
 /// Prefix codes: symbols that stand as words of bits, none of which begins another.
@@ -88,7 +88,9 @@ pub mod laws {
         counts_go_back, counts_hash_as_their_numbers, equal_counts_are_equal_numbers,
         equal_signed_counts_are_equal_numbers, fixed_counts_go_back, fixed_signed_counts_go_back,
         signed_counts_go_back, signed_counts_hash_as_their_numbers, unary_words_alone_are_read,
-        unary_words_begin_no_other, unary_words_read_back,
+        unary_words_begin_no_other, unary_words_read_back, variable_width_words_alone_are_read,
+        variable_width_words_are_shortest, variable_width_words_begin_no_other,
+        variable_width_words_read_back,
     };
     pub use bitstream_number::laws::{
         bytes_are_words, masks_are_remainders, ors_are_sums, shifts_past_the_size_are_zero,
@@ -108,7 +110,7 @@ pub use count::{
     SignedCount,
 };
 pub use error::Error;
-pub use integer::Integer;
+pub use integer::{Integer, VBRInteger};
 pub use number::{Bits, Buffer, Numeric, Primitive, SignedInteger, UnsignedInteger, Width};
 pub use order::{BE, BigEndian, Endianness, LE, LittleEndian};
 pub use read::{BitRead, BitReadExt, BitReader, Lent, SeekSource, Slice, Source};
