@@ -8,12 +8,12 @@ mod reading;
 mod writing;
 
 use crate::reading::{
-    read_bits, read_bytes, read_signed, read_unary, read_unsigned, read_wide, skip_bits,
+    read_bits, read_bytes, read_signed, read_unary, read_unsigned, read_vbr, read_wide, skip_bits,
 };
 use crate::writing::{
-    write_bits, write_bytes, write_signed, write_unary, write_unsigned, write_wide,
+    write_bits, write_bytes, write_signed, write_unary, write_unsigned, write_vbr, write_wide,
 };
-use bitstream_io::{BE, Endianness, LE, Slice, Source};
+use bitstream_io::{BE, Bits, Endianness, LE, Slice, Source};
 
 /// Reads unsigned numbers of up to 128 bits.
 fn read_any<R: Source + Drop, E: Endianness>(width: u32, source: R, count: u64) -> u64 {
@@ -30,6 +30,30 @@ fn write_any<E: Endianness>(width: u32, count: u64, seed: u64, out: &mut [u8]) -
         write_wide::<E>(width, count, seed, out)
     } else {
         write_unsigned::<E>(width, count, seed, out)
+    }
+}
+
+/// Reads numbers of variable width, in groups of 4 or of 8 bits.
+fn read_groups<R: Source + Drop, E: Endianness>(field: u32, source: R, count: u64) -> u64 {
+    if field == 4 {
+        read_vbr::<Bits<4>, R, E>(source, count)
+    } else {
+        read_vbr::<Bits<8>, R, E>(source, count)
+    }
+}
+
+/// Writes numbers of variable width, in groups of 4 or of 8 bits.
+fn write_groups<E: Endianness>(
+    field: u32,
+    bits: u32,
+    count: u64,
+    seed: u64,
+    out: &mut [u8],
+) -> u64 {
+    if field == 4 {
+        write_vbr::<Bits<4>, E>(bits, count, seed, out)
+    } else {
+        write_vbr::<Bits<8>, E>(bits, count, seed, out)
     }
 }
 
@@ -232,5 +256,32 @@ pub extern "C" fn bench_write_unary(
         write_unary::<BE>(stop, limit, count, seed, out)
     } else {
         write_unary::<LE>(stop, limit, count, seed, out)
+    }
+}
+
+/// Reads numbers of variable width from a slice's bytes.
+#[unsafe(no_mangle)]
+pub extern "C" fn bench_read_vbr(order: u32, field: u32, data: &[u8], count: u64) -> u64 {
+    if order == 0 {
+        read_groups::<_, BE>(field, data, count)
+    } else {
+        read_groups::<_, LE>(field, data, count)
+    }
+}
+
+/// Writes numbers of variable width to a slice's bytes.
+#[unsafe(no_mangle)]
+pub extern "C" fn bench_write_vbr(
+    order: u32,
+    field: u32,
+    bits: u32,
+    count: u64,
+    seed: u64,
+    out: &mut [u8],
+) -> u64 {
+    if order == 0 {
+        write_groups::<BE>(field, bits, count, seed, out)
+    } else {
+        write_groups::<LE>(field, bits, count, seed, out)
     }
 }
