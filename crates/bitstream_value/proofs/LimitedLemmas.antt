@@ -1,6 +1,6 @@
 -- Limited unary words are the paths of their tree, and are read and written digit by digit.
 use Rattle.std.proofs.Common.{◌≡◌, ◌⊎◌, inl, inr, ℕ, zero, suc, ◌+◌, ◌-◌, ◌<◌, ◌≤◌, Bool, true, false, not, List, [], ◌∷◌, ◌++◌, replicate, Option, Some, None, Result, Ok, Err, refl, sym, ap, ◌∙◌, subst, arith}
-use Rattle.std.specs.Prelude.{IfSome, nat_lt, if◌then◌else◌}
+use Rattle.std.specs.Prelude.{IfSome, if◌then◌else◌}
 use Rattle.std.specs.Result.{IsErrAnd}
 use Rattle.std.proofs.lemmas.Bool.{lt-ltb, le-ltb}
 use Rattle.std.proofs.lemmas.List.{map-append}
@@ -14,7 +14,7 @@ use Rattle.bitstream_stream.specs.WriteTable.{bit}
 use Rattle.bitstream_stream.proofs.ReadsLemmas.{Reads-chain-ok, Reads-gives, exit}
 use Rattle.bitstream_stream.proofs.WriteParts.{all_none, all_one, all_err, all_more, all_append, all_stop}
 use Rattle.bitstream_value.specs.LimitedUnary.{limited_unary, limited_tree}
-use Rattle.bitstream_value.specs.Tree.{Tree, leaf, node, IsPath, path_entry, bit_by_bit}
+use Rattle.bitstream_value.specs.Tree.{leaf, node, IsPath, path_entry, bit_by_bit}
 use Rattle.bitstream_value.proofs.TreeLemmas.{path_entry-leaf, path_entry-node}
 
 -- ---- the tree

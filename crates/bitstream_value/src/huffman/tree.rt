@@ -15,7 +15,27 @@ enum Node<S> {
     Branch { zero: usize, one: usize },
 }
 
-/// A tree of symbols as a code: the word of a symbol is the path to its leaf.
+/// A tree of symbols as a code: the word of a symbol is the path to its leaf, on which the bit 0
+/// leads to the first side of a branch and the bit 1 to the second.
+///
+/// Where several leaves have the same symbol, the first from the side of 0 is written. A symbol that
+/// no leaf has is written as nothing. To read, to write and to drop a tree takes no more stack where
+/// it is deep.
+///
+/// # Examples
+///
+/// ```
+/// use bitstream_io::{BE, BitReadExt, BitReader};
+/// use bitstream_io::huffman::HuffmanTree;
+///
+/// let alloc = rt.alloc();
+/// let end = HuffmanTree::node(HuffmanTree::leaf(alloc, 'b')?, HuffmanTree::leaf(alloc, 'c')?)?;
+/// let tree = HuffmanTree::node(HuffmanTree::leaf(alloc, 'a')?, end)?;
+/// let mut reader = BitReader::<_, BE>::new([0x98].as_slice());
+/// assert_eq!(rt; reader.read_huffman(&tree)?, 'b');
+/// assert_eq!(rt; reader.read_huffman(&tree)?, 'a');
+/// assert_eq!(rt; reader.read_huffman(&tree)?, 'c');
+/// ```
 #[derive(Drop)]
 pub struct HuffmanTree<S, A: Allocator> {
     // Each side of a branch is a part of the table before it, which ends with that side's root. The
