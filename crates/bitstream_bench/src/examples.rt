@@ -1,5 +1,6 @@
 //! The examples of the doc comments and of the front page, made by `.ci/examples` and compared by the
 //! gate: to change one, change it where it stands.
+use bitstream_io::huffman::{HuffmanTree, LimitedUnary};
 use bitstream_io::{
     BE, BitCount, BitRead, BitReadExt, BitReader, BitWrite, BitWriteExt, BitWriter, Bits, ByteRead,
     ByteReader, ByteWrite, ByteWriter, CheckedError, CheckedUnsigned, Count, Error, LE, Lent,
@@ -168,6 +169,30 @@ fn example_of_bit_writer(rt: HostRuntime) -> Result<(), Fail> {
     writer.write_bit(true)?;
     writer.byte_align()?;
     assert_eq!(rt; bytes.as_slice(), [0xbd, 0x80].as_slice());
+    Ok(())
+}
+
+#[test]
+fn example_of_limited_unary(rt: HostRuntime) -> Result<(), Fail> {
+    let mut reader = BitReader::<_, BE>::new([0x20].as_slice());
+    let run = LimitedUnary::<1, 3> {};
+    assert_eq!(rt; reader.read_huffman(&run)?, Some(2));
+    assert_eq!(rt; reader.read_huffman(&run)?, None);
+    Ok(())
+}
+
+#[test]
+fn example_of_huffman_tree(rt: HostRuntime) -> Result<(), Fail> {
+    let alloc = rt.alloc();
+    let end = HuffmanTree::node(
+        HuffmanTree::leaf(alloc, 'b')?,
+        HuffmanTree::leaf(alloc, 'c')?,
+    )?;
+    let tree = HuffmanTree::node(HuffmanTree::leaf(alloc, 'a')?, end)?;
+    let mut reader = BitReader::<_, BE>::new([0x98].as_slice());
+    assert_eq!(rt; reader.read_huffman(&tree)?, 'b');
+    assert_eq!(rt; reader.read_huffman(&tree)?, 'a');
+    assert_eq!(rt; reader.read_huffman(&tree)?, 'c');
     Ok(())
 }
 

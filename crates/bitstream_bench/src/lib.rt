@@ -1,11 +1,14 @@
 //! Streams for tests: one that drips, one that refuses, one that counts and one that never ends; memory
-//! that refuses. And functions over bytes in memory, whose contracts tell all that they answer.
+//! that refuses; functions over bytes in memory, whose contracts tell all that they answer; and a code
+//! of a user's own.
 #![tactic(auto)]
 
 #[cfg(test)]
 mod bytes;
 #[cfg(test)]
 mod callers;
+#[cfg(test)]
+mod codes;
 mod count;
 #[cfg(test)]
 mod counts;
@@ -21,6 +24,7 @@ mod numbers;
 #[cfg(test)]
 mod own;
 mod refuse;
+pub mod sign_code;
 #[cfg(test)]
 mod runs;
 #[cfg(test)]
