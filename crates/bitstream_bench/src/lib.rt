@@ -24,9 +24,9 @@ mod numbers;
 #[cfg(test)]
 mod own;
 mod refuse;
-pub mod sign_code;
 #[cfg(test)]
 mod runs;
+pub mod sign_code;
 #[cfg(test)]
 mod streams;
 pub mod sure;
