@@ -31,6 +31,8 @@ pub mod sign_code;
 mod streams;
 pub mod sure;
 #[cfg(test)]
+mod variable_width;
+#[cfg(test)]
 mod whole_bytes;
 #[cfg(test)]
 mod words;

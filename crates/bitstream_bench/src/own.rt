@@ -108,13 +108,16 @@ fn writes_each<W: BitWrite>(writer: &mut W) -> Result<(), Error> {
     writer.write_bytes(&[0x1e, 0xd3])?;
     writer.pad(130)?;
     writer.write_as_from::<LE, u16>(0x1234)?;
+    writer.byte_align()?;
+    writer.write_unsigned_vbr::<Bits<4>, u8>(8)?;
+    writer.write_signed_vbr::<Bits<4>, i8>(-128)?;
     writer.byte_align()
 }
 
 /// What they write.
-const WRITTEN: [u8; 24] = [
+const WRITTEN: [u8; 27] = [
     0xce, 0x75, 0x80, 0x8f, 0x69, 0x80, 0, 0, 0, 0, 0, 0, 0, 0, 0, 0, 0, 0, 0, 0, 0, 0x06, 0x82,
-    0x40,
+    0x40, 0x81, 0xff, 0x30,
 ];
 
 #[test]
@@ -146,7 +149,11 @@ fn reads_each<R: BitRead>(reader: &mut R) -> Result<bool, Error> {
     reader.skip(130)?;
     let bytes_read = bytes == [0x1e] && more == [0xd3] && reader.read_as_to::<LE, u16>()? == 0x1234;
     reader.byte_align();
-    Ok(bytes_read && first && unsigned == 9 && signed == -7 && count.bits() == 5 && yes && !no)
+    let groups_read = reader.read_unsigned_vbr::<Bits<4>, u8>()? == 8
+        && reader.read_signed_vbr::<Bits<4>, i8>()? == -128;
+    reader.byte_align();
+    let words_read = first && unsigned == 9 && signed == -7 && count.bits() == 5 && yes && !no;
+    Ok(groups_read && bytes_read && words_read)
 }
 
 #[test]
