@@ -143,7 +143,10 @@ fn r01_first_path(rt: HostRuntime) -> Result<(), Fail> {
     for row in &ROWS {
         let mut whole = row.1;
         served(&rt, alloc, row, &mut whole)?;
-        let mut drip = Drip { inner: row.1 };
+        let mut drip = Drip {
+            inner: row.1,
+            drips: true,
+        };
         served(&rt, alloc, row, &mut drip)?;
     }
     Ok(())

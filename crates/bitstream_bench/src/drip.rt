@@ -1,16 +1,18 @@
 //! A stream that drips.
-ghost use Rattle.std.specs.Prelude.{◌≤◌, IfOk};
+ghost use Rattle.std.specs.Prelude.{◌≡◌, ◌≤◌, IfOk, true};
 ghost use Rattle.std.specs.Io.KnownBytes.{ReadConsumes, WriteAppends};
 ghost use Rattle.std.specs.Io.{ReadsAtMost, WritesAtMost};
 
 use std::io;
 use std::io::{Read, Write};
 
-/// Gives or takes one byte at each `read` or `write`.
+/// Gives or takes one byte at each `read` or `write`, where it drips.
 #[derive(Drop)]
 pub struct Drip<S> {
     /// The stream that it stands before.
     pub inner: S,
+    /// Whether it drips, and does not hand on requests as they are.
+    pub drips: bool,
 }
 
 impl<S: Read> Read for Drip<S> {
@@ -20,12 +22,13 @@ impl<S: Read> Read for Drip<S> {
         ensures bound { ReadsAtMost result buf.new }
         ensures bytes { ReadConsumes (S.remaining self.old.inner) (S.remaining self.new.inner)
             result buf.new }
-        ensures one { IfOk result (λ n. n ≤ 1) }
+        ensures one { self.old.drips ≡ true → IfOk result (λ n. n ≤ 1) }
+        ensures same { self.new.drips ≡ self.old.drips }
     {
-        if buf.is_empty() {
-            self.inner.read(buf)
-        } else {
+        if self.drips && !buf.is_empty() {
             self.inner.read(&mut buf[..1])
+        } else {
+            self.inner.read(buf)
         }
     }
 }
@@ -37,12 +40,13 @@ impl<S: Write> Write for Drip<S> {
         ensures bound { WritesAtMost result buf.now }
         ensures bytes { WriteAppends (S.contents self.old.inner) (S.contents self.new.inner)
             result buf.now }
-        ensures one { IfOk result (λ n. n ≤ 1) }
+        ensures one { self.old.drips ≡ true → IfOk result (λ n. n ≤ 1) }
+        ensures same { self.new.drips ≡ self.old.drips }
     {
-        if buf.is_empty() {
-            self.inner.write(buf)
-        } else {
+        if self.drips && !buf.is_empty() {
             self.inner.write(&buf[..1])
+        } else {
+            self.inner.write(buf)
         }
     }
 

@@ -31,12 +31,13 @@ pub enum Items {
     None,
 }
 
-/// A value that is written as a number of variable width.
+/// What stands as a number of variable width: a number, one that is not 0, or that or none.
 #[derive(Clone, Copy, Drop)]
 pub enum Grouped {
-    Number(Number),
-    NonZero(Size),
-    Optional(Size),
+    Unsigned,
+    Signed,
+    NonZero,
+    Optional,
 }
 
 /// A tree of symbols.
@@ -92,8 +93,8 @@ pub enum Form {
     Unary(bool),
     /// A number in so many bits, as a value.
     Value(Number),
-    /// A number in groups of so many bits.
-    Variable(Grouped, u32),
+    /// A number of a size, in groups of so many bits.
+    Variable(Grouped, Size, u32),
     /// A vector of bytes.
     Vector,
     /// A primitive.
@@ -170,18 +171,17 @@ fn whole_form(name: &str, next: &str) -> Option<Form> {
 fn variable_form(name: &str, next: &str) -> Option<Form> {
     if let Some(field) = name.strip_prefix("svbr") {
         let size = size_of(next.strip_prefix('i')?)?;
-        let value = Grouped::Number(Number::Signed(size));
-        return Some(Form::Variable(value, field.parse().ok()?));
+        return Some(Form::Variable(Grouped::Signed, size, field.parse().ok()?));
     }
     let field = name.strip_prefix("vbr")?.parse().ok()?;
-    let value = if let Some(size) = next.strip_prefix("nonzero") {
-        Grouped::NonZero(size_of(size)?)
+    let (value, size) = if let Some(size) = next.strip_prefix("nonzero") {
+        (Grouped::NonZero, size)
     } else if let Some(size) = next.strip_prefix("optional") {
-        Grouped::Optional(size_of(size)?)
+        (Grouped::Optional, size)
     } else {
-        Grouped::Number(Number::Unsigned(size_of(next.strip_prefix('u')?)?))
+        (Grouped::Unsigned, next.strip_prefix('u')?)
     };
-    Some(Form::Variable(value, field))
+    Some(Form::Variable(value, size_of(size)?, field))
 }
 
 /// The form of a call for a symbol of the code that the next word spells.

@@ -24,7 +24,7 @@ pub struct Fault {
 /// What the stream of a play does.
 #[derive(Clone, Copy, Drop)]
 pub enum Way {
-    /// It is a slice or a vector.
+    /// It gives or takes what it has room for.
     Plain,
     /// It gives or takes a byte a request.
     Dripped,
@@ -147,12 +147,17 @@ fn write_over<S: Write + Drop, E: Endianness + Drop>(
     Ok((count.requests, count.refused))
 }
 
-/// A stream that refuses as a fault says.
-fn refusing<S>(inner: S, fault: Fault) -> Refuse<S> {
+/// A stream that does what a way says.
+fn stream_of<S>(inner: S, way: Way) -> Refuse<Drip<S>> {
+    let drips = matches!(way, Way::Dripped);
+    let (left, kind) = match way {
+        Way::Refused(fault) => (fault.served, fault.kind),
+        _ => (u32::MAX, ErrorKind::Other),
+    };
     Refuse {
-        inner,
-        left: fault.served,
-        kind: fault.kind,
+        inner: Drip { inner, drips },
+        left,
+        kind,
     }
 }
 
@@ -164,11 +169,8 @@ fn read_bytes<E: Endianness + Drop>(
     way: Way,
 ) -> Result<Moved, Objection> {
     let mut left = bytes;
-    let (requests, refused) = match way {
-        Way::Plain => read_over::<_, E>(alloc, &mut left, calls, way)?,
-        Way::Dripped => read_over::<_, E>(alloc, Drip { inner: &mut left }, calls, way)?,
-        Way::Refused(fault) => read_over::<_, E>(alloc, refusing(&mut left, fault), calls, way)?,
-    };
+    let stream = stream_of(&mut left, way);
+    let (requests, refused) = read_over::<_, E>(alloc, stream, calls, way)?;
     Ok(Moved {
         requests,
         refused,
@@ -184,12 +186,8 @@ fn write_bytes<E: Endianness + Drop>(
     way: Way,
 ) -> Result<Moved, Objection> {
     let mut written: Vec<u8> = Vec::new(alloc);
-    let to = &mut written;
-    let (requests, refused) = match way {
-        Way::Plain => write_over::<_, E>(alloc, to, calls, way)?,
-        Way::Dripped => write_over::<_, E>(alloc, Drip { inner: to }, calls, way)?,
-        Way::Refused(fault) => write_over::<_, E>(alloc, refusing(to, fault), calls, way)?,
-    };
+    let stream = stream_of(&mut written, way);
+    let (requests, refused) = write_over::<_, E>(alloc, stream, calls, way)?;
     agrees(bytes.starts_with(written.as_slice()), Difference::Bytes)?;
     Ok(Moved {
         requests,

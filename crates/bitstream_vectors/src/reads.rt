@@ -42,7 +42,7 @@ pub fn read_call<R: BitRead>(
         Form::Skip => accepted(alloc, reader.skip(bits)),
         Form::Unary(stop) => read_unary(alloc, reader, stop),
         Form::Value(number) => read_number(alloc, reader, number, bits),
-        Form::Variable(value, field) => read_variable(alloc, reader, value, field),
+        Form::Variable(value, size, field) => read_variable(alloc, reader, value, size, field),
         Form::Vector => read_vector(alloc, reader, bits),
         Form::Whole(order, number) => read_whole(alloc, reader, order, number),
         Form::Word(number) => read_word(alloc, reader, number, bits),

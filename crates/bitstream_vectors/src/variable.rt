@@ -1,7 +1,7 @@
 //! Calls for numbers of variable width, at the sizes of groups that the rows have.
 use crate::answer::shown;
 use crate::call::number;
-use crate::form::{Grouped, Number, Size};
+use crate::form::{Grouped, Size};
 use crate::objection::Objection;
 use crate::reads::shown_or_none;
 use bitstream_io::{BitRead, BitReadExt, BitWrite, BitWriteExt, Bits, Error, VBRInteger, Width};
@@ -13,74 +13,80 @@ use std::str::FromStr;
 /// What a write call answers, where its row spells one.
 type Answer = Result<Result<(), Error>, Objection>;
 
-/// Reads a value in groups of as many bits as F says.
-fn read_in<F: Width, I: VBRInteger + Display + Drop, R: BitRead>(
+/// Reads a value of a type of one size in groups of as many bits as F says: U is the type of what
+/// is not below 0, S of what may be, and N of what is not 0.
+fn read_in<F: Width, U: VBRInteger + Display + Drop, S: VBRInteger + Display + Drop, N, R: BitRead>(
     alloc: Global,
     reader: &mut R,
-) -> Result<String, Objection>
-    requires { I.IsFieldSize F.BITS }
-{
-    shown(alloc, reader.read_vbr::<F, I>())
-}
-
-/// Reads a value or none in groups of as many bits as F says.
-fn read_optional_in<F: Width, I: Display + Drop, R: BitRead>(
-    alloc: Global,
-    reader: &mut R,
+    value: Grouped,
 ) -> Result<String, Objection>
 where
-    Option<I>: VBRInteger,
-    requires { ⟦<Option<I> as VBRInteger>⟧.IsFieldSize F.BITS }
+    N: VBRInteger + Display + Drop,
+    Option<N>: VBRInteger,
+    requires unsigned { U.IsFieldSize F.BITS }
+    requires signed { S.IsFieldSize F.BITS }
+    requires non_zero { N.IsFieldSize F.BITS }
+    requires optional { ⟦<Option<N> as VBRInteger>⟧.IsFieldSize F.BITS }
 {
-    shown_or_none(alloc, reader.read_vbr::<F, Option<I>>())
+    match value {
+        Grouped::Unsigned => shown(alloc, reader.read_vbr::<F, U>()),
+        Grouped::Signed => shown(alloc, reader.read_vbr::<F, S>()),
+        Grouped::NonZero => shown(alloc, reader.read_vbr::<F, N>()),
+        Grouped::Optional => shown_or_none(alloc, reader.read_vbr::<F, Option<N>>()),
+    }
 }
 
-/// Writes the value that a text spells in groups of as many bits as F says.
-fn write_in<F: Width, I: VBRInteger + FromStr<Err = ParseIntError>, W: BitWrite>(
-    writer: &mut W,
-    value: &str,
-) -> Answer
-    requires { I.IsFieldSize F.BITS }
-{
-    Ok(writer.write_vbr::<F, I>(number(value)?))
-}
-
-/// Writes the value that a text spells, or none where it spells 0, in groups of as many bits as F says.
-fn write_optional_in<F: Width, I: FromStr<Err = ParseIntError>, W: BitWrite>(
-    writer: &mut W,
-    value: &str,
-) -> Answer
-where
-    Option<I>: VBRInteger,
-    requires { ⟦<Option<I> as VBRInteger>⟧.IsFieldSize F.BITS }
-{
-    let value = if value == "0" {
-        None
+/// The value that a text spells, or none where it spells 0.
+fn optional<N: FromStr<Err = ParseIntError>>(text: &str) -> Result<Option<N>, Objection> {
+    if text == "0" {
+        Ok(None)
     } else {
-        Some(number::<I>(value)?)
-    };
-    Ok(writer.write_vbr::<F, Option<I>>(value))
+        Ok(Some(number(text)?))
+    }
+}
+
+/// Writes the value that a text spells, of a type of one size as [`read_in`] reads it.
+fn write_in<F: Width, U: VBRInteger + FromStr<Err = ParseIntError>, S, N, W: BitWrite>(
+    writer: &mut W,
+    kind: Grouped,
+    value: &str,
+) -> Answer
+where
+    S: VBRInteger + FromStr<Err = ParseIntError>,
+    N: VBRInteger + FromStr<Err = ParseIntError>,
+    Option<N>: VBRInteger,
+    requires unsigned { U.IsFieldSize F.BITS }
+    requires signed { S.IsFieldSize F.BITS }
+    requires non_zero { N.IsFieldSize F.BITS }
+    requires optional { ⟦<Option<N> as VBRInteger>⟧.IsFieldSize F.BITS }
+{
+    Ok(match kind {
+        Grouped::Unsigned => writer.write_vbr::<F, U>(number(value)?),
+        Grouped::Signed => writer.write_vbr::<F, S>(number(value)?),
+        Grouped::NonZero => writer.write_vbr::<F, N>(number(value)?),
+        Grouped::Optional => writer.write_vbr::<F, Option<N>>(optional(value)?),
+    })
 }
 
 /// A call at one of these sizes of groups.
 macro_rules! at_field {
-    ($field:ident, $call:ident::<$type:ty>, $arguments:tt, $($width:literal)+) => {
+    ($field:ident, $call:ident, $unsigned:ty, $signed:ty, $arguments:tt, $($width:literal)+) => {
         match $field {
-            $($width => $call::<Bits<$width>, $type, _>$arguments,)+
+            $($width => $call::<Bits<$width>, $unsigned, $signed, NonZero<$unsigned>, _>$arguments,)+
             _ => Err(Objection::NotYet),
         }
     };
 }
 
-/// A call for one of five types, by their size, at a size of groups that the rows have of it.
+/// A call for types of a size, in groups of a size that the rows have of it.
 macro_rules! in_fields {
-    ($size:ident, $field:ident, $call:ident, $a:ty, $b:ty, $c:ty, $d:ty, $e:ty, $arguments:tt) => {
+    ($size:ident, $field:ident, $call:ident, $arguments:tt) => {
         match $size {
-            Size::Bits8 => at_field!($field, $call::<$a>, $arguments, 2 3 4 5 6 7),
-            Size::Bits16 => at_field!($field, $call::<$b>, $arguments, 2 3 4 5 8 9 15),
-            Size::Bits32 => at_field!($field, $call::<$c>, $arguments, 2 3 4 7 8 9 16 31),
-            Size::Bits64 => at_field!($field, $call::<$d>, $arguments, 2 3 4 5 8 16 33 63),
-            Size::Bits128 => at_field!($field, $call::<$e>, $arguments, 2 3 4 8 9 64 65 127),
+            Size::Bits8 => at_field!($field, $call, u8, i8, $arguments, 2 3 4 5 6 7),
+            Size::Bits16 => at_field!($field, $call, u16, i16, $arguments, 2 3 4 5 8 9 15),
+            Size::Bits32 => at_field!($field, $call, u32, i32, $arguments, 2 3 4 7 8 9 16 31),
+            Size::Bits64 => at_field!($field, $call, u64, i64, $arguments, 2 3 4 5 8 16 33 63),
+            Size::Bits128 => at_field!($field, $call, u128, i128, $arguments, 2 3 4 8 9 64 65 127),
         }
     };
 }
@@ -90,135 +96,19 @@ pub fn read_variable<R: BitRead>(
     alloc: Global,
     reader: &mut R,
     value: Grouped,
-    field: u32,
-) -> Result<String, Objection> {
-    match value {
-        Grouped::Number(Number::Unsigned(size)) => read_unsigned(alloc, reader, size, field),
-        Grouped::Number(Number::Signed(size)) => read_signed(alloc, reader, size, field),
-        Grouped::NonZero(size) => read_non_zero(alloc, reader, size, field),
-        Grouped::Optional(size) => read_optional(alloc, reader, size, field),
-    }
-}
-
-fn read_unsigned<R: BitRead>(
-    alloc: Global,
-    reader: &mut R,
     size: Size,
     field: u32,
 ) -> Result<String, Objection> {
-    in_fields!(
-        size,
-        field,
-        read_in,
-        u8,
-        u16,
-        u32,
-        u64,
-        u128,
-        (alloc, reader)
-    )
-}
-
-fn read_signed<R: BitRead>(
-    alloc: Global,
-    reader: &mut R,
-    size: Size,
-    field: u32,
-) -> Result<String, Objection> {
-    in_fields!(
-        size,
-        field,
-        read_in,
-        i8,
-        i16,
-        i32,
-        i64,
-        i128,
-        (alloc, reader)
-    )
-}
-
-fn read_non_zero<R: BitRead>(
-    alloc: Global,
-    reader: &mut R,
-    size: Size,
-    field: u32,
-) -> Result<String, Objection> {
-    in_fields!(
-        size, field, read_in,
-        NonZero<u8>, NonZero<u16>, NonZero<u32>, NonZero<u64>, NonZero<u128>,
-        (alloc, reader)
-    )
-}
-
-fn read_optional<R: BitRead>(
-    alloc: Global,
-    reader: &mut R,
-    size: Size,
-    field: u32,
-) -> Result<String, Objection> {
-    in_fields!(
-        size, field, read_optional_in,
-        NonZero<u8>, NonZero<u16>, NonZero<u32>, NonZero<u64>, NonZero<u128>,
-        (alloc, reader)
-    )
+    in_fields!(size, field, read_in, (alloc, reader, value))
 }
 
 /// Writes the value that a text spells in groups of so many bits.
 pub fn write_variable<W: BitWrite>(
     writer: &mut W,
     kind: Grouped,
+    size: Size,
     field: u32,
     value: &str,
 ) -> Answer {
-    match kind {
-        Grouped::Number(Number::Unsigned(size)) => write_unsigned(writer, size, field, value),
-        Grouped::Number(Number::Signed(size)) => write_signed(writer, size, field, value),
-        Grouped::NonZero(size) => write_non_zero(writer, size, field, value),
-        Grouped::Optional(size) => write_optional(writer, size, field, value),
-    }
-}
-
-fn write_unsigned<W: BitWrite>(writer: &mut W, size: Size, field: u32, value: &str) -> Answer {
-    in_fields!(
-        size,
-        field,
-        write_in,
-        u8,
-        u16,
-        u32,
-        u64,
-        u128,
-        (writer, value)
-    )
-}
-
-fn write_signed<W: BitWrite>(writer: &mut W, size: Size, field: u32, value: &str) -> Answer {
-    in_fields!(
-        size,
-        field,
-        write_in,
-        i8,
-        i16,
-        i32,
-        i64,
-        i128,
-        (writer, value)
-    )
-}
-
-fn write_non_zero<W: BitWrite>(writer: &mut W, size: Size, field: u32, value: &str) -> Answer {
-    in_fields!(
-        size, field, write_in,
-        NonZero<u8>, NonZero<u16>, NonZero<u32>, NonZero<u64>, NonZero<u128>,
-        (writer, value)
-    )
-}
-
-fn write_optional<W: BitWrite>(writer: &mut W, size: Size, field: u32, value: &str) -> Answer {
-    in_fields!(
-        size, field, write_optional_in,
-        NonZero<u8>, NonZero<u16>, NonZero<u32>, NonZero<u64>, NonZero<u128>,
-        (writer, value)
-    )
+    in_fields!(size, field, write_in, (writer, kind, value))
 }

@@ -45,7 +45,7 @@ pub fn write_call<W: BitWrite>(
         Form::Skip | Form::Vector => Err(Objection::BAD_FORM),
         Form::Unary(stop) => Ok(write_unary(writer, stop, bits)),
         Form::Value(number) => write_number(writer, number, bits, value),
-        Form::Variable(kind, field) => write_variable(writer, kind, field, value),
+        Form::Variable(kind, size, field) => write_variable(writer, kind, size, field, value),
         Form::Whole(order, number) => write_whole(writer, order, number, value),
         Form::Word(number) => write_word(writer, number, bits, value),
     };
