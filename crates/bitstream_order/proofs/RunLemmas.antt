@@ -16,6 +16,7 @@ use Rattle.bitstream_number.proofs.WordLemmas.{length-word, bits-append}
 use Rattle.bitstream_order.specs.Parts.{first_part, piece}
 use Rattle.bitstream_order.specs.Port.{PortState, Fetched}
 use Rattle.bitstream_order.specs.Refusal.{Refusal}
+use Rattle.bitstream_order.specs.declared.unary.Run.{Run}
 use Rattle.bitstream_order.specs.TakeRun.{TakesBetween, TakesLongRun, RefusesRun, TakesRun}
 use Rattle.bitstream_order.proofs.PieceLemmas.{piece_more, first_bits, take_less}
 
@@ -182,6 +183,6 @@ module _ (o : Order) (stop : Bool) (x : List Bool) (old : PortState) where
       }
 
 -- what the exit of a `?` returns
-pub run_refused : (may : Refusal → Type 0) (o : Order) (stop : Bool) (x : List Bool) (old new : PortState) (error : Error) (r : Result (Option (ℕ × ℕ × ℕ)) Error) → IsErrAnd r (λ y. y ≡ error) → RefusesRun may o stop x old error new → TakesRun may o stop x old r new
+pub run_refused : (may : Refusal → Type 0) (o : Order) (stop : Bool) (x : List Bool) (old new : PortState) (error : Error) (r : Result (Option Run) Error) → IsErrAnd r (λ y. y ≡ error) → RefusesRun may o stop x old error new → TakesRun may o stop x old r new
 run_refused may o stop x old new error (Ok a) is h = absurd is
 run_refused may o stop x old new error (Err y) is h = subst (λ z. RefusesRun may o stop x old z new) (sym is) h

@@ -7,6 +7,7 @@ use Rattle.bitstream_number.specs.Word.{Order, word, bits}
 use Rattle.bitstream_order.specs.Parts.{first_part}
 use Rattle.bitstream_order.specs.Port.{PortState, Fetched, FetchRefused}
 use Rattle.bitstream_order.specs.Refusal.{Refusal}
+use Rattle.bitstream_order.specs.declared.unary.Run.{Run}
 
 -- one byte was fetched, or its request refused
 abbrev pub FetchesByte : (Refusal → Type 0) → PortState → Result ℕ Error → PortState → Type 0
@@ -38,9 +39,10 @@ pub record RefusesRun (may : Refusal → Type 0) (o : Order) (stop : Bool) (x : 
   pub takes : TakesBetween o x old (replicate count (not stop)) [] mid
   pub refused : FetchRefused may error mid 1 new
 
--- A run with the bits x in front: so many digits and the stop digit, with a byte whose first bits are those left, and how many they are;
+-- A run with the bits x in front: so many digits and the stop digit, and what is left behind it;
 -- none where the run is too long; or the refusal of a byte.
-abbrev pub TakesRun : (Refusal → Type 0) → Order → Bool → List Bool → PortState → Result (Option (ℕ × ℕ × ℕ)) Error → PortState → Type 0
-TakesRun may o stop x old (Ok (Some r)) new = TakesBetween o x old (unary stop r.0) (word o r.2 (first_part o r.1 8 r.2)) new
+abbrev pub TakesRun : (Refusal → Type 0) → Order → Bool → List Bool → PortState → Result (Option Run) Error → PortState → Type 0
+TakesRun may o stop x old (Ok (Some r)) new =
+    TakesBetween o x old (unary stop r.count) (word o r.waiting (first_part o r.left 8 r.waiting)) new
 TakesRun may o stop x old (Ok None) new = TakesLongRun o stop x old new
 TakesRun may o stop x old (Err error) new = RefusesRun may o stop x old error new

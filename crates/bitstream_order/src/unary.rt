@@ -28,10 +28,20 @@ fn fetch_byte<S: Source>(port: &mut Port<S>) -> Result<u8, Error>
     Ok(byte[0])
 }
 
+/// A run of bits before a stop bit, and what is left of the byte that holds the stop bit.
+#[derive(Clone, Copy, Drop)]
+pub struct Run {
+    /// How many bits came before the stop bit.
+    pub count: u32,
+    /// A byte whose first bits are those left.
+    pub left: u8,
+    /// How many bits are left.
+    pub waiting: u32,
+}
+
 /// Takes bits up to and with the first one that is `stop`: the first `queued` bits of a byte, and
-/// then those of the bytes of the stream, one byte a turn. Returns how many bits came before the stop
-/// bit, a byte whose first bits are those left, and how many these are; or `None` where 2^32 bits came
-/// before any stop bit.
+/// then those of the bytes of the stream, one byte a turn. Returns the run; or `None` where 2^32 bits
+/// came before any stop bit.
 ///
 /// # Errors
 ///
@@ -43,21 +53,24 @@ pub fn take_run<S: Source, E: Endianness>(
     queue: u8,
     queued: u32,
     stop: bool,
-) -> Result<Option<(u32, u8, u32)>, Error>
+) -> Result<Option<Run>, Error>
     requires { queued < 8 }
     ensures takes { TakesRun (MayRefuse S.remaining S.refuses) E.order stop
         (word E.order queued (first_part E.order queue 8 queued))
         (port_state S.remaining S.reference_names port.old) result
         (port_state S.remaining S.reference_names port.new) }
-    ensures few { IfOk result (λ answer. IfSome answer (λ r. r.2 < 8)) }
+    ensures few { IfOk result (λ answer. IfSome answer (λ run. run.waiting < 8)) }
     ensures turns { OnOk result (turns.new.count
         ≡ turns.old.count + (fetched_count port.new - fetched_count port.old) + 1) }
 {
     turns.add(1);
     let first = E::run(queue, stop);
     if first < queued {
-        let rest = E::rest(E::rest(queue, first), 1);
-        return Ok(Some((first, rest, queued - first - 1)));
+        return Ok(Some(Run {
+            count: first,
+            left: E::rest(E::rest(queue, first), 1),
+            waiting: queued - first - 1,
+        }));
     }
     let mut count = queued;
     loop {
@@ -68,8 +81,11 @@ pub fn take_run<S: Source, E: Endianness>(
             return Ok(None);
         };
         if run < 8 {
-            let rest = E::rest(E::rest(byte, run), 1);
-            return Ok(Some((more, rest, 7 - run)));
+            return Ok(Some(Run {
+                count: more,
+                left: E::rest(E::rest(byte, run), 1),
+                waiting: 7 - run,
+            }));
         }
         count = more;
     }

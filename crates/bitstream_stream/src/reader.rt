@@ -349,12 +349,12 @@ impl<R: Source, E: Endianness> BitRead for BitReader<R, E> {
         self.queued = 0;
         self.failed = true;
         match take_run::<R, E>(&mut self.port, &mut self.turns, queue, queued, stop) {
-            Ok(Some((count, left, waiting))) => {
-                self.taken.add(count as u64 + 1);
-                self.queue = left;
-                self.queued = waiting;
+            Ok(Some(run)) => {
+                self.taken.add(run.count as u64 + 1);
+                self.queue = run.left;
+                self.queued = run.waiting;
                 self.failed = false;
-                Ok(count)
+                Ok(run.count)
             }
             Ok(None) => {
                 self.taken.add(1 << 32);

@@ -7,8 +7,8 @@ pub returns-then-first-queued-clause-takes : goal.returns-then-first-queued-clau
 returns-then-first-queued-clause-takes g c =
     let o = g.E.Endianness.order in
     let few = c.requires in
-    run_ends o c.args.stop _ _ 0 c.args.queue c.args.queued c.run-first.result c.run-first.result _ c.rest.result c.rest-rest.result _
-    (omega arith) c.run-first.ensures c.if-first-queued.true refl (omega arith) c.rest.ensures c.rest-rest.ensures (between_none o _ _)
+    run_ends o c.args.stop _ _ 0 c.args.queue c.args.queued c.run-first.result c.run-first.result _ c.rest.result c.rest-then-first-queued.result _
+    (omega arith) c.run-first.ensures c.if-first-queued.true refl (omega arith) c.rest.ensures c.rest-then-first-queued.ensures (between_none o _ _)
 
 pub loop-byte-init : goal.loop-byte-init
 loop-byte-init g c =
@@ -47,8 +47,8 @@ pub returns-then-run-lt8-clause-takes : goal.returns-then-run-lt8-clause-takes
 returns-then-run-lt8-clause-takes g c =
     let o = g.E.Endianness.order in
     let less = c.if-run-lt8.true in
-    run_ends o c.args.stop _ _ c.loop-byte.count c.in_ok-byte.byte 8 c.run-run.result c.in-Some.more _ c.rest-then-run-lt8.result c.rest-rest-then-run-lt8.result _
-    (omega arith) c.run-run.ensures less (omega arith) (search rules) c.rest-then-run-lt8.ensures c.rest-rest-then-run-lt8.ensures (byte_waits o _ _ c.in_ok-byte.byte _ _ _ c.loop-byte.invariant.takes c.in_ok-byte.ensures)
+    run_ends o c.args.stop _ _ c.loop-byte.count c.in_ok-byte.byte 8 c.run-run.result c.in-Some.more _ c.rest-then-run-lt8.result c.rest-then-run-lt8-2.result _
+    (omega arith) c.run-run.ensures less (omega arith) (search rules) c.rest-then-run-lt8.ensures c.rest-then-run-lt8-2.ensures (byte_waits o _ _ c.in_ok-byte.byte _ _ _ c.loop-byte.invariant.takes c.in_ok-byte.ensures)
 
 pub loop-byte-preserved : goal.loop-byte-preserved
 loop-byte-preserved g c =
