@@ -152,6 +152,20 @@ module _ (o : Order) (field size limit : ℕ) (wide : 2 ≤ field) (within : fie
     on_failed = chain-failed (takes field (λ w. Ok (number o w))) (behind_group o field size limit value shift) ∙ sym (rest-on_failed value shift);
   })
 
+-- ---- a group that was read as a byte
+
+pub short_group-stops : {R : Type 0} {K : BitSource R} {s t : R} (o : Order) (field size : ℕ) (x : Error) → field ≤ 8 → field ≤ size → Reads K (unsigned_entry o 8 field) s (Err x) t → Reads K (unsigned_entry o size field) s (Err x) t
+short_group-stops {K = K} {s = s} {t = t} o field size x short within h =
+    subst (λ e. Reads K e s (Err x) t) (unsigned-takes o 8 field short ∙ sym (unsigned-takes o size field within)) h
+
+-- it is its byte's number in the wider type
+pub short_group-takes : {R : Type 0} {K : BitSource R} {s t : R} (o : Order) (field size v w : ℕ) → field ≤ 8 → field ≤ size → (v < 256 → w ≡ v) → Reads K (unsigned_entry o 8 field) s (Ok v) t → Reads K (unsigned_entry o size field) s (Ok w) t
+short_group-takes {K = K} {s = s} {t = t} o field size v w short within same h =
+    let wide : 2 ^ field ≤ 256 = pow-le-pow_right (omega arith) short in
+    let below : v < 256 = omega (arith, wide, unsigned-below o 8 field v h) in
+    subst (λ k. Reads K (unsigned_entry o size field) s (Ok k) t) (sym (same below))
+    (subst (λ e. Reads K e s (Ok v) t) (unsigned-takes o 8 field short ∙ sym (unsigned-takes o size field within)) h)
+
 -- ---- the loop
 
 -- what is read of the rest is what the call reads

@@ -321,7 +321,11 @@ pub trait BitRead {
         let mut value = U::ZERO;
         let mut shift = 0;
         while shift < U::BITS_SIZE {
-            let group: U = self.read_unsigned::<F, U>()?;
+            let group: U = if F::BITS > 8 {
+                self.read_unsigned::<F, U>()?
+            } else {
+                U::from_u8(self.read_unsigned::<F, u8>()?)
+            };
             let digits = group & mask;
             let placed = digits << shift;
             value |= placed;
