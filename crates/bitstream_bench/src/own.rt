@@ -156,16 +156,23 @@ fn reads_each<R: BitRead>(reader: &mut R) -> Result<bool, Error> {
     Ok(groups_read && bytes_read && words_read)
 }
 
+/// Whether a reader is at the end of its bytes, and fails there.
+fn ends<R: BitRead>(reader: &mut R) -> bool {
+    matches!(reader.read_bit(), Err(Error::EndOfInput))
+        && matches!(reader.read_var::<bool>(2), Err(Error::Failed))
+}
+
+/// Whether a reader and one of one's own read each call the same.
+fn inherits_reads(bytes: &[u8]) -> Result<bool, Error> {
+    let mut own = OwnReader {
+        inner: BitReader::<_, BE>::new(bytes),
+    };
+    Ok(reads_each(&mut BitReader::<_, BE>::new(bytes))? && reads_each(&mut own)? && ends(&mut own))
+}
+
 #[test]
 fn inherited_reads_are_the_same(rt: HostRuntime) -> Result<(), Fail> {
-    let bytes = WRITTEN;
-    assert!(rt; reads_each(&mut BitReader::<_, BE>::new(&bytes[..]))?);
-    let mut own = OwnReader {
-        inner: BitReader::<_, BE>::new(&bytes[..]),
-    };
-    assert!(rt; reads_each(&mut own)?);
-    assert!(rt; matches!(own.read_bit(), Err(Error::EndOfInput)));
-    assert!(rt; matches!(own.read_var::<bool>(2), Err(Error::Failed)));
+    assert!(rt; inherits_reads(&WRITTEN)?);
     Ok(())
 }
 
