@@ -12,6 +12,9 @@ use Rattle.bitstream_count.specs.declared.error.Error.{Error}
 use Rattle.bitstream_count.specs.Vbr.{vbr_word}
 use Rattle.bitstream_count.proofs.VbrLemmas.{vbr_word_small, vbr_word_large}
 use Rattle.bitstream_order.specs.Refusal.{Refusal}
+use Rattle.bitstream_order.specs.Parts.{put_number}
+use Rattle.bitstream_order.proofs.PartLemmas.{put_word, put_below}
+use Rattle.bitstream_order.proofs.TakeLemmas.{word-none}
 use Rattle.bitstream_stream.specs.Carries.{WriterState}
 use Rattle.bitstream_stream.specs.Sink.{Sink, Writes, IsWithin}
 use Rattle.bitstream_stream.specs.Writer.{queue_sink, Pushes}
@@ -139,6 +142,86 @@ module _ {S : Type 0} (K : Sink S) (field size m v : ℕ) (wide : 2 ≤ field) (
         let all : vbr_word K.order field v ≡ b.word ++ x = sym b.parts ∙ ap (λ l. b.word ++ l) (last_group K.order field m wide payload rest small) in
         last K (unsigned K.order size field rest) (vbr K.order field v) old mid r new b.word x (begun b.done) w
         (unsigned-fits K.order size field rest (K.len mid) within (last_fits K.order field m wide payload rest small)) (ap Ok all) (subst (λ l. IsWithin K.limit (K.len old + length l)) all room)
+
+-- ---- the loop that gathers groups
+
+-- the first groups of v were written or are gathered as a number of `bits` bits, and those of the rest are to follow
+pub record GroupsGathered {S : Type 0} (K : Sink S) (field v : ℕ) (old : S) (rest : ℕ) (mid : S) (bits gathered : ℕ) : Type 0 where
+  pub front : List Bool
+  pub done : Begun K old front mid
+  pub parts : front ++ (word K.order bits gathered ++ vbr_word K.order field rest) ≡ vbr_word K.order field v
+  pub below : gathered < 2 ^ bits
+
+module _ {S : Type 0} (K : Sink S) (field size m v : ℕ) (wide : 2 ≤ field) (within : field ≤ size) (payload : m ≡ field - 1) where
+  pub gathered-start : (old mid : S) (gathered : ℕ) → gathered ≡ 0 → Begun K old [] mid → GroupsGathered K field v old v mid 0 gathered
+  gathered-start old mid gathered none b = record { front = []; done = b; parts = ap (λ l. l ++ vbr_word K.order field v) (word-none K.order gathered); below = omega (arith, none) }
+
+  module _ (old mid : S) (rest bits gathered : ℕ) (b : GroupsGathered K field v old rest mid bits gathered) where
+    -- another group is gathered
+    pub gathered-more : (n group next made : ℕ) → n ≡ field → 2 ^ m ≤ rest → group ≡ 2 ^ m + rest % 2 ^ m → next ≡ rest / 2 ^ m → made ≡ put_number K.order gathered bits group n → GroupsGathered K field v old next mid (bits + n) made
+    gathered-more n group next made one large is shifted put =
+        let o = K.order in
+        let small : group < 2 ^ n = subst (λ k. group < 2 ^ k) (sym one) (group_fits o field m wide payload rest group is) in
+        let z = vbr_word o field next in
+        let joined : word o (bits + n) made ≡ word o bits gathered ++ word o n group = ap (word o (bits + n)) put ∙ put_word o gathered bits group n b.below small in
+        let all : vbr_word o field rest ≡ word o n group ++ z = next_group o field m wide payload rest group next large is shifted ∙ ap (λ k. word o k group ++ z) (sym one) in
+        record {
+          front = b.front;
+          done = b.done;
+          parts = ap (λ l. b.front ++ l) (ap (λ l. l ++ z) joined ∙ append_assoc (word o bits gathered) (word o n group) z ∙ ap (λ l. word o bits gathered ++ l) (sym all)) ∙ b.parts;
+          below = subst (λ k. k < 2 ^ (bits + n)) (sym put) (put_below o gathered bits group n b.below small);
+        }
+
+    -- what was gathered is written
+    pub gathered-sent : {T : Type 0} (r : Result T Error) (new : S) (t : T) (none : ℕ) → none ≡ 0 → bits ≤ size → Writes K (unsigned K.order size bits gathered) mid r new → r ≡ Ok t → GroupsGathered K field v old rest new 0 none
+    gathered-sent r new t none is room w q =
+        let o = K.order in
+        let x = word o bits gathered in
+        record {
+          front = b.front ++ x;
+          done = Begun-more K old mid new b.front x b.done (from_ok K (unsigned o size bits gathered) mid r new t x w q (unsigned-fits o size bits gathered (K.len mid) room b.below));
+          parts = ap (λ l. (b.front ++ x) ++ (l ++ vbr_word o field rest)) (word-none o none) ∙ append_assoc b.front x (vbr_word o field rest) ∙ b.parts;
+          below = omega (arith, is);
+        }
+
+    -- it was refused
+    pub gathered-stop : {T V : Type 0} (r : Result T Error) (new : S) (r' : Result V Error) (d : Error) → bits ≤ size → Writes K (unsigned K.order size bits gathered) mid r new → r ≡ Err d → r' ≡ Err d
+        → IsWithin K.limit (K.len old + length (vbr_word K.order field v)) → Writes K (vbr K.order field v) old r' new
+    gathered-stop r new r' d room w q q' limit =
+        let o = K.order in
+        let x = word o bits gathered in
+        stop_later K (unsigned o size bits gathered) (vbr o field v) old mid r r' new d b.front x (vbr_word o field rest) b.done w q q'
+        (unsigned-fits o size bits gathered (K.len mid) room b.below) (ap Ok (sym b.parts)) (subst (λ l. IsWithin K.limit (K.len old + length l)) (sym b.parts) limit)
+
+    -- the last group where nothing is gathered, whatever the call answers
+    pub gathered-none : {T : Type 0} (r : Result T Error) (new : S) → bits ≡ 0 → rest < 2 ^ m → Writes K (unsigned K.order size field rest) mid r new → IsWithin K.limit (K.len old + length (vbr_word K.order field v)) → Writes K (vbr K.order field v) old r new
+    gathered-none r new none small w limit =
+        let o = K.order in
+        let x = word o field rest in
+        let nil : word o bits gathered ≡ [] = ap (λ k. word o k gathered) none ∙ word-none o gathered in
+        let all : vbr_word o field v ≡ b.front ++ x = sym b.parts ∙ ap₂ (λ i j. b.front ++ (i ++ j)) nil (last_group o field m wide payload rest small) in
+        last K (unsigned o size field rest) (vbr o field v) old mid r new b.front x (begun b.done) w
+        (unsigned-fits o size field rest (K.len mid) within (last_fits o field m wide payload rest small)) (ap Ok all) (subst (λ l. IsWithin K.limit (K.len old + length l)) all limit)
+
+    -- the number of the last group behind what was gathered
+    pub gathered-below : (n made : ℕ) → n ≡ field → rest < 2 ^ m → made ≡ put_number K.order gathered bits rest n → made < 2 ^ (bits + n)
+    gathered-below n made one small put =
+        let part : rest < 2 ^ n = subst (λ k. rest < 2 ^ k) (sym one) (last_fits K.order field m wide payload rest small) in
+        subst (λ k. k < 2 ^ (bits + n)) (sym put) (put_below K.order gathered bits rest n b.below part)
+
+    -- that number is written, whatever the call answers
+    pub gathered-last : {T : Type 0} (r : Result T Error) (new : S) (n made : ℕ) → n ≡ field → rest < 2 ^ m → made ≡ put_number K.order gathered bits rest n → bits + n ≤ size → Writes K (unsigned K.order size (bits + n) made) mid r new
+        → IsWithin K.limit (K.len old + length (vbr_word K.order field v)) → Writes K (vbr K.order field v) old r new
+    gathered-last r new n made one small put room w limit =
+        let o = K.order in
+        let x = word o (bits + n) made in
+        let part : rest < 2 ^ n = subst (λ k. rest < 2 ^ k) (sym one) (last_fits o field m wide payload rest small) in
+        let whole = gathered-below n made one small put in
+        let joined : x ≡ word o bits gathered ++ word o n rest = ap (word o (bits + n)) put ∙ put_word o gathered bits rest n b.below part in
+        let ends : vbr_word o field rest ≡ word o n rest = last_group o field m wide payload rest small ∙ ap (λ k. word o k rest) (sym one) in
+        let all : vbr_word o field v ≡ b.front ++ x = sym b.parts ∙ ap (λ l. b.front ++ (word o bits gathered ++ l)) ends ∙ ap (λ l. b.front ++ l) (sym joined) in
+        last K (unsigned o size (bits + n) made) (vbr o field v) old mid r new b.front x (begun b.done) w
+        (unsigned-fits o size (bits + n) made (K.len mid) room whole) (ap Ok all) (subst (λ l. IsWithin K.limit (K.len old + length l)) all limit)
 
 -- ---- a group that was pushed behind a writer's queue
 

@@ -411,12 +411,24 @@ impl<W: Target, E: Endianness> BitWrite for BitWriter<W, E> {
         let payload = F::BITS - 1;
         let more = U::ONE << payload;
         let mask = more - U::ONE;
+        let mut word = U::ZERO;
+        let mut bits = 0;
         let mut rest = value;
         while rest >> payload != U::ZERO {
-            self.push(more | (rest & mask), F::BITS)?;
+            word = E::put(word, bits, more | (rest & mask), F::BITS);
+            bits += F::BITS;
             rest >>= payload;
+            if bits > U::BITS_SIZE - F::BITS {
+                self.push(word, bits)?;
+                word = U::ZERO;
+                bits = 0;
+            }
         }
-        self.push(rest, F::BITS)
+        if bits == 0 {
+            self.push(rest, F::BITS)
+        } else {
+            self.push(E::put(word, bits, rest, F::BITS), bits + F::BITS)
+        }
     }
 
     fn byte_aligned(&self) -> bool {

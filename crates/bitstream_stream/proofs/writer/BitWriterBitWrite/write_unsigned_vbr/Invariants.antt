@@ -1,10 +1,10 @@
-use Rattle.std.proofs.Common.{◌≡◌, ◌-◌, ◌^◌}
+use Rattle.std.proofs.Common.{◌≡◌, ◌+◌, ◌-◌, ◌^◌, ◌≤◌}
 use Rattle.bitstream_order.specs.Refusal.{MayRefuse}
 use Rattle.bitstream_stream.specs.Writer.{writer_state, queue_sink}
-use Rattle.bitstream_stream.proofs.VbrWrites.{GroupsBegun}
+use Rattle.bitstream_stream.proofs.VbrWrites.{GroupsGathered}
 use Rattle.bitstream_stream.proofs.writer.BitWriterBitWrite.write_unsigned_vbr.Given as goal
 
--- the first groups were written
+-- the first groups were written or are gathered, and there is room to gather another
 abbrev pub invariant-loop-more : goal.invariant-loop-more
 invariant-loop-more g l =
     let target = g.W.Target in
@@ -13,7 +13,8 @@ invariant-loop-more g l =
     record {
       more : u.value l.more ≡ 2 ^ l.payload;
       mask : u.value l.mask ≡ 2 ^ l.payload - 1;
-      groups : GroupsBegun (queue_sink (MayRefuse target.contents target.refuses) g.E.Endianness.order) g.F.Width.BITS (u.value l.fn.value) (state l.fn.self) (u.value l.rest) (state l.self);
+      room : l.bits + g.F.Width.BITS ≤ g.U.Numeric.BITS_SIZE;
+      groups : GroupsGathered (queue_sink (MayRefuse target.contents target.refuses) g.E.Endianness.order) g.F.Width.BITS (u.value l.fn.value) (state l.fn.self) (u.value l.rest) (state l.self) l.bits (u.value l.word);
     }
 
 abbrev pub decreases-loop-more : goal.decreases-loop-more
