@@ -12,8 +12,8 @@ pub invariant_of-self : goal.invariant_of-self
 invariant_of-self g c =
     let o = g.E.Endianness.order in
     let queued = c.args.self.now.queued in
-    let f = run_fetched o queued _ _ c.in-Ok-Some.count c.in-Ok-Some.waiting _ _ _ (rw c.in-Ok-Some.field-0-is at c.in-Ok-Some.ensures.takes) in
-    let few : c.in-Ok-Some.waiting < 8 = rw c.in-Ok-Some.field-0-is at c.in-Ok-Some.ensures.few in
+    let f = run_fetched o queued _ _ c.in-Ok-Some.run'.count c.in-Ok-Some.run'.waiting _ _ _ (rw c.in-Ok-Some.field-0-is at c.in-Ok-Some.ensures.takes) in
+    let few : c.in-Ok-Some.run'.waiting < 8 = rw c.in-Ok-Some.field-0-is at c.in-Ok-Some.ensures.few in
     let back = c.args.self.now.back c.if-self.false in
     let taken = c.add.ensures in
     record {
@@ -42,9 +42,9 @@ returns-in-Ok-Some-clause-reads g c =
     let stop = c.BITS-stop.result == 1 in
     let p = port_state g.R.Source.remaining g.R.Source.reference_names c.args.self.now.port in
     let q = port_state g.R.Source.remaining g.R.Source.reference_names c.take_run.new.port in
-    let few : c.in-Ok-Some.count < 2 ^ 32 = search rules in
+    let few : c.in-Ok-Some.run'.count < 2 ^ 32 = search rules in
     unary-as stop _ (ap (λ n. n == 1) c.BITS-stop.ensures)
-    (takes_front (run_answered g.E.Endianness.order stop p q _ _ _ _ _ c.in-Ok-Some.count _ _ _ c.if-self.false refl few c.add.ensures (rw c.in-Ok-Some.field-0-is at c.in-Ok-Some.ensures.takes)))
+    (takes_front (run_answered g.E.Endianness.order stop p q _ _ _ _ _ c.in-Ok-Some.run'.count _ _ _ c.if-self.false refl few c.add.ensures (rw c.in-Ok-Some.field-0-is at c.in-Ok-Some.ensures.takes)))
 
 pub returns-in-Ok-None-clause-reads : goal.returns-in-Ok-None-clause-reads
 returns-in-Ok-None-clause-reads g c =
