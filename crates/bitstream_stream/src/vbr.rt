@@ -1,5 +1,5 @@
-//! How long a number of variable width is.
-ghost use Rattle.std.specs.Prelude.{◌≡◌, ℕ, ◌<◌, ◌≤◌, length};
+//! How long a number of variable width is, and in what parts it goes.
+ghost use Rattle.std.specs.Prelude.{◌≡◌, ℕ, ◌+◌, ◌<◌, ◌≤◌, length};
 ghost use Rattle.bitstream_number.specs.Word.{Order};
 ghost use Rattle.bitstream_count.specs.Vbr.{vbr_word};
 
@@ -20,4 +20,18 @@ pub(crate) fn vbr_bits<F: Width, U: UnsignedInteger>(value: U) -> u32
         shift += payload;
     }
     bits
+}
+
+/// Returns behind how many bits of gathered groups no other is gathered. Groups of whole bytes go one
+/// by one, which leaves a queue as it is.
+#[inline(always)]
+pub(crate) fn most_gathered<F: Width, U: UnsignedInteger>() -> u32
+    requires { F.BITS < U.BITS_SIZE }
+    ensures { result + F.BITS ≤ U.BITS_SIZE }
+{
+    if F::BITS % 8 == 0 {
+        0
+    } else {
+        U::BITS_SIZE - F::BITS
+    }
 }

@@ -4,6 +4,7 @@ ghost use Rattle.std.specs.Prelude.{◌≡◌, ℕ, ◌+◌, ◌*◌, ◌<◌, �
 use crate::check::{check, check_signed};
 use crate::others::others;
 use crate::piece::PIECE;
+use crate::vbr::most_gathered;
 use crate::width::count_bits;
 use crate::write::BitWrite;
 use bitstream_count::count::{BitCount, Count, SignedCount};
@@ -411,6 +412,7 @@ impl<W: Target, E: Endianness> BitWrite for BitWriter<W, E> {
         let payload = F::BITS - 1;
         let more = U::ONE << payload;
         let mask = more - U::ONE;
+        let most = most_gathered::<F, U>();
         let mut word = U::ZERO;
         let mut bits = 0;
         let mut rest = value;
@@ -418,7 +420,7 @@ impl<W: Target, E: Endianness> BitWrite for BitWriter<W, E> {
             word = E::put(word, bits, more | (rest & mask), F::BITS);
             bits += F::BITS;
             rest >>= payload;
-            if bits > U::BITS_SIZE - F::BITS {
+            if bits > most {
                 self.push(word, bits)?;
                 word = U::ZERO;
                 bits = 0;

@@ -104,8 +104,8 @@ returns-in_err-push g c =
           (gathered-stop K field size m _ wide within payload _ _ _ _ _ gathered _ _ _ _ room written refl (p.1 ∙ ap Err p.2) tt);
     }
 
-pub loop-more-smaller-then-bits-BITS_SIZE : goal.loop-more-smaller-then-bits-BITS_SIZE
-loop-more-smaller-then-bits-BITS_SIZE g c =
+pub loop-more-smaller-then-bits-most : goal.loop-more-smaller-then-bits-most
+loop-more-smaller-then-bits-most g c =
     let may = MayRefuse g.W.Target.contents g.W.Target.refuses in
     let o = g.E.Endianness.order in
     let K = queue_sink may o in
@@ -127,8 +127,8 @@ loop-more-smaller-then-bits-BITS_SIZE g c =
     let some : 0 < m = omega (arith, payload, wide) in
     omega (arith, next, rest_less m rest some large)
 
-pub loop-more-preserved-then-bits-BITS_SIZE : goal.loop-more-preserved-then-bits-BITS_SIZE
-loop-more-preserved-then-bits-BITS_SIZE g c =
+pub loop-more-preserved-then-bits-most : goal.loop-more-preserved-then-bits-most
+loop-more-preserved-then-bits-most g c =
     let may = MayRefuse g.W.Target.contents g.W.Target.refuses in
     let o = g.E.Endianness.order in
     let K = queue_sink may o in
@@ -153,7 +153,7 @@ loop-more-preserved-then-bits-BITS_SIZE g c =
     let space = inv.room in
     let step = c.BITS-bits.ensures in
     let room : c.loop-more.bits + c.BITS-bits.result ≤ size = omega (arith, space, step) in
-    let none = ap u.value c.ZERO-word-then-bits-BITS_SIZE.ensures ∙ law.ZERO_value_law in
+    let none = ap u.value c.ZERO-word-then-bits-most.ensures ∙ law.ZERO_value_law in
     let written = group-pushed may o _ size _ _ _ (Ok _) _ refl room gathered.below inv.groups.done.done.sound c.in_ok-push.ensures.pushes in
     record {
       more = inv.more;
@@ -208,13 +208,12 @@ loop-more-preserved g c =
     let next = law.shr_law _ _ _ (g.met.U.Numeric.shr_assign_law _ _ _ c.shr_assign.ensures.after) in
     let put = c.put-word.ensures ∙ ap (put_number o (u.value c.loop-more.word) c.loop-more.bits (u.value c.bitor.result)) (c.BITS.ensures ∙ sym c.BITS-bits.ensures) in
     let gathered = gathered-more K field size m _ wide within payload _ _ rest _ _ inv.groups _ _ _ _ c.BITS-bits.ensures large group next put in
-    let few = c.if-bits-BITS_SIZE.false in
-    let whole = c.BITS_SIZE.ensures in
-    let part = c.BITS-in-loop-more.ensures in
+    let few = c.if-bits-most.false in
+    let most = c.most_gathered-most.ensures in
     record {
       more = inv.more;
       mask = inv.mask;
-      room = omega (arith, few, whole, part, within);
+      room = omega (arith, few, most);
       groups = gathered;
     }
 
