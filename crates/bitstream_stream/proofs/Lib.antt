@@ -6,6 +6,8 @@ pub mod ConstLemmas
 pub mod EntryLemmas
 pub mod GroupLemmas
 pub mod LawLemmas
+pub mod LentLemmas
+pub mod LentWalk
 pub mod ReaderLemmas
 pub mod ReadsLemmas
 pub mod Rows

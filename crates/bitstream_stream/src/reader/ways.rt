@@ -1,5 +1,6 @@
 //! The ways from a reader of bits to its stream, and to a reader of the stream's bytes.
 ghost use Rattle.std.specs.Prelude.{◌≡◌, ◌↔◌, ◌%◌, ◌∷◌, false, Ok, IsSome, IfSome};
+ghost use Rattle.std.specs.Option.{ghost_name_of};
 ghost use Rattle.bitstream_order.specs.Port.{fresh_port};
 ghost use Rattle.bitstream_stream.specs.ByteReader.{byte_reader_state};
 
@@ -12,7 +13,7 @@ use bitstream_order::order::Endianness;
 use bitstream_order::source::Source;
 
 impl<R: Source, E: Endianness> BitReader<R, E> {
-    ghost use Rattle.std.specs.Borrow.{Lends, LendsIf, sem};
+    ghost use Rattle.std.specs.Borrow.{Lends, LendsIf, follows_if, name_if_some, sem};
     ghost use Rattle.bitstream_stream.specs.Ways.{reader_stream, reader_with, aligned_reader, byte_reader_name};
     ghost use Rattle.bitstream_stream.specs.contracts.reader.BitReader.{the_row};
 
@@ -64,8 +65,21 @@ impl<R: Source, E: Endianness> BitReader<R, E> {
             ⟦<ByteReader<Lent<'a, R>, E> as ByteRead>⟧.source.state reader
             ≡ byte_reader_state (fresh_port (R.remaining (reader_stream self.old))
             (byte_reader_name reader ∷ R.reference_names (reader_stream self.old)))) }
+        ensures* writes_back { sem 𝓛 (follows_if (the_row R.row E.row) R.row self.entry.ghost_name
+            (name_if_some byte_reader_name result) (reader_with self.old) self.old) }
     {
-        match self.reader() {
+        Self::byte_reader_of(self.reader())
+    }
+
+    /// Returns a reader of the bytes of a stream that was lent, if one was.
+    fn byte_reader_of<'a>(stream: Option<&'a mut R>) -> Option<ByteReader<Lent<'a, R>, E>>
+        ensures name { name_if_some byte_reader_name result ≡ ghost_name_of stream.entry }
+        ensures state { IfSome stream.entry (λ lent. IfSome result (λ reader.
+            ⟦<ByteReader<Lent<'a, R>, E> as ByteRead>⟧.source.state reader
+            ≡ byte_reader_state (fresh_port (R.remaining lent.now)
+            (byte_reader_name reader ∷ R.reference_names lent.now)))) }
+    {
+        match stream {
             Some(stream) => Some(ByteReader::new(Lent::new(stream))),
             None => None,
         }

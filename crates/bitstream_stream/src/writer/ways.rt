@@ -1,5 +1,6 @@
 //! The ways from a writer of bits to its stream, and to a writer of the stream's bytes.
 ghost use Rattle.std.specs.Prelude.{◌≡◌, ◌↔◌, ◌%◌, ◌∷◌, false, Ok, IsSome, IfSome, IfOk, OnOk};
+ghost use Rattle.std.specs.Option.{ghost_name_of};
 ghost use Rattle.bitstream_order.specs.Port.{fresh_port};
 ghost use Rattle.bitstream_order.specs.Refusal.{MayRefuse};
 
@@ -12,7 +13,7 @@ use bitstream_order::order::Endianness;
 use bitstream_order::target::Target;
 
 impl<W: Target, E: Endianness> BitWriter<W, E> {
-    ghost use Rattle.std.specs.Borrow.{LendsIf, LendsSoOk, sem};
+    ghost use Rattle.std.specs.Borrow.{LendsIf, LendsSoOk, follows_if, name_if_some, sem};
     ghost use Rattle.bitstream_stream.specs.ByteWriter.{byte_writer_state};
     ghost use Rattle.bitstream_stream.specs.Writer.{writer_state};
     ghost use Rattle.bitstream_stream.specs.Ways.{writer_stream, writer_with, byte_writer_name, IsAlignedStream, EndsAligned, EndsUnaligned, Flushes};
@@ -70,8 +71,21 @@ impl<W: Target, E: Endianness> BitWriter<W, E> {
             ⟦<Lent<'a, W> as Target>⟧.reference_names writer
             ≡ fresh_port (W.contents (writer_stream self.old))
             (byte_writer_name writer ∷ W.reference_names (writer_stream self.old))) }
+        ensures* writes_back { sem 𝓛 (follows_if (the_row W.row E.row) W.row self.entry.ghost_name
+            (name_if_some byte_writer_name result) (writer_with self.old) self.old) }
     {
-        match self.writer() {
+        Self::byte_writer_of(self.writer())
+    }
+
+    /// Returns a writer of bytes to a stream that was lent, if one was.
+    fn byte_writer_of<'a>(stream: Option<&'a mut W>) -> Option<ByteWriter<Lent<'a, W>, E>>
+        ensures name { name_if_some byte_writer_name result ≡ ghost_name_of stream.entry }
+        ensures state { IfSome stream.entry (λ lent. IfSome result (λ writer.
+            byte_writer_state ⟦<Lent<'a, W> as Target>⟧.contents
+            ⟦<Lent<'a, W> as Target>⟧.reference_names writer
+            ≡ fresh_port (W.contents lent.now) (byte_writer_name writer ∷ W.reference_names lent.now))) }
+    {
+        match stream {
             Some(stream) => Some(ByteWriter::new(Lent::new(stream))),
             None => None,
         }
