@@ -7,6 +7,9 @@ use std::alloc::Global;
 use std::fmt::Display;
 use std::io::ErrorKind;
 
+/// What a write call answers, where its row spells one.
+pub type Answer = Result<Result<(), Error>, Objection>;
+
 /// The name of an error.
 pub fn error_name(error: Error) -> &'static str {
     match error {

@@ -88,7 +88,15 @@ impl<'a> Call<'a> {
         }
     }
 
-    /// What it answers on a stream that has failed.
+    /// Whether a call for whole bytes has any to move. One that has none asks the stream for nothing.
+    pub fn moves_bytes(&self) -> bool {
+        match self.form {
+            Form::Whole(_, _) => true,
+            _ => self.bits > 0 || !matches!(self.value, "" | "-"),
+        }
+    }
+
+    /// What it answers on a reader or writer of bits that has failed.
     pub fn answer_of_failed(&self, kind: Kind) -> &'static str {
         match (self.form, kind) {
             (Form::Aligned, _) => "no",

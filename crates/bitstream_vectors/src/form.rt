@@ -87,7 +87,7 @@ pub enum Form {
     Pad,
     /// A symbol of a tree.
     Prefix(Tree),
-    /// Bits that are skipped.
+    /// Bits, or bytes, that are skipped.
     Skip,
     /// Digits up to a stop digit.
     Unary(bool),

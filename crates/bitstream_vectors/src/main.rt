@@ -43,6 +43,7 @@ mod replay;
 mod row;
 mod symbols;
 mod variable;
+mod whole;
 mod writes;
 
 use objection::Objection;

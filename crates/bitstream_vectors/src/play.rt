@@ -1,12 +1,15 @@
 //! Plays of a row's calls over a stream.
-use crate::answer::error_name;
+use crate::answer::{accepted, error_name};
 use crate::call::Call;
 use crate::objection::{Difference, Objection, agrees};
 use crate::reads::read_call;
-use crate::row::{Kind, Order, Row};
+use crate::row::{Kind, Layer, Order, Row};
+use crate::whole::{read_whole, write_whole};
 use crate::writes::write_call;
 use bitstream_bench::{Count, Drip, Refuse};
-use bitstream_io::{BE, BitReader, BitWriter, Endianness, Error, LE, Source, Target};
+use bitstream_io::{
+    BE, BitReader, BitWriter, ByteReader, ByteWriter, Endianness, Error, LE, Source, Target,
+};
 use std::alloc::Global;
 use std::io::{ErrorKind, Read, Write};
 
@@ -41,15 +44,25 @@ impl Fault {
             (_, kind) => error_name(Error::Stream(kind)),
         }
     }
+
+    /// What a call behind that one answers: on a reader or writer of bits, that it has failed; on
+    /// one of bytes the refusal again, unless it asks for nothing.
+    fn later_answer<'a>(self, row: &Row<'_>, call: &Call<'a>) -> &'a str {
+        match row.layer {
+            Layer::Bits => call.answer_of_failed(row.kind),
+            Layer::Bytes if call.moves_bytes() => self.answer(row.kind),
+            Layer::Bytes => call.answer,
+        }
+    }
 }
 
 impl Way {
-    /// What a call answers on such a stream: on one that refuses, the answer of the row before the
-    /// call that is refused, that of the refusal there, and that of a failed stream behind it.
-    fn answer<'a>(self, kind: Kind, at: usize, call: &Call<'a>) -> &'a str {
+    /// What a call of a row answers on such a stream: on one that refuses, the answer of the row
+    /// before the call that is refused, that of the refusal there, and what it leads to behind it.
+    fn answer<'a>(self, row: &Row<'_>, at: usize, call: &Call<'a>) -> &'a str {
         match self {
-            Way::Refused(fault) if at == fault.call => fault.answer(kind),
-            Way::Refused(fault) if fault.call < at => call.answer_of_failed(kind),
+            Way::Refused(fault) if at == fault.call => fault.answer(row.kind),
+            Way::Refused(fault) if fault.call < at => fault.later_answer(row, call),
             _ => call.answer,
         }
     }
@@ -75,7 +88,7 @@ pub struct Moved {
     pub bytes: usize,
 }
 
-/// A reader or writer of bits on which calls are made.
+/// A reader or writer on which calls are made.
 trait Stage {
     /// Makes a call, and spells its answer.
     fn call(&mut self, alloc: Global, call: &Call<'_>) -> Result<String, Objection>;
@@ -93,28 +106,42 @@ impl<W: Target, E: Endianness> Stage for BitWriter<W, E> {
     }
 }
 
-/// Makes calls one behind the other, and objects to the first answer that differs.
+impl<R: Source, E: Endianness> Stage for ByteReader<R, E> {
+    fn call(&mut self, alloc: Global, call: &Call<'_>) -> Result<String, Objection> {
+        read_whole(alloc, self, call)
+    }
+}
+
+impl<W: Target, E: Endianness> Stage for ByteWriter<W, E> {
+    fn call(&mut self, alloc: Global, call: &Call<'_>) -> Result<String, Objection> {
+        accepted(alloc, write_whole(alloc, self, call)?)
+    }
+}
+
+/// Makes calls of a row one behind the other, and objects to the first answer that differs.
 fn make_calls<S: Stage>(
     alloc: Global,
     stage: &mut S,
-    kind: Kind,
+    row: &Row<'_>,
     calls: &[Call<'_>],
     way: Way,
 ) -> Result<(), Objection> {
     for (at, call) in calls.iter().enumerate() {
         let answer = stage.call(alloc, call)?;
         agrees(
-            answer.as_str() == way.answer(kind, at, call),
+            answer.as_str() == way.answer(row, at, call),
             way.difference(),
         )?;
     }
     Ok(())
 }
 
-/// Makes read calls on a stream. Gives how many requests they made, and how many were refused.
+/// Makes read calls of a row on a stream. Gives how many requests they made, and how many were
+/// refused.
 fn read_over<S: Read + Drop, E: Endianness + Drop>(
     alloc: Global,
     stream: S,
+    row: &Row<'_>,
     calls: &[Call<'_>],
     way: Way,
 ) -> Result<(u64, u64), Objection> {
@@ -123,16 +150,25 @@ fn read_over<S: Read + Drop, E: Endianness + Drop>(
         requests: 0,
         refused: 0,
     };
-    let mut reader = BitReader::<_, E>::new(&mut count);
-    make_calls(alloc, &mut reader, Kind::Read, calls, way)?;
-    let _ = reader;
+    match row.layer {
+        Layer::Bits => {
+            let mut reader = BitReader::<_, E>::new(&mut count);
+            make_calls(alloc, &mut reader, row, calls, way)?;
+        }
+        Layer::Bytes => {
+            let mut reader = ByteReader::<_, E>::new(&mut count);
+            make_calls(alloc, &mut reader, row, calls, way)?;
+        }
+    }
     Ok((count.requests, count.refused))
 }
 
-/// Makes write calls on a stream. Gives how many requests they made, and how many were refused.
+/// Makes write calls of a row on a stream. Gives how many requests they made, and how many were
+/// refused.
 fn write_over<S: Write + Drop, E: Endianness + Drop>(
     alloc: Global,
     stream: S,
+    row: &Row<'_>,
     calls: &[Call<'_>],
     way: Way,
 ) -> Result<(u64, u64), Objection> {
@@ -141,9 +177,16 @@ fn write_over<S: Write + Drop, E: Endianness + Drop>(
         requests: 0,
         refused: 0,
     };
-    let mut writer = BitWriter::<_, E>::new(&mut count);
-    make_calls(alloc, &mut writer, Kind::Write, calls, way)?;
-    let _ = writer;
+    match row.layer {
+        Layer::Bits => {
+            let mut writer = BitWriter::<_, E>::new(&mut count);
+            make_calls(alloc, &mut writer, row, calls, way)?;
+        }
+        Layer::Bytes => {
+            let mut writer = ByteWriter::<_, E>::new(&mut count);
+            make_calls(alloc, &mut writer, row, calls, way)?;
+        }
+    }
     Ok((count.requests, count.refused))
 }
 
@@ -161,34 +204,35 @@ fn stream_of<S>(inner: S, way: Way) -> Refuse<Drip<S>> {
     }
 }
 
-/// Makes read calls on bytes.
+/// Makes read calls on a row's bytes.
 fn read_bytes<E: Endianness + Drop>(
     alloc: Global,
-    bytes: &[u8],
+    row: &Row<'_>,
     calls: &[Call<'_>],
     way: Way,
 ) -> Result<Moved, Objection> {
-    let mut left = bytes;
+    let mut left = row.bytes.as_slice();
     let stream = stream_of(&mut left, way);
-    let (requests, refused) = read_over::<_, E>(alloc, stream, calls, way)?;
+    let (requests, refused) = read_over::<_, E>(alloc, stream, row, calls, way)?;
     Ok(Moved {
         requests,
         refused,
-        bytes: bytes.len().saturating_sub(left.len()),
+        bytes: row.bytes.len().saturating_sub(left.len()),
     })
 }
 
 /// Makes write calls, whose bytes are a beginning of those that a row has.
 fn write_bytes<E: Endianness + Drop>(
     alloc: Global,
-    bytes: &[u8],
+    row: &Row<'_>,
     calls: &[Call<'_>],
     way: Way,
 ) -> Result<Moved, Objection> {
     let mut written: Vec<u8> = Vec::new(alloc);
     let stream = stream_of(&mut written, way);
-    let (requests, refused) = write_over::<_, E>(alloc, stream, calls, way)?;
-    agrees(bytes.starts_with(written.as_slice()), Difference::Bytes)?;
+    let (requests, refused) = write_over::<_, E>(alloc, stream, row, calls, way)?;
+    let begins = row.bytes.starts_with(written.as_slice());
+    agrees(begins, Difference::Bytes)?;
     Ok(Moved {
         requests,
         refused,
@@ -196,18 +240,17 @@ fn write_bytes<E: Endianness + Drop>(
     })
 }
 
-/// Makes calls on a stream of the row's kind, order and bytes.
+/// Makes calls on a stream of the row's layer, kind, order and bytes.
 pub fn play(
     alloc: Global,
     row: &Row<'_>,
     calls: &[Call<'_>],
     way: Way,
 ) -> Result<Moved, Objection> {
-    let bytes = row.bytes.as_slice();
     match (row.kind, row.order) {
-        (Kind::Read, Order::Big) => read_bytes::<BE>(alloc, bytes, calls, way),
-        (Kind::Read, Order::Little) => read_bytes::<LE>(alloc, bytes, calls, way),
-        (Kind::Write, Order::Big) => write_bytes::<BE>(alloc, bytes, calls, way),
-        (Kind::Write, Order::Little) => write_bytes::<LE>(alloc, bytes, calls, way),
+        (Kind::Read, Order::Big) => read_bytes::<BE>(alloc, row, calls, way),
+        (Kind::Read, Order::Little) => read_bytes::<LE>(alloc, row, calls, way),
+        (Kind::Write, Order::Big) => write_bytes::<BE>(alloc, row, calls, way),
+        (Kind::Write, Order::Little) => write_bytes::<LE>(alloc, row, calls, way),
     }
 }

@@ -1,23 +1,23 @@
 //! Read calls of the rows.
 ghost use Rattle.std.specs.Prelude.{◌≡◌, ◌≤◌, ◌<◌, ◌^◌, ◌⊎◌};
 
-use crate::answer::{accepted, refused, shown, text};
+use crate::answer::{refused, shown, text};
 use crate::call::{Call, number};
 use crate::fixed::read_fixed;
-use crate::form::{ByteOrder, Form, Items, Number, Size};
+use crate::form::{Form, Items, Number, Size};
 use crate::objection::Objection;
 use crate::symbols::{read_limited, read_symbol};
 use crate::variable::read_variable;
+use crate::whole::{WholeRead, read_whole};
 use bitstream_io::{
-    BE, BitCount, BitRead, BitReadExt, Bits, Error, Integer, LE, Primitive, SignedInteger,
-    UnsignedInteger, Width,
+    BitCount, BitRead, BitReadExt, Bits, Error, Integer, SignedInteger, UnsignedInteger, Width,
 };
 use std::alloc::Global;
 use std::fmt::Display;
 use std::num::NonZero;
 
 /// Makes a read call, and spells its answer.
-pub fn read_call<R: BitRead>(
+pub fn read_call<R: BitRead + WholeRead>(
     alloc: Global,
     reader: &mut R,
     call: &Call<'_>,
@@ -29,7 +29,6 @@ pub fn read_call<R: BitRead>(
         Form::Array(items) => read_array(alloc, reader, items, bits),
         Form::Bit => read_bit(alloc, reader),
         Form::Bool => read_bool(alloc, reader, bits),
-        Form::Bytes => read_buffer(alloc, reader, bits),
         Form::Const => read_const(alloc, reader, bits, number(call.value)?),
         Form::Count => read_count(alloc, reader, bits),
         Form::Counted(number) => read_counted(alloc, reader, number, bits),
@@ -37,15 +36,14 @@ pub fn read_call<R: BitRead>(
         Form::Limited(stop, most) => read_limited(alloc, reader, stop, most),
         Form::NonZero(size) => read_non_zero(alloc, reader, size, bits),
         Form::Optional(size) => read_optional(alloc, reader, size, bits),
-        Form::Pad => Err(Objection::BAD_FORM),
         Form::Prefix(tree) => read_symbol(alloc, reader, tree),
-        Form::Skip => accepted(alloc, reader.skip(bits)),
         Form::Unary(stop) => read_unary(alloc, reader, stop),
         Form::Value(number) => read_number(alloc, reader, number, bits),
         Form::Variable(value, size, field) => read_variable(alloc, reader, value, size, field),
-        Form::Vector => read_vector(alloc, reader, bits),
-        Form::Whole(order, number) => read_whole(alloc, reader, order, number),
         Form::Word(number) => read_word(alloc, reader, number, bits),
+        Form::Bytes | Form::Pad | Form::Skip | Form::Vector | Form::Whole(_, _) => {
+            read_whole(alloc, reader, call)
+        }
     }
 }
 
@@ -70,60 +68,6 @@ fn read_unary<R: BitRead>(alloc: Global, reader: &mut R, stop: bool) -> Result<S
         reader.read_unary::<Bits<0>>()
     };
     shown(alloc, answer)
-}
-
-/// Bytes as hexadecimal digits; `-` for none.
-fn shown_hex(alloc: Global, bytes: &[u8]) -> Result<String, Objection> {
-    if bytes.is_empty() {
-        return text(alloc, "-");
-    }
-    let mut digits = String::new(alloc);
-    for byte in bytes {
-        digits.push_str(format!(in alloc; "{byte:02X}")?.as_str())?;
-    }
-    Ok(digits)
-}
-
-fn read_buffer<R: BitRead>(alloc: Global, reader: &mut R, bytes: u32) -> Result<String, Objection> {
-    let mut buf: Vec<u8> = Vec::new(alloc);
-    buf.resize(bytes as usize, 0)?;
-    match reader.read_bytes(buf.as_mut_slice()) {
-        Ok(()) => shown_hex(alloc, buf.as_slice()),
-        Err(error) => refused(alloc, error),
-    }
-}
-
-fn read_vector<R: BitRead>(alloc: Global, reader: &mut R, bytes: u32) -> Result<String, Objection> {
-    match reader.read_to_vec(alloc, bytes as usize) {
-        Ok(buf) => shown_hex(alloc, buf.as_slice()),
-        Err(error) => refused(alloc, error),
-    }
-}
-
-/// Reads a primitive in an order of bytes.
-fn read_primitive<V: Primitive + Display + Drop, R: BitRead>(
-    alloc: Global,
-    reader: &mut R,
-    order: ByteOrder,
-) -> Result<String, Objection> {
-    let answer = match order {
-        ByteOrder::Own => reader.read_to::<V>(),
-        ByteOrder::Big => reader.read_as_to::<BE, V>(),
-        ByteOrder::Little => reader.read_as_to::<LE, V>(),
-    };
-    shown(alloc, answer)
-}
-
-fn read_whole<R: BitRead>(
-    alloc: Global,
-    reader: &mut R,
-    order: ByteOrder,
-    number: Number,
-) -> Result<String, Objection> {
-    match number {
-        Number::Unsigned(size) => unsigned!(size, read_primitive(alloc, reader, order)),
-        Number::Signed(size) => signed!(size, read_primitive(alloc, reader, order)),
-    }
 }
 
 /// Reads a value that is printed as it is.

@@ -2,7 +2,7 @@
 use crate::call::Call;
 use crate::objection::{Difference, Objection, agrees};
 use crate::play::{Fault, Moved, Way, play};
-use crate::row::{Kind, Order, Row};
+use crate::row::{Kind, Layer, Order, Row};
 use std::alloc::Global;
 use std::io::ErrorKind;
 
@@ -144,17 +144,34 @@ fn refuse(alloc: Global, row: &Row<'_>, steps: &[Moved], served: u64) -> Result<
             call,
         };
         let moved = play(alloc, row, &row.calls, Way::Refused(fault))?;
-        stops_at(steps, fault, moved)?;
+        stops_at(row, steps, fault, moved)?;
     }
     Ok(())
 }
 
-/// Objects where a request was made behind the one that was refused, or where other bytes moved than
-/// those of the calls before and of a part of the call that was refused.
-fn stops_at(steps: &[Moved], fault: Fault, moved: Moved) -> Result<(), Objection> {
-    let once = moved.refused == 1 && moved.requests == u64::from(fault.served) + 1;
-    agrees(once, Difference::Refused)?;
-    let least = steps.get(fault.call).map_or(0, |step| step.bytes);
+/// How many requests a row's calls make from the one on that is refused: that one alone, or, of a
+/// reader or writer of bytes, one for each call from there on that asks for anything.
+fn refusals(row: &Row<'_>, fault: Fault) -> u64 {
+    match row.layer {
+        Layer::Bits => 1,
+        Layer::Bytes => {
+            let left = row.calls.iter().skip(fault.call);
+            left.filter(|call| call.moves_bytes()).count() as u64
+        }
+    }
+}
+
+/// Objects where more or fewer requests were made than the refused ones and those before, or where
+/// other bytes moved than those of the calls before and of a part of the call that was refused.
+fn stops_at(row: &Row<'_>, steps: &[Moved], fault: Fault, moved: Moved) -> Result<(), Objection> {
+    let refusals = refusals(row, fault);
+    let requests = u64::from(fault.served).saturating_add(refusals);
+    agrees(moved.requests == requests, Difference::Refused)?;
+    let (ended, least) = steps
+        .get(fault.call)
+        .map_or((0, 0), |step| (step.refused, step.bytes));
+    let refused = ended.saturating_add(refusals);
+    agrees(moved.refused == refused, Difference::Refused)?;
     let most = steps
         .get(fault.call.saturating_add(1))
         .map_or(usize::MAX, |step| step.bytes);

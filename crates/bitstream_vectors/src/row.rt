@@ -11,7 +11,14 @@ pub enum Kind {
     Write,
 }
 
-/// The order of bits of a row.
+/// Whether the calls of a row are made on a reader or writer of bits, or on one of bytes.
+#[derive(Clone, Copy, PartialEq, Eq, Drop)]
+pub enum Layer {
+    Bits,
+    Bytes,
+}
+
+/// The order of bits and bytes of a row.
 #[derive(Clone, Copy, Drop)]
 pub enum Order {
     Big,
@@ -21,9 +28,10 @@ pub enum Order {
 /// A row: calls with their answers, on a stream of these bytes.
 #[derive(Drop)]
 pub struct Row<'a> {
+    pub layer: Layer,
     pub kind: Kind,
     pub order: Order,
-    /// The calls, of a row that writes with the last alignment, if it has one.
+    /// The calls, of a row that writes bits with the last alignment, if it has one.
     pub calls: Vec<Call<'a>>,
     /// What is read, or what stands written after the calls.
     pub bytes: Vec<u8>,
@@ -59,15 +67,19 @@ impl<'a> Row<'a> {
             [kind, order, calls, bytes, after] => (*kind, *order, *calls, *bytes, *after),
             _ => return Err(Objection::BAD_FORM),
         };
-        let kind = kind_of(kind)?;
+        let (layer, kind) = kind_of(kind)?;
         let order = order_of(order)?;
         let bytes = bytes_of(alloc, bytes)?;
         let after = After::parse(after)?;
         let mut calls = calls_of(alloc, kind, calls)?;
-        if kind == Kind::Write && !after.unpadded {
+        if layer == Layer::Bytes && after.tells_of_bits() {
+            return Err(Objection::BAD_FORM);
+        }
+        if layer == Layer::Bits && kind == Kind::Write && !after.unpadded {
             calls.push(Call::aligns())?;
         }
         Ok(Row {
+            layer,
             kind,
             order,
             calls,
@@ -77,10 +89,12 @@ impl<'a> Row<'a> {
     }
 }
 
-fn kind_of(name: &str) -> Result<Kind, Objection> {
+fn kind_of(name: &str) -> Result<(Layer, Kind), Objection> {
     match name {
-        "read" => Ok(Kind::Read),
-        "write" => Ok(Kind::Write),
+        "read" => Ok((Layer::Bits, Kind::Read)),
+        "write" => Ok((Layer::Bits, Kind::Write)),
+        "read-bytes" => Ok((Layer::Bytes, Kind::Read)),
+        "write-bytes" => Ok((Layer::Bytes, Kind::Write)),
         _ => Err(Objection::BAD_FORM),
     }
 }
@@ -127,6 +141,11 @@ impl After {
             after.note(fact.trim())?;
         }
         Ok(after)
+    }
+
+    /// Whether it says what holds of bits alone.
+    fn tells_of_bits(&self) -> bool {
+        self.place.is_some() || self.unpadded
     }
 
     /// Notes a fact: its name, and mostly a number.

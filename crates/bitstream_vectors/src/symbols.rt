@@ -1,18 +1,15 @@
 //! Calls for symbols of prefix codes, by the codes that the rows name.
-use crate::answer::shown;
+use crate::answer::{Answer, shown};
 use crate::call::number;
 use crate::form::Tree;
 use crate::objection::Objection;
 use crate::reads::shown_or_none;
 use bitstream_io::huffman::{HuffmanTree, LimitedUnary};
-use bitstream_io::{BitRead, BitReadExt, BitWrite, BitWriteExt, Error};
+use bitstream_io::{BitRead, BitReadExt, BitWrite, BitWriteExt};
 use std::alloc::{AllocError, Global};
 
 /// A code whose words are the paths of a tree.
 type Code = HuffmanTree<u32, Global>;
-
-/// What a write call answers, where its row spells one.
-type Answer = Result<Result<(), Error>, Objection>;
 
 /// A tree of one symbol.
 fn leaf(alloc: Global, symbol: u32) -> Result<Code, AllocError> {

@@ -1,17 +1,14 @@
 //! Calls for numbers of variable width, at the sizes of groups that the rows have.
-use crate::answer::shown;
+use crate::answer::{Answer, shown};
 use crate::call::number;
 use crate::form::{Grouped, Size};
 use crate::objection::Objection;
 use crate::reads::shown_or_none;
-use bitstream_io::{BitRead, BitReadExt, BitWrite, BitWriteExt, Bits, Error, VBRInteger, Width};
+use bitstream_io::{BitRead, BitReadExt, BitWrite, BitWriteExt, Bits, VBRInteger, Width};
 use std::alloc::Global;
 use std::fmt::Display;
 use std::num::{NonZero, ParseIntError};
 use std::str::FromStr;
-
-/// What a write call answers, where its row spells one.
-type Answer = Result<Result<(), Error>, Objection>;
 
 /// Reads a value of a type of one size in groups of as many bits as F says: U is the type of what
 /// is not below 0, S of what may be, and N of what is not 0.

@@ -1,26 +1,23 @@
 //! Write calls of the rows.
 ghost use Rattle.std.specs.Prelude.{◌≡◌, ◌≤◌, ◌<◌, ◌^◌, ◌⊎◌};
 
-use crate::answer::{accepted, bytes_of, text};
+use crate::answer::{Answer, accepted, bytes_of, text};
 use crate::call::{Call, number};
 use crate::fixed::write_fixed;
-use crate::form::{ByteOrder, Form, Items, Number, Size};
+use crate::form::{Form, Items, Number, Size};
 use crate::objection::Objection;
 use crate::symbols::{write_limited, write_symbol};
 use crate::variable::write_variable;
+use crate::whole::{WholeWrite, write_whole};
 use bitstream_io::{
-    BE, BitCount, BitWrite, BitWriteExt, Bits, Error, Integer, LE, Primitive, SignedInteger,
-    UnsignedInteger, Width,
+    BitCount, BitWrite, BitWriteExt, Bits, Error, Integer, SignedInteger, UnsignedInteger, Width,
 };
 use std::alloc::Global;
 use std::num::{NonZero, ParseIntError};
 use std::str::FromStr;
 
-/// What a write call answers, where its row spells one.
-type Answer = Result<Result<(), Error>, Objection>;
-
 /// Makes a write call, and spells its answer.
-pub fn write_call<W: BitWrite>(
+pub fn write_call<W: BitWrite + WholeWrite>(
     alloc: Global,
     writer: &mut W,
     call: &Call<'_>,
@@ -32,7 +29,6 @@ pub fn write_call<W: BitWrite>(
         Form::Array(items) => write_array(alloc, writer, items, bits, value),
         Form::Bit => write_bit(writer, bits),
         Form::Bool => write_bool(writer, bits, value),
-        Form::Bytes => write_buffer(alloc, writer, value),
         Form::Const => write_const(writer, bits, number(value)?),
         Form::Count => write_count(writer, bits, number(value)?),
         Form::Counted(number) => write_counted(writer, number, bits, value),
@@ -40,14 +36,14 @@ pub fn write_call<W: BitWrite>(
         Form::Limited(stop, most) => write_limited(writer, stop, most, value),
         Form::NonZero(size) => write_non_zero(writer, size, bits, value),
         Form::Optional(size) => write_optional(writer, size, bits, value),
-        Form::Pad => Ok(writer.pad(bits)),
         Form::Prefix(tree) => write_symbol(alloc, writer, tree, value),
-        Form::Skip | Form::Vector => Err(Objection::BAD_FORM),
         Form::Unary(stop) => Ok(write_unary(writer, stop, bits)),
         Form::Value(number) => write_number(writer, number, bits, value),
         Form::Variable(kind, size, field) => write_variable(writer, kind, size, field, value),
-        Form::Whole(order, number) => write_whole(writer, order, number, value),
         Form::Word(number) => write_word(writer, number, bits, value),
+        Form::Bytes | Form::Pad | Form::Skip | Form::Vector | Form::Whole(_, _) => {
+            write_whole(alloc, writer, call)
+        }
     };
     accepted(alloc, answer?)
 }
@@ -82,36 +78,6 @@ fn write_bool<W: BitWrite>(writer: &mut W, bits: u32, value: &str) -> Answer {
         "0" => Ok(writer.write_var(bits, false)),
         "1" => Ok(writer.write_var(bits, true)),
         _ => Err(Objection::BAD_FORM),
-    }
-}
-
-fn write_buffer<W: BitWrite>(alloc: Global, writer: &mut W, value: &str) -> Answer {
-    Ok(writer.write_bytes(bytes_of(alloc, value)?.as_slice()))
-}
-
-/// Writes a primitive in an order of bytes.
-fn write_primitive<V: Primitive + FromStr<Err = ParseIntError>, W: BitWrite>(
-    writer: &mut W,
-    order: ByteOrder,
-    value: &str,
-) -> Answer {
-    let value: V = number(value)?;
-    Ok(match order {
-        ByteOrder::Own => writer.write_from(value),
-        ByteOrder::Big => writer.write_as_from::<BE, V>(value),
-        ByteOrder::Little => writer.write_as_from::<LE, V>(value),
-    })
-}
-
-fn write_whole<W: BitWrite>(
-    writer: &mut W,
-    order: ByteOrder,
-    number: Number,
-    value: &str,
-) -> Answer {
-    match number {
-        Number::Unsigned(size) => unsigned!(size, write_primitive(writer, order, value)),
-        Number::Signed(size) => signed!(size, write_primitive(writer, order, value)),
     }
 }
 

@@ -1,0 +1,224 @@
+//! Calls for whole bytes, which readers and writers of bits and those of bytes have alike.
+use crate::answer::{Answer, accepted, bytes_of, refused, shown, text};
+use crate::call::{Call, number};
+use crate::form::{ByteOrder, Form, Number, Size};
+use crate::objection::Objection;
+use bitstream_io::{
+    BE, BitRead, BitReader, BitWrite, BitWriter, ByteRead, ByteReader, ByteWrite, ByteWriter,
+    Endianness, Error, LE, Primitive, Source, Target,
+};
+use std::alloc::Global;
+use std::fmt::Display;
+use std::num::ParseIntError;
+use std::str::FromStr;
+
+/// Reads whole bytes, by the calls of its layer.
+pub trait WholeRead {
+    /// Reads a primitive in an order of bytes.
+    fn primitive<V: Primitive>(&mut self, order: ByteOrder) -> Result<V, Error>;
+
+    /// Fills a buffer.
+    fn fill(&mut self, buf: &mut [u8]) -> Result<(), Error>;
+
+    /// Reads a vector of so many bytes.
+    fn vector(&mut self, alloc: Global, bytes: u32) -> Result<Vec<u8>, Error>;
+
+    /// Skips so many bits or bytes, as its layer counts.
+    fn pass(&mut self, count: u32) -> Result<(), Error>;
+}
+
+impl<R: Source, E: Endianness> WholeRead for BitReader<R, E> {
+    fn primitive<V: Primitive>(&mut self, order: ByteOrder) -> Result<V, Error> {
+        match order {
+            ByteOrder::Own => self.read_to::<V>(),
+            ByteOrder::Big => self.read_as_to::<BE, V>(),
+            ByteOrder::Little => self.read_as_to::<LE, V>(),
+        }
+    }
+
+    fn fill(&mut self, buf: &mut [u8]) -> Result<(), Error> {
+        self.read_bytes(buf)
+    }
+
+    fn vector(&mut self, alloc: Global, bytes: u32) -> Result<Vec<u8>, Error> {
+        self.read_to_vec(alloc, bytes as usize)
+    }
+
+    fn pass(&mut self, count: u32) -> Result<(), Error> {
+        self.skip(count)
+    }
+}
+
+impl<R: Source, E: Endianness> WholeRead for ByteReader<R, E> {
+    fn primitive<V: Primitive>(&mut self, order: ByteOrder) -> Result<V, Error> {
+        match order {
+            ByteOrder::Own => self.read::<V>(),
+            ByteOrder::Big => self.read_as::<BE, V>(),
+            ByteOrder::Little => self.read_as::<LE, V>(),
+        }
+    }
+
+    fn fill(&mut self, buf: &mut [u8]) -> Result<(), Error> {
+        self.read_bytes(buf)
+    }
+
+    fn vector(&mut self, alloc: Global, bytes: u32) -> Result<Vec<u8>, Error> {
+        self.read_to_vec(alloc, bytes as usize)
+    }
+
+    fn pass(&mut self, count: u32) -> Result<(), Error> {
+        self.skip(count)
+    }
+}
+
+/// Writes whole bytes, by the calls of its layer.
+pub trait WholeWrite {
+    /// Writes a primitive in an order of bytes.
+    fn primitive<V: Primitive>(&mut self, order: ByteOrder, value: V) -> Result<(), Error>;
+
+    /// Writes the bytes of a buffer.
+    fn send(&mut self, bytes: &[u8]) -> Result<(), Error>;
+
+    /// Writes so many zeros, bits or bytes, as its layer counts.
+    fn zeros(&mut self, count: u32) -> Result<(), Error>;
+}
+
+impl<W: Target, E: Endianness> WholeWrite for BitWriter<W, E> {
+    fn primitive<V: Primitive>(&mut self, order: ByteOrder, value: V) -> Result<(), Error> {
+        match order {
+            ByteOrder::Own => self.write_from::<V>(value),
+            ByteOrder::Big => self.write_as_from::<BE, V>(value),
+            ByteOrder::Little => self.write_as_from::<LE, V>(value),
+        }
+    }
+
+    fn send(&mut self, bytes: &[u8]) -> Result<(), Error> {
+        self.write_bytes(bytes)
+    }
+
+    fn zeros(&mut self, count: u32) -> Result<(), Error> {
+        self.pad(count)
+    }
+}
+
+impl<W: Target, E: Endianness> WholeWrite for ByteWriter<W, E> {
+    fn primitive<V: Primitive>(&mut self, order: ByteOrder, value: V) -> Result<(), Error> {
+        match order {
+            ByteOrder::Own => self.write::<V>(value),
+            ByteOrder::Big => self.write_as::<BE, V>(value),
+            ByteOrder::Little => self.write_as::<LE, V>(value),
+        }
+    }
+
+    fn send(&mut self, bytes: &[u8]) -> Result<(), Error> {
+        self.write_bytes(bytes)
+    }
+
+    fn zeros(&mut self, count: u32) -> Result<(), Error> {
+        self.pad(count)
+    }
+}
+
+/// Makes a read call for whole bytes, and spells its answer.
+pub fn read_whole<R: WholeRead>(
+    alloc: Global,
+    reader: &mut R,
+    call: &Call<'_>,
+) -> Result<String, Objection> {
+    match call.form {
+        Form::Bytes => read_buffer(alloc, reader, call.bits),
+        Form::Skip => accepted(alloc, reader.pass(call.bits)),
+        Form::Vector => read_vector(alloc, reader, call.bits),
+        Form::Whole(order, number) => read_number(alloc, reader, order, number),
+        _ => Err(Objection::BAD_FORM),
+    }
+}
+
+/// Bytes as hexadecimal digits; `-` for none.
+fn shown_hex(alloc: Global, bytes: &[u8]) -> Result<String, Objection> {
+    if bytes.is_empty() {
+        return text(alloc, "-");
+    }
+    let mut digits = String::new(alloc);
+    for byte in bytes {
+        digits.push_str(format!(in alloc; "{byte:02X}")?.as_str())?;
+    }
+    Ok(digits)
+}
+
+fn read_buffer<R: WholeRead>(
+    alloc: Global,
+    reader: &mut R,
+    bytes: u32,
+) -> Result<String, Objection> {
+    let mut buf: Vec<u8> = Vec::new(alloc);
+    buf.resize(bytes as usize, 0)?;
+    match reader.fill(buf.as_mut_slice()) {
+        Ok(()) => shown_hex(alloc, buf.as_slice()),
+        Err(error) => refused(alloc, error),
+    }
+}
+
+fn read_vector<R: WholeRead>(
+    alloc: Global,
+    reader: &mut R,
+    bytes: u32,
+) -> Result<String, Objection> {
+    match reader.vector(alloc, bytes) {
+        Ok(buf) => shown_hex(alloc, buf.as_slice()),
+        Err(error) => refused(alloc, error),
+    }
+}
+
+/// Reads a primitive in an order of bytes.
+fn read_primitive<V: Primitive + Display + Drop, R: WholeRead>(
+    alloc: Global,
+    reader: &mut R,
+    order: ByteOrder,
+) -> Result<String, Objection> {
+    shown(alloc, reader.primitive::<V>(order))
+}
+
+fn read_number<R: WholeRead>(
+    alloc: Global,
+    reader: &mut R,
+    order: ByteOrder,
+    number: Number,
+) -> Result<String, Objection> {
+    match number {
+        Number::Unsigned(size) => unsigned!(size, read_primitive(alloc, reader, order)),
+        Number::Signed(size) => signed!(size, read_primitive(alloc, reader, order)),
+    }
+}
+
+/// Makes a write call for whole bytes.
+pub fn write_whole<W: WholeWrite>(alloc: Global, writer: &mut W, call: &Call<'_>) -> Answer {
+    let value = call.value;
+    match call.form {
+        Form::Bytes => Ok(writer.send(bytes_of(alloc, value)?.as_slice())),
+        Form::Pad => Ok(writer.zeros(call.bits)),
+        Form::Whole(order, number) => write_number(writer, order, number, value),
+        _ => Err(Objection::BAD_FORM),
+    }
+}
+
+/// Writes the primitive that a text spells, in an order of bytes.
+fn write_primitive<V: Primitive + FromStr<Err = ParseIntError>, W: WholeWrite>(
+    writer: &mut W,
+    order: ByteOrder,
+    value: &str,
+) -> Answer {
+    Ok(writer.primitive::<V>(order, number(value)?))
+}
+
+fn write_number<W: WholeWrite>(
+    writer: &mut W,
+    order: ByteOrder,
+    number: Number,
+    value: &str,
+) -> Answer {
+    match number {
+        Number::Unsigned(size) => unsigned!(size, write_primitive(writer, order, value)),
+        Number::Signed(size) => signed!(size, write_primitive(writer, order, value)),
+    }
+}
