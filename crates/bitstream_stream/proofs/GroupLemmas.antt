@@ -1,12 +1,15 @@
 -- The numbers of a group: digits, of which each stands above those of the groups before.
 use Rattle.std.specs.Prelude.{bit_or}
-use Rattle.std.proofs.Common.{◌≡◌, ℕ, ◌+◌, ◌-◌, ◌*◌, ◌/◌, ◌%◌, ◌^◌, ◌<◌, ◌≤◌, inl, inr, sym, ap, ◌∙◌, arith}
+use Rattle.std.proofs.Common.{◌≡◌, ◌≢◌, true, false, ℕ, ◌+◌, ◌-◌, ◌*◌, ◌/◌, ◌%◌, ◌^◌, ◌<◌, ◌≤◌, inl, inr, sym, ap, ◌∙◌, arith}
 use Rattle.std.proofs.Math.Nat.{mod-eq_of_lt, mod-lt, add-mod_right, mul-le-mul_left, mul-div_left}
 use Rattle.std.proofs.Math.Pow.{pow_mono}
 use Rattle.std.proofs.lemmas.Bool.{cases_lt}
 use Rattle.std.proofs.lemmas.Nat.{pow-add, pow_pos, or_comm, or_shifted, shr_split}
 use Rattle.bitstream_number.proofs.WordLemmas.{half}
 use Rattle.bitstream_order.proofs.SignLemmas.{half_is}
+
+pub apart : true ≢ false
+apart e = cc
 
 -- ---- digits that were shifted up
 

@@ -1,5 +1,5 @@
 -- Reading groups one after another, as a loop does.
-use Rattle.std.specs.Prelude.{ℤ, bit_and, bit_or}
+use Rattle.std.specs.Prelude.{ℤ, bit_or}
 use Rattle.std.proofs.Common.{◌≡◌, ℕ, suc, ◌+◌, ◌-◌, ◌*◌, ◌/◌, ◌%◌, ◌^◌, ◌<◌, ◌≤◌, inl, inr, Bool, true, false, cond, ltb, List, length, drop, Result, Ok, Err, refl, sym, ap, ◌∙◌, subst, arith, add-zero}
 use Rattle.std.specs.Int.{div_ceil}
 use Rattle.std.proofs.Math.Nat.{div-eq_of_lt, mod-eq_of_lt, mod-lt, zero-div, zero-mod, add-div_right, add-mod_right, pow-le-pow_right}
@@ -7,7 +7,6 @@ use Rattle.std.proofs.Math.Seq.{drop-append_seam}
 use Rattle.std.proofs.lemmas.Bool.{cases_lt, cond-true, cond-false, lt-ltb, le-ltb}
 use Rattle.std.proofs.lemmas.Nat.{pow-add, pow_pos, or_lt}
 use Rattle.bitstream_number.specs.Word.{Order, number, zag}
-use Rattle.bitstream_number.proofs.Masks.{masked-is}
 use Rattle.bitstream_count.specs.declared.error.Error.{Error}
 use Rattle.bitstream_count.specs.declared.error.Error.TheVariants.{Failed, VariableWidthOverflow}
 use Rattle.bitstream_count.specs.Entry.{ReadEntry, Front, TooShort, Takes, front_then, longer, call, takes, chain, gives}
@@ -208,57 +207,71 @@ module _ {R : Type 0} (K : BitSource R) (field size limit : ℕ) where
 
 -- ---- one turn of it, where the limit is that of the type
 
-module _ {R : Type 0} (K : BitSource R) (field size m : ℕ) (wide : 2 ≤ field) (within : field ≤ size) (payload : m ≡ field - 1) (s t z : R) (value shift : ℕ) (begins : shift < size) (told : Told K field size (2 ^ size) s value shift t) (small : value < 2 ^ shift)
-    (group mask digits placed next : ℕ) (read : Reads K (unsigned_entry K.order size field) t (Ok group) z) (masks : mask ≡ 2 ^ m - 1) (cut : digits ≡ bit_and group mask) (shifted : placed ≡ digits * 2 ^ shift % 2 ^ size) (joined : next ≡ bit_or value placed) where
-  low : digits ≡ group % 2 ^ m
-  low = masked-is group m mask digits masks cut
+-- a group was read, and its digits were put above those of the groups before
+pub record Turn {R : Type 0} (K : BitSource R) (field size m : ℕ) (s t z : R) (value shift group digits placed next : ℕ) : Type 0 where
+  pub wide : 2 ≤ field
+  pub within : field ≤ size
+  pub payload : m ≡ field - 1
+  pub begins : shift < size
+  pub told : Told K field size (2 ^ size) s value shift t
+  pub small : value < 2 ^ shift
+  pub read : Reads K (unsigned_entry K.order size field) t (Ok group) z
+  pub low : digits ≡ group % 2 ^ m
+  pub shifted : placed ≡ digits * 2 ^ shift % 2 ^ size
+  pub joined : next ≡ bit_or value placed
 
+module _ {R : Type 0} {K : BitSource R} {field size m : ℕ} {s t z : R} {value shift group digits placed next : ℕ} (turn : Turn K field size m s t z value shift group digits placed next) where
   turn_last : group ≡ digits → Reads K (vbr_entry K.order field size (2 ^ size)) s (number_below (2 ^ size) (value + 2 ^ shift * digits)) z
   turn_last last =
-      let ends : group < 2 ^ (field - 1) = subst (λ k. group < 2 ^ k) payload (last_group m group digits low last) in
+      let ends : group < 2 ^ (field - 1) = subst (λ k. group < 2 ^ k) turn.payload (last_group m group digits turn.low last) in
       subst (λ g. Reads K (vbr_entry K.order field size (2 ^ size)) s (number_below (2 ^ size) (value + 2 ^ shift * g)) z) last
-      (told-last K field size (2 ^ size) wide within s t z value shift begins told group ends read)
+      (told-last K field size (2 ^ size) turn.wide turn.within s t z value shift turn.begins turn.told group ends turn.read)
 
   pub turn-ends : group ≡ digits → placed / 2 ^ shift ≡ digits → Reads K (vbr_entry K.order field size (2 ^ size)) s (Ok next) z
   turn-ends last back =
-      let fits = placed_fits size shift digits placed shifted back in
-      let sum = placed_sum size shift value digits placed next small fits shifted joined in
-      let below = sum_fits size shift value digits (omega arith) small fits in
+      let fits = placed_fits size shift digits placed turn.shifted back in
+      let sum = placed_sum size shift value digits placed next turn.small fits turn.shifted turn.joined in
+      let begins = turn.begins in
+      let below = sum_fits size shift value digits (omega (arith, begins)) turn.small fits in
       subst (λ r. Reads K (vbr_entry K.order field size (2 ^ size)) s r z) (cond-true _ _ _ (lt-ltb (value + 2 ^ shift * digits) (2 ^ size) below) ∙ ap Ok (sym sum)) (turn_last last)
 
   pub turn-overflows : group ≡ digits → (placed / 2 ^ shift ≡ digits → ⊥) → Reads K (vbr_entry K.order field size (2 ^ size)) s (Err VariableWidthOverflow) z
   turn-overflows last lost =
-      let past = placed_past size shift digits placed shifted lost in
+      let past = placed_past size shift digits placed turn.shifted lost in
       let above : 2 ^ size ≤ value + 2 ^ shift * digits = omega (arith, past) in
       subst (λ r. Reads K (vbr_entry K.order field size (2 ^ size)) s r z) (cond-false _ _ _ (le-ltb (value + 2 ^ shift * digits) (2 ^ size) above)) (turn_last last)
 
   digits_below : digits < 2 ^ m
-  digits_below = omega (arith, low, mod-lt group (pow_pos m))
+  digits_below = let low = turn.low in omega (arith, low, mod-lt group (pow_pos m))
 
   pub turn-told : (group ≡ digits → ⊥) → Told K field size (2 ^ size) s next (shift + m) z
   turn-told more =
-      let g = group_more field m group digits payload (omega arith) low (unsigned-below K.order size field group read) more in
+      let wide = turn.wide in
+      let payload = turn.payload in
+      let g = group_more field m group digits payload (omega (arith, wide)) turn.low (unsigned-below K.order size field group turn.read) more in
       let on : Told K field size (2 ^ size) s (value + 2 ^ shift * digits) (shift + m) z =
       subst (λ k. Told K field size (2 ^ size) s (value + 2 ^ shift * digits) (shift + k) z) (sym payload)
-      (subst (λ d. Told K field size (2 ^ size) s (value + 2 ^ shift * d) (shift + (field - 1)) z) g.1 (told-more K field size (2 ^ size) wide within s t z value shift begins told group g.0 read)) in
+      (subst (λ d. Told K field size (2 ^ size) s (value + 2 ^ shift * d) (shift + (field - 1)) z) g.1 (told-more K field size (2 ^ size) wide turn.within s t z value shift turn.begins turn.told group g.0 turn.read)) in
       elim (cases_lt (2 ^ shift * digits) (2 ^ size)) [
-        | inl fits ↦ subst (λ v. Told K field size (2 ^ size) s v (shift + m) z) (sym (placed_sum size shift value digits placed next small fits shifted joined)) on
+        | inl fits ↦ subst (λ v. Told K field size (2 ^ size) s v (shift + m) z) (sym (placed_sum size shift value digits placed next turn.small fits turn.shifted turn.joined)) on
         | inr past ↦ told-any K field size (2 ^ size) s z (value + 2 ^ shift * digits) next (shift + m) (none_behind size shift m digits digits_below past) on
       ]
 
   pub turn-below : next < 2 ^ (shift + m)
   turn-below =
+      let small = turn.small in
       elim (cases_lt (2 ^ shift * digits) (2 ^ size)) [
-        | inl fits ↦ subst (λ v. v < 2 ^ (shift + m)) (sym (placed_sum size shift value digits placed next small fits shifted joined)) (stays_below shift m value digits digits_below small)
+        | inl fits ↦ subst (λ v. v < 2 ^ (shift + m)) (sym (placed_sum size shift value digits placed next small fits turn.shifted turn.joined)) (stays_below shift m value digits digits_below small)
         | inr past ↦
             let n = shift + m in
             let le : size ≤ n = none_behind size shift m digits digits_below past in
             let more : shift ≤ n = omega arith in
             let whole : 2 ^ size ≤ 2 ^ n = pow-le-pow_right (omega arith) le in
             let part : 2 ^ shift ≤ 2 ^ n = pow-le-pow_right (omega arith) more in
+            let shifted = turn.shifted in
             let p : placed < 2 ^ n = omega (arith, shifted, mod-lt (digits * 2 ^ shift) (pow_pos size), whole) in
             let v : value < 2 ^ n = omega (arith, small, part) in
-            subst (λ k. k < 2 ^ n) (sym joined) (or_lt n value placed v p)
+            subst (λ k. k < 2 ^ n) (sym turn.joined) (or_lt n value placed v p)
       ]
 
 -- ---- a smaller limit

@@ -16,6 +16,7 @@ use Rattle.bitstream_order.specs.Parts.{put_number}
 use Rattle.bitstream_order.proofs.PartLemmas.{put_word, put_below}
 use Rattle.bitstream_order.proofs.TakeLemmas.{word-none}
 use Rattle.bitstream_stream.specs.Carries.{WriterState}
+use Rattle.bitstream_stream.specs.Groups.{IsFirstGroup, IsLastGroup}
 use Rattle.bitstream_stream.specs.Sink.{Sink, Writes, IsWithin}
 use Rattle.bitstream_stream.specs.Writer.{queue_sink, Pushes}
 use Rattle.bitstream_stream.specs.WriteTable.{unsigned, vbr}
@@ -33,7 +34,7 @@ pub small_of : (m rest : ℕ) → rest / 2 ^ m ≡ 0 → rest < 2 ^ m
 small_of m rest none = elim (cases_lt rest (2 ^ m)) [ inl small ↦ small | inr large ↦ absurd (omega (arith, none, le-div 1 rest (2 ^ m) (pow_pos m) (omega (arith, large)))) ]
 
 -- a number is less behind a group
-pub rest_less : (m rest : ℕ) → 0 < m → 2 ^ m ≤ rest → rest / 2 ^ m < rest
+rest_less : (m rest : ℕ) → 0 < m → 2 ^ m ≤ rest → rest / 2 ^ m < rest
 rest_less m rest some large = div-lt_self (omega (arith, large, pow_pos m)) (pow_below 0 m some)
 
 -- the m lowest digits below the digit that says that another group follows
@@ -44,51 +45,50 @@ group_is m more mask low rest group top masks cut joined =
     let whole : more % 2 ^ m ≡ 0 = ap (λ k. k % 2 ^ m) top ∙ mod_self (2 ^ m) in
     joined ∙ or-sum more low m whole small ∙ ap₂ (λ i j. i + j) top is
 
-module _ (o : Order) (field m : ℕ) (wide : 2 ≤ field) (payload : m ≡ field - 1) where
-  -- a group and those behind it
-  next_group : (rest group next : ℕ) → 2 ^ m ≤ rest → group ≡ 2 ^ m + rest % 2 ^ m → next ≡ rest / 2 ^ m → vbr_word o field rest ≡ word o field group ++ vbr_word o field next
-  next_group rest group next large is shifted =
-      let above : 2 ^ (field - 1) ≤ rest = subst (λ k. 2 ^ k ≤ rest) payload large in
-      vbr_word_large o field (omega arith) rest wide above
-      ∙ ap₂ (λ i j. word o field i ++ vbr_word o field j) (sym (is ∙ ap (λ k. 2 ^ k + rest % 2 ^ k) payload)) (sym (shifted ∙ ap (λ k. rest / 2 ^ k) payload))
-
-  last_group : (rest : ℕ) → rest < 2 ^ m → vbr_word o field rest ≡ word o field rest
-  last_group rest small = vbr_word_small o field (omega arith) rest (subst (λ k. rest < 2 ^ k) payload small)
-
-  pub group_fits : (rest group : ℕ) → group ≡ 2 ^ m + rest % 2 ^ m → group < 2 ^ field
-  group_fits rest group is =
-      let digits : rest % 2 ^ m < 2 ^ m = mod-lt rest (pow_pos m) in
+module _ (field m : ℕ) (wide : 2 ≤ field) (payload : m ≡ field - 1) where
+  pub group_first : (v group rest : ℕ) → 2 ^ m ≤ v → group ≡ 2 ^ m + v % 2 ^ m → rest ≡ v / 2 ^ m → IsFirstGroup field v group rest
+  group_first v group rest large is shifted =
+      let some : 0 < m = omega (arith, payload, wide) in
+      let above : 2 ^ (field - 1) ≤ v = subst (λ k. 2 ^ k ≤ v) payload large in
+      let digits : v % 2 ^ m < 2 ^ m = mod-lt v (pow_pos m) in
       let one : 2 ^ m ≡ 2 ^ (field - 1) = ap (λ k. 2 ^ k) payload in
-      omega (arith, is, digits, one, half field (omega arith))
+      record {
+        fits = omega (arith, is, digits, one, half field (omega arith));
+        less = omega (arith, shifted, rest_less m v some large);
+        parts = λ o. vbr_word_large o field (omega arith) v wide above ∙ ap₂ (λ i j. word o field i ++ vbr_word o field j) (sym (is ∙ ap (λ k. 2 ^ k + v % 2 ^ k) payload)) (sym (shifted ∙ ap (λ k. v / 2 ^ k) payload));
+      }
 
-  pub last_fits : (rest : ℕ) → rest < 2 ^ m → rest < 2 ^ field
-  last_fits rest small =
+  pub group_last : (v : ℕ) → v < 2 ^ m → IsLastGroup field v
+  group_last v small =
       let one : 2 ^ m ≡ 2 ^ (field - 1) = ap (λ k. 2 ^ k) payload in
-      omega (arith, small, one, half field (omega arith))
+      record {
+        fits = omega (arith, small, one, half field (omega arith));
+        whole = λ o. vbr_word_small o field (omega arith) v (subst (λ k. v < 2 ^ k) payload small);
+      }
 
   -- ---- how many bits the groups have
 
   -- where the groups up to `shift` digits are counted, the last of them begins m digits before
-  pub bits-more : (v shift bits step : ℕ) → step ≡ field → m ≤ shift → v / 2 ^ shift ≢ 0 → bits + length (vbr_word o field (v / 2 ^ (shift - m))) ≡ length (vbr_word o field v) + field
+  pub bits-more : (o : Order) (v shift bits step : ℕ) → step ≡ field → m ≤ shift → v / 2 ^ shift ≢ 0 → bits + length (vbr_word o field (v / 2 ^ (shift - m))) ≡ length (vbr_word o field v) + field
       → bits + step + length (vbr_word o field (v / 2 ^ (shift + m - m))) ≡ length (vbr_word o field v) + field
-  bits-more v shift bits step one le some count =
+  bits-more o v shift bits step one le some count =
       let rest = v / 2 ^ (shift - m) in
       let all : shift - m + m ≡ shift = omega arith in
       let back : shift + m - m ≡ shift = omega arith in
       let next : rest / 2 ^ m ≡ v / 2 ^ shift = shr-shr v (shift - m) m ∙ ap (λ k. v / 2 ^ k) all in
       let large : 2 ^ m ≤ rest = large_of m rest (λ e. some (sym next ∙ e)) in
-      let parts = ap length (next_group rest (2 ^ m + rest % 2 ^ m) (rest / 2 ^ m) large refl refl) in
+      let parts = ap length ((group_first rest (2 ^ m + rest % 2 ^ m) (rest / 2 ^ m) large refl refl).parts o) in
       let len = length-append (word o field (2 ^ m + rest % 2 ^ m)) (vbr_word o field (rest / 2 ^ m)) in
       let same : length (vbr_word o field (v / 2 ^ (shift + m - m))) ≡ length (vbr_word o field (rest / 2 ^ m)) = ap (λ k. length (vbr_word o field k)) (ap (λ k. v / 2 ^ k) back ∙ sym next) in
       omega (arith, one, count, parts, len, same, length-word o field (2 ^ m + rest % 2 ^ m))
 
-  pub bits-all : (v shift bits : ℕ) → m ≤ shift → v / 2 ^ shift ≡ 0 → bits + length (vbr_word o field (v / 2 ^ (shift - m))) ≡ length (vbr_word o field v) + field → length (vbr_word o field v) ≡ bits
-  bits-all v shift bits le none count =
+  pub bits-all : (o : Order) (v shift bits : ℕ) → m ≤ shift → v / 2 ^ shift ≡ 0 → bits + length (vbr_word o field (v / 2 ^ (shift - m))) ≡ length (vbr_word o field v) + field → length (vbr_word o field v) ≡ bits
+  bits-all o v shift bits le none count =
       let rest = v / 2 ^ (shift - m) in
       let all : shift - m + m ≡ shift = omega arith in
       let next : rest / 2 ^ m ≡ 0 = shr-shr v (shift - m) m ∙ ap (λ k. v / 2 ^ k) all ∙ none in
       let small : rest < 2 ^ m = small_of m rest next in
-      omega (arith, count, ap length (last_group rest small), length-word o field rest)
+      omega (arith, count, ap length ((group_last rest small).whole o), length-word o field rest)
 
 -- ---- tests of a number that is shifted
 
@@ -111,37 +111,37 @@ pub record GroupsBegun {S : Type 0} (K : Sink S) (field v : ℕ) (old : S) (rest
   pub done : Begun K old word mid
   pub parts : word ++ vbr_word K.order field rest ≡ vbr_word K.order field v
 
-module _ {S : Type 0} (K : Sink S) (field size m v : ℕ) (wide : 2 ≤ field) (within : field ≤ size) (payload : m ≡ field - 1) where
+module _ {S : Type 0} (K : Sink S) (field size v : ℕ) (within : field ≤ size) where
   pub groups-start : (old mid : S) → Begun K old [] mid → GroupsBegun K field v old v mid
   groups-start old mid b = record { word = []; done = b; parts = refl }
 
   module _ {T : Type 0} (old mid : S) (r : Result T Error) (new : S) (rest : ℕ) (b : GroupsBegun K field v old rest mid) where
-    pub groups-more : (group next : ℕ) (t : T) → 2 ^ m ≤ rest → group ≡ 2 ^ m + rest % 2 ^ m → next ≡ rest / 2 ^ m → Writes K (unsigned K.order size field group) mid r new → r ≡ Ok t → GroupsBegun K field v old next new
-    groups-more group next t large is shifted w q =
+    pub groups-more : (group next : ℕ) (t : T) → IsFirstGroup field rest group next → Writes K (unsigned K.order size field group) mid r new → r ≡ Ok t → GroupsBegun K field v old next new
+    groups-more group next t first w q =
         let x = word K.order field group in
         record {
           word = b.word ++ x;
-          done = Begun-more K old mid new b.word x b.done (from_ok K (unsigned K.order size field group) mid r new t x w q (unsigned-fits K.order size field group (K.len mid) within (group_fits K.order field m wide payload rest group is)));
-          parts = append_assoc b.word x (vbr_word K.order field next) ∙ ap (λ l. b.word ++ l) (sym (next_group K.order field m wide payload rest group next large is shifted)) ∙ b.parts;
+          done = Begun-more K old mid new b.word x b.done (from_ok K (unsigned K.order size field group) mid r new t x w q (unsigned-fits K.order size field group (K.len mid) within first.fits));
+          parts = append_assoc b.word x (vbr_word K.order field next) ∙ ap (λ l. b.word ++ l) (sym (first.parts K.order)) ∙ b.parts;
         }
 
     -- a group was refused, before the others
-    pub groups-stop : {V : Type 0} (r' : Result V Error) (d : Error) (group : ℕ) → 2 ^ m ≤ rest → group ≡ 2 ^ m + rest % 2 ^ m → Writes K (unsigned K.order size field group) mid r new → r ≡ Err d → r' ≡ Err d
+    pub groups-stop : {V : Type 0} (r' : Result V Error) (d : Error) (group next : ℕ) → IsFirstGroup field rest group next → Writes K (unsigned K.order size field group) mid r new → r ≡ Err d → r' ≡ Err d
         → IsWithin K.limit (K.len old + length (vbr_word K.order field v)) → Writes K (vbr K.order field v) old r' new
-    groups-stop r' d group large is w q q' room =
+    groups-stop r' d group next first w q q' room =
         let x = word K.order field group in
-        let z = vbr_word K.order field (rest / 2 ^ m) in
-        let all : vbr_word K.order field v ≡ b.word ++ (x ++ z) = sym b.parts ∙ ap (λ l. b.word ++ l) (next_group K.order field m wide payload rest group (rest / 2 ^ m) large is refl) in
+        let z = vbr_word K.order field next in
+        let all : vbr_word K.order field v ≡ b.word ++ (x ++ z) = sym b.parts ∙ ap (λ l. b.word ++ l) (first.parts K.order) in
         stop_later K (unsigned K.order size field group) (vbr K.order field v) old mid r r' new d b.word x z b.done w q q'
-        (unsigned-fits K.order size field group (K.len mid) within (group_fits K.order field m wide payload rest group is)) (ap Ok all) (subst (λ l. IsWithin K.limit (K.len old + length l)) all room)
+        (unsigned-fits K.order size field group (K.len mid) within first.fits) (ap Ok all) (subst (λ l. IsWithin K.limit (K.len old + length l)) all room)
 
     -- the last group, whatever it answers
-    pub groups-last : rest < 2 ^ m → Writes K (unsigned K.order size field rest) mid r new → IsWithin K.limit (K.len old + length (vbr_word K.order field v)) → Writes K (vbr K.order field v) old r new
-    groups-last small w room =
+    pub groups-last : IsLastGroup field rest → Writes K (unsigned K.order size field rest) mid r new → IsWithin K.limit (K.len old + length (vbr_word K.order field v)) → Writes K (vbr K.order field v) old r new
+    groups-last final w room =
         let x = word K.order field rest in
-        let all : vbr_word K.order field v ≡ b.word ++ x = sym b.parts ∙ ap (λ l. b.word ++ l) (last_group K.order field m wide payload rest small) in
+        let all : vbr_word K.order field v ≡ b.word ++ x = sym b.parts ∙ ap (λ l. b.word ++ l) (final.whole K.order) in
         last K (unsigned K.order size field rest) (vbr K.order field v) old mid r new b.word x (begun b.done) w
-        (unsigned-fits K.order size field rest (K.len mid) within (last_fits K.order field m wide payload rest small)) (ap Ok all) (subst (λ l. IsWithin K.limit (K.len old + length l)) all room)
+        (unsigned-fits K.order size field rest (K.len mid) within final.fits) (ap Ok all) (subst (λ l. IsWithin K.limit (K.len old + length l)) all room)
 
 -- ---- the loop that gathers groups
 
@@ -152,19 +152,19 @@ pub record GroupsGathered {S : Type 0} (K : Sink S) (field v : ℕ) (old : S) (r
   pub parts : front ++ (word K.order bits gathered ++ vbr_word K.order field rest) ≡ vbr_word K.order field v
   pub below : gathered < 2 ^ bits
 
-module _ {S : Type 0} (K : Sink S) (field size m v : ℕ) (wide : 2 ≤ field) (within : field ≤ size) (payload : m ≡ field - 1) where
+module _ {S : Type 0} (K : Sink S) (field size v : ℕ) (within : field ≤ size) where
   pub gathered-start : (old mid : S) (gathered : ℕ) → gathered ≡ 0 → Begun K old [] mid → GroupsGathered K field v old v mid 0 gathered
   gathered-start old mid gathered none b = record { front = []; done = b; parts = ap (λ l. l ++ vbr_word K.order field v) (word-none K.order gathered); below = omega (arith, none) }
 
   module _ (old mid : S) (rest bits gathered : ℕ) (b : GroupsGathered K field v old rest mid bits gathered) where
     -- another group is gathered
-    pub gathered-more : (n group next made : ℕ) → n ≡ field → 2 ^ m ≤ rest → group ≡ 2 ^ m + rest % 2 ^ m → next ≡ rest / 2 ^ m → made ≡ put_number K.order gathered bits group n → GroupsGathered K field v old next mid (bits + n) made
-    gathered-more n group next made one large is shifted put =
+    pub gathered-more : (n group next made : ℕ) → n ≡ field → IsFirstGroup field rest group next → made ≡ put_number K.order gathered bits group n → GroupsGathered K field v old next mid (bits + n) made
+    gathered-more n group next made one first put =
         let o = K.order in
-        let small : group < 2 ^ n = subst (λ k. group < 2 ^ k) (sym one) (group_fits o field m wide payload rest group is) in
+        let small : group < 2 ^ n = subst (λ k. group < 2 ^ k) (sym one) first.fits in
         let z = vbr_word o field next in
         let joined : word o (bits + n) made ≡ word o bits gathered ++ word o n group = ap (word o (bits + n)) put ∙ put_word o gathered bits group n b.below small in
-        let all : vbr_word o field rest ≡ word o n group ++ z = next_group o field m wide payload rest group next large is shifted ∙ ap (λ k. word o k group ++ z) (sym one) in
+        let all : vbr_word o field rest ≡ word o n group ++ z = first.parts o ∙ ap (λ k. word o k group ++ z) (sym one) in
         record {
           front = b.front;
           done = b.done;
@@ -194,34 +194,30 @@ module _ {S : Type 0} (K : Sink S) (field size m v : ℕ) (wide : 2 ≤ field) (
         (unsigned-fits o size bits gathered (K.len mid) room b.below) (ap Ok (sym b.parts)) (subst (λ l. IsWithin K.limit (K.len old + length l)) (sym b.parts) limit)
 
     -- the last group where nothing is gathered, whatever the call answers
-    pub gathered-none : {T : Type 0} (r : Result T Error) (new : S) → bits ≡ 0 → rest < 2 ^ m → Writes K (unsigned K.order size field rest) mid r new → IsWithin K.limit (K.len old + length (vbr_word K.order field v)) → Writes K (vbr K.order field v) old r new
-    gathered-none r new none small w limit =
+    pub gathered-none : {T : Type 0} (r : Result T Error) (new : S) → bits ≡ 0 → IsLastGroup field rest → Writes K (unsigned K.order size field rest) mid r new → IsWithin K.limit (K.len old + length (vbr_word K.order field v)) → Writes K (vbr K.order field v) old r new
+    gathered-none r new none final w limit =
         let o = K.order in
         let x = word o field rest in
         let nil : word o bits gathered ≡ [] = ap (λ k. word o k gathered) none ∙ word-none o gathered in
-        let all : vbr_word o field v ≡ b.front ++ x = sym b.parts ∙ ap₂ (λ i j. b.front ++ (i ++ j)) nil (last_group o field m wide payload rest small) in
+        let all : vbr_word o field v ≡ b.front ++ x = sym b.parts ∙ ap₂ (λ i j. b.front ++ (i ++ j)) nil (final.whole o) in
         last K (unsigned o size field rest) (vbr o field v) old mid r new b.front x (begun b.done) w
-        (unsigned-fits o size field rest (K.len mid) within (last_fits o field m wide payload rest small)) (ap Ok all) (subst (λ l. IsWithin K.limit (K.len old + length l)) all limit)
+        (unsigned-fits o size field rest (K.len mid) within final.fits) (ap Ok all) (subst (λ l. IsWithin K.limit (K.len old + length l)) all limit)
 
     -- the number of the last group behind what was gathered
-    pub gathered-below : (n made : ℕ) → n ≡ field → rest < 2 ^ m → made ≡ put_number K.order gathered bits rest n → made < 2 ^ (bits + n)
-    gathered-below n made one small put =
-        let part : rest < 2 ^ n = subst (λ k. rest < 2 ^ k) (sym one) (last_fits K.order field m wide payload rest small) in
-        subst (λ k. k < 2 ^ (bits + n)) (sym put) (put_below K.order gathered bits rest n b.below part)
+    pub gathered-below : (n made : ℕ) → n ≡ field → IsLastGroup field rest → made ≡ put_number K.order gathered bits rest n → made < 2 ^ (bits + n)
+    gathered-below n made one final put = subst (λ k. k < 2 ^ (bits + n)) (sym put) (put_below K.order gathered bits rest n b.below (subst (λ k. rest < 2 ^ k) (sym one) final.fits))
 
     -- that number is written, whatever the call answers
-    pub gathered-last : {T : Type 0} (r : Result T Error) (new : S) (n made : ℕ) → n ≡ field → rest < 2 ^ m → made ≡ put_number K.order gathered bits rest n → bits + n ≤ size → Writes K (unsigned K.order size (bits + n) made) mid r new
+    pub gathered-last : {T : Type 0} (r : Result T Error) (new : S) (n made : ℕ) → n ≡ field → IsLastGroup field rest → made ≡ put_number K.order gathered bits rest n → bits + n ≤ size → Writes K (unsigned K.order size (bits + n) made) mid r new
         → IsWithin K.limit (K.len old + length (vbr_word K.order field v)) → Writes K (vbr K.order field v) old r new
-    gathered-last r new n made one small put room w limit =
+    gathered-last r new n made one final put room w limit =
         let o = K.order in
         let x = word o (bits + n) made in
-        let part : rest < 2 ^ n = subst (λ k. rest < 2 ^ k) (sym one) (last_fits o field m wide payload rest small) in
-        let whole = gathered-below n made one small put in
-        let joined : x ≡ word o bits gathered ++ word o n rest = ap (word o (bits + n)) put ∙ put_word o gathered bits rest n b.below part in
-        let ends : vbr_word o field rest ≡ word o n rest = last_group o field m wide payload rest small ∙ ap (λ k. word o k rest) (sym one) in
+        let joined : x ≡ word o bits gathered ++ word o n rest = ap (word o (bits + n)) put ∙ put_word o gathered bits rest n b.below (subst (λ k. rest < 2 ^ k) (sym one) final.fits) in
+        let ends : vbr_word o field rest ≡ word o n rest = final.whole o ∙ ap (λ k. word o k rest) (sym one) in
         let all : vbr_word o field v ≡ b.front ++ x = sym b.parts ∙ ap (λ l. b.front ++ (word o bits gathered ++ l)) ends ∙ ap (λ l. b.front ++ l) (sym joined) in
         last K (unsigned o size (bits + n) made) (vbr o field v) old mid r new b.front x (begun b.done) w
-        (unsigned-fits o size (bits + n) made (K.len mid) room whole) (ap Ok all) (subst (λ l. IsWithin K.limit (K.len old + length l)) all limit)
+        (unsigned-fits o size (bits + n) made (K.len mid) room (gathered-below n made one final put)) (ap Ok all) (subst (λ l. IsWithin K.limit (K.len old + length l)) all limit)
 
 -- ---- a group that was pushed behind a writer's queue
 

@@ -4,6 +4,7 @@ pub mod ByteReads
 pub mod ByteSink
 pub mod ByteWriter
 pub mod Carries
+pub mod Groups
 pub mod ReadTable
 pub mod Reader
 pub mod Reads

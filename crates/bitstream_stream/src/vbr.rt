@@ -1,7 +1,8 @@
 //! How long a number of variable width is, and in what parts it goes.
-ghost use Rattle.std.specs.Prelude.{◌≡◌, ℕ, ◌+◌, ◌<◌, ◌≤◌, length};
+ghost use Rattle.std.specs.Prelude.{◌≡◌, ℕ, ◌+◌, ◌<◌, ◌≤◌, IfSome, None, length};
 ghost use Rattle.bitstream_number.specs.Word.{Order};
 ghost use Rattle.bitstream_count.specs.Vbr.{vbr_word};
+ghost use Rattle.bitstream_stream.specs.Groups.{IsFirstGroup, IsLastGroup};
 
 use bitstream_number::number::{Numeric, UnsignedInteger, Width};
 
@@ -20,6 +21,26 @@ pub(crate) fn vbr_bits<F: Width, U: UnsignedInteger>(value: U) -> u32
         shift += payload;
     }
     bits
+}
+
+/// Splits a number into its first group and what the groups behind it hold. A group is the lowest
+/// digits, below a digit that says that another follows. A number that one group holds is not split.
+#[inline(always)]
+pub(crate) fn split_group<F: Width, U: UnsignedInteger>(value: U) -> Option<(U, U)>
+    requires some { 2 ≤ F.BITS }
+    requires within { F.BITS < U.BITS_SIZE }
+    ensures first { IfSome result (λ parts.
+        IsFirstGroup F.BITS (U.value value) (U.value parts.0) (U.value parts.1)) }
+    ensures last { result ≡ None → IsLastGroup F.BITS (U.value value) }
+{
+    let payload = F::BITS - 1;
+    let rest = value >> payload;
+    if rest == U::ZERO {
+        return None;
+    }
+    let more = U::ONE << payload;
+    let digits = value & (more - U::ONE);
+    Some((more | digits, rest))
 }
 
 /// Returns behind how many bits of gathered groups no other is gathered. Groups of whole bytes go one

@@ -1,6 +1,6 @@
 //! Where bits go.
 use crate::others::others;
-use crate::vbr::vbr_bits;
+use crate::vbr::{split_group, vbr_bits};
 use crate::width::count_bits;
 use crate::zigzag::zigzag;
 use bitstream_count::count::{BitCount, Count, SignedCount};
@@ -310,13 +310,10 @@ pub trait BitWrite {
         if !self.has_room(vbr_bits::<F, U>(value) as u128) {
             return Err(Error::CounterOverflow);
         }
-        let payload = F::BITS - 1;
-        let more = U::ONE << payload;
-        let mask = more - U::ONE;
         let mut rest = value;
-        while rest >> payload != U::ZERO {
-            self.write_unsigned::<F, U>(more | (rest & mask))?;
-            rest >>= payload;
+        while let Some((group, next)) = split_group::<F, U>(rest) {
+            self.write_unsigned::<F, U>(group)?;
+            rest = next;
         }
         self.write_unsigned::<F, U>(rest)
     }

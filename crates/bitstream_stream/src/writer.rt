@@ -4,7 +4,7 @@ ghost use Rattle.std.specs.Prelude.{◌≡◌, ℕ, ◌+◌, ◌*◌, ◌<◌, �
 use crate::check::{check, check_signed};
 use crate::others::others;
 use crate::piece::PIECE;
-use crate::vbr::most_gathered;
+use crate::vbr::{most_gathered, split_group};
 use crate::width::count_bits;
 use crate::write::BitWrite;
 use bitstream_count::count::{BitCount, Count, SignedCount};
@@ -409,17 +409,14 @@ impl<W: Target, E: Endianness> BitWrite for BitWriter<W, E> {
         if self.failed {
             return Err(Error::Failed);
         }
-        let payload = F::BITS - 1;
-        let more = U::ONE << payload;
-        let mask = more - U::ONE;
         let most = most_gathered::<F, U>();
         let mut word = U::ZERO;
         let mut bits = 0;
         let mut rest = value;
-        while rest >> payload != U::ZERO {
-            word = E::put(word, bits, more | (rest & mask), F::BITS);
+        while let Some((group, next)) = split_group::<F, U>(rest) {
+            word = E::put(word, bits, group, F::BITS);
             bits += F::BITS;
-            rest >>= payload;
+            rest = next;
             if bits > most {
                 self.push(word, bits)?;
                 word = U::ZERO;

@@ -68,7 +68,7 @@ loop-value-preserved g c =
     record {
       begun = omega arith;
       few = omega (arith, few, next, first, wide);
-      count = λ o. bits-more o g.F.Width.BITS _ wide (ap (λ k. k - 1) first) _ shift _ _ next inv.begun some (inv.count o);
+      count = λ o. bits-more g.F.Width.BITS _ wide (ap (λ k. k - 1) first) o _ shift _ _ next inv.begun some (inv.count o);
     }
 
 pub returns : goal.returns
@@ -77,4 +77,4 @@ returns g c =
     let law = g.met.U.UnsignedInteger in
     let zero = ap u.value c.ZERO.ensures ∙ law.ZERO_value_law in
     let none : u.value c.args.value / 2 ^ c.loop-value.shift ≡ 0 = sym c.shr_default.ensures ∙ (law.eq_value_law _ _).0 (is_same c.loop-value-test.ensures) ∙ zero in
-    λ o. bits-all o g.F.Width.BITS _ c.requires.some (ap (λ k. k - 1) c.BITS-payload.ensures) _ c.loop-value.shift _ c.loop-value.invariant.begun none (c.loop-value.invariant.count o)
+    λ o. bits-all g.F.Width.BITS _ c.requires.some (ap (λ k. k - 1) c.BITS-payload.ensures) o _ c.loop-value.shift _ c.loop-value.invariant.begun none (c.loop-value.invariant.count o)

@@ -1,13 +1,13 @@
-use Rattle.std.proofs.Common.{rules, arith, ◌≡◌, ◌≢◌, true, false, Ok, ◌-◌, ◌/◌, ◌^◌, ◌<◌, sym, ap, ◌∙◌, pow_pos, ◌≤◌}
+use Rattle.std.proofs.Common.{rules, arith, ◌≡◌, ◌-◌, ◌^◌, ◌<◌, sym, ap, ◌∙◌, pow_pos, ◌≤◌}
+use Rattle.bitstream_number.proofs.Masks.{masked-is}
 use Rattle.bitstream_order.proofs.SignLemmas.{half_is}
-use Rattle.bitstream_stream.proofs.GroupLemmas.{mask_below}
-use Rattle.bitstream_stream.proofs.VbrReads.{short_group-stops, short_group-takes, told-start, told-stop, told-end, turn-ends, turn-overflows, turn-told, turn-below}
+use Rattle.bitstream_stream.proofs.GroupLemmas.{apart, mask_below}
+use Rattle.bitstream_stream.proofs.VbrReads.{short_group-stops, short_group-takes, told-start, told-stop, told-end, Turn, turn-ends, turn-overflows, turn-told, turn-below}
 use Rattle.bitstream_stream.proofs.BytesLemmas.{seen_stops}
 use Rattle.bitstream_stream.proofs.SignedLemmas.{Reads-fine}
 use Rattle.bitstream_stream.proofs.TableLemmas.{unsigned-on_failed}
-use Rattle.bitstream_stream.specs.Reads.{Reads}
-use Rattle.bitstream_stream.specs.ReadTable.{unsigned_entry}
-use Rattle.bitstream_stream.proofs.read.BitRead.read_unsigned_vbr.Goals.{then-BITS-gt8+in_ok-group, else-BITS-gt8+in_ok-read_unsigned}
+use Rattle.bitstream_stream.proofs.read.BitRead.read_unsigned_vbr.Given.{Over}
+use Rattle.bitstream_stream.proofs.read.BitRead.read_unsigned_vbr.Goals.{After-eq, then-BITS-gt8+in_ok-group, else-BITS-gt8+in_ok-read_unsigned}
 use Rattle.bitstream_stream.proofs.read.BitRead.read_unsigned_vbr.Goals as goal
 
 pub sub-mask-requires : goal.sub-mask-requires
@@ -73,89 +73,61 @@ returns-in_err-read_unsigned g c =
           (short_group-stops K.order field size _ short (omega (arith, within)) c.in_err-read_unsigned.ensures.reads));
     }
 
-pub returns-then-eq-2 : goal.returns-then-eq-2
-returns-then-eq-2 g c =
-    let K = g.Self.BitRead.source in
-    let u = g.U.UnsignedInteger in
+-- the group that this turn read, and what became of its digits
+turn : (g : Over) (c : After-eq g)
+    → Turn g.Self.BitRead.source g.F.Width.BITS g.U.Numeric.BITS_SIZE (c.BITS-payload.result - 1) c.args.self.now c.loop-shift.self c.if-BITS-gt8.self (g.U.UnsignedInteger.value c.loop-shift.value) c.loop-shift.shift
+    (g.U.UnsignedInteger.value c.if-BITS-gt8.group) (g.U.UnsignedInteger.value c.bitand-digits.result) (g.U.UnsignedInteger.value c.shl-placed.result) (g.U.UnsignedInteger.value c.bitor_assign.new.self)
+turn g c =
     let law = g.met.U.UnsignedInteger in
+    let order = g.Self.BitRead.source.order in
     let field = g.F.Width.BITS in
     let size = g.U.Numeric.BITS_SIZE in
-    let m = c.BITS-payload.result - 1 in
+    let wide = c.requires.some in
     let within = c.requires.within in
     let inv = c.loop-shift.invariant in
-    let begins : c.loop-shift.shift < size = let less = c.loop-shift-test.true in let is = c.BITS_SIZE.ensures in omega (arith, less, is) in
-    let read : Reads K (unsigned_entry K.order size field) c.loop-shift.self (Ok (u.value c.if-BITS-gt8.group)) c.if-BITS-gt8.self = elim c.if-BITS-gt8.branch [
-      | then-BITS-gt8+in_ok-group w ↦ rw (w.group-is, w.self-is) w.in_ok-group.ensures.reads
-      | else-BITS-gt8+in_ok-read_unsigned w ↦
-          let most = w.if-BITS-gt8.false in
-          let is = c.BITS.ensures in
-          rw (w.group-is, w.self-is)
-          (short_group-takes K.order field size _ _ (omega (arith, most, is)) (omega (arith, within)) (λ byte. law.byte_law _ _ w.from_u8-group.ensures byte) w.in_ok-read_unsigned.ensures.reads)
-    ] in
-    let last = (law.eq_value_law _ _).0 (sym c.eq.ensures ∙ c.if-eq.true) in
-    let same = (law.eq_value_law _ _).0 (sym c.eq-then-eq.ensures ∙ c.if-eq-2.true) in
-    let back : u.value c.shl-placed.result / 2 ^ c.loop-shift.shift ≡ u.value c.bitand-digits.result = sym (law.shr_law _ _ _ c.shr.ensures) ∙ same in
     record {
-      reads = turn-ends K field size m c.requires.some (omega (arith, within)) (ap (λ k. k - 1) c.BITS-payload.ensures) _ _ _ _ _ begins inv.told inv.below
-          _ _ _ _ _ read inv.mask (law.and_law _ _ _ c.bitand-digits.ensures) (law.shl_law _ _ _ c.shl-placed.ensures) (law.or_law _ _ _ (g.met.U.Numeric.bitor_assign_law _ _ _ c.bitor_assign.ensures.after)) last back;
+      wide = wide;
+      within = omega (arith, within);
+      payload = ap (λ k. k - 1) c.BITS-payload.ensures;
+      begins = let less = c.loop-shift-test.true in let is = c.BITS_SIZE.ensures in omega (arith, less, is);
+      told = inv.told;
+      small = inv.below;
+      read = elim c.if-BITS-gt8.branch [
+        | then-BITS-gt8+in_ok-group w ↦ rw (w.group-is, w.self-is) w.in_ok-group.ensures.reads
+        | else-BITS-gt8+in_ok-read_unsigned w ↦
+            let most = w.if-BITS-gt8.false in
+            let is = c.BITS.ensures in
+            rw (w.group-is, w.self-is)
+            (short_group-takes order field size _ _ (omega (arith, most, is)) (omega (arith, within)) (λ byte. law.byte_law _ _ w.from_u8-group.ensures byte) w.in_ok-read_unsigned.ensures.reads)
+      ];
+      low = masked-is _ _ _ _ inv.mask (law.and_law _ _ _ c.bitand-digits.ensures);
+      shifted = law.shl_law _ _ _ c.shl-placed.ensures;
+      joined = law.or_law _ _ _ (g.met.U.Numeric.bitor_assign_law _ _ _ c.bitor_assign.ensures.after);
     }
 
-apart : true ≢ false
-apart e = cc
+pub returns-then-eq-2 : goal.returns-then-eq-2
+returns-then-eq-2 g c =
+    let law = g.met.U.UnsignedInteger in
+    let last = (law.eq_value_law _ _).0 (sym c.eq.ensures ∙ c.if-eq.true) in
+    let same = (law.eq_value_law _ _).0 (sym c.eq-then-eq.ensures ∙ c.if-eq-2.true) in
+    record { reads = turn-ends (turn g (goal.at.returns-then-eq-2 g c).After-eq) last (sym (law.shr_law _ _ _ c.shr.ensures) ∙ same) }
 
 pub returns-else-eq-2 : goal.returns-else-eq-2
 returns-else-eq-2 g c =
-    let K = g.Self.BitRead.source in
-    let u = g.U.UnsignedInteger in
     let law = g.met.U.UnsignedInteger in
-    let field = g.F.Width.BITS in
-    let size = g.U.Numeric.BITS_SIZE in
-    let m = c.BITS-payload.result - 1 in
-    let within = c.requires.within in
-    let inv = c.loop-shift.invariant in
-    let begins : c.loop-shift.shift < size = let less = c.loop-shift-test.true in let is = c.BITS_SIZE.ensures in omega (arith, less, is) in
-    let read : Reads K (unsigned_entry K.order size field) c.loop-shift.self (Ok (u.value c.if-BITS-gt8.group)) c.if-BITS-gt8.self = elim c.if-BITS-gt8.branch [
-      | then-BITS-gt8+in_ok-group w ↦ rw (w.group-is, w.self-is) w.in_ok-group.ensures.reads
-      | else-BITS-gt8+in_ok-read_unsigned w ↦
-          let most = w.if-BITS-gt8.false in
-          let is = c.BITS.ensures in
-          rw (w.group-is, w.self-is)
-          (short_group-takes K.order field size _ _ (omega (arith, most, is)) (omega (arith, within)) (λ byte. law.byte_law _ _ w.from_u8-group.ensures byte) w.in_ok-read_unsigned.ensures.reads)
-    ] in
     let last = (law.eq_value_law _ _).0 (sym c.eq.ensures ∙ c.if-eq.true) in
-    let lost : u.value c.shr.result ≢ u.value c.bitand-digits.result = λ e. apart (sym ((law.eq_value_law _ _).1 e) ∙ sym c.eq-then-eq.ensures ∙ c.if-eq-2.false) in
     record {
-      reads = turn-overflows K field size m c.requires.some (omega (arith, within)) (ap (λ k. k - 1) c.BITS-payload.ensures) _ _ _ _ _ begins inv.told inv.below
-          _ _ _ _ _ read inv.mask (law.and_law _ _ _ c.bitand-digits.ensures) (law.shl_law _ _ _ c.shl-placed.ensures) (law.or_law _ _ _ (g.met.U.Numeric.bitor_assign_law _ _ _ c.bitor_assign.ensures.after)) last (λ back. lost (law.shr_law _ _ _ c.shr.ensures ∙ back));
+      reads = turn-overflows (turn g (goal.at.returns-else-eq-2 g c).After-eq) last (λ back. apart (sym ((law.eq_value_law _ _).1 (law.shr_law _ _ _ c.shr.ensures ∙ back)) ∙ sym c.eq-then-eq.ensures ∙ c.if-eq-2.false));
     }
 
 pub loop-shift-preserved : goal.loop-shift-preserved
 loop-shift-preserved g c =
-    let K = g.Self.BitRead.source in
-    let u = g.U.UnsignedInteger in
-    let law = g.met.U.UnsignedInteger in
-    let field = g.F.Width.BITS in
-    let size = g.U.Numeric.BITS_SIZE in
-    let m = c.BITS-payload.result - 1 in
-    let within = c.requires.within in
-    let inv = c.loop-shift.invariant in
-    let begins : c.loop-shift.shift < size = let less = c.loop-shift-test.true in let is = c.BITS_SIZE.ensures in omega (arith, less, is) in
-    let read : Reads K (unsigned_entry K.order size field) c.loop-shift.self (Ok (u.value c.if-BITS-gt8.group)) c.if-BITS-gt8.self = elim c.if-BITS-gt8.branch [
-      | then-BITS-gt8+in_ok-group w ↦ rw (w.group-is, w.self-is) w.in_ok-group.ensures.reads
-      | else-BITS-gt8+in_ok-read_unsigned w ↦
-          let most = w.if-BITS-gt8.false in
-          let is = c.BITS.ensures in
-          rw (w.group-is, w.self-is)
-          (short_group-takes K.order field size _ _ (omega (arith, most, is)) (omega (arith, within)) (λ byte. law.byte_law _ _ w.from_u8-group.ensures byte) w.in_ok-read_unsigned.ensures.reads)
-    ] in
-    let more : u.value c.if-BITS-gt8.group ≢ u.value c.bitand-digits.result = λ e. apart (sym ((law.eq_value_law _ _).1 e) ∙ sym c.eq.ensures ∙ c.if-eq.false) in
+    let done = turn g (goal.at.loop-shift-preserved g c).After-eq in
     record {
-      mask = inv.mask;
-      told = turn-told K field size m c.requires.some (omega (arith, within)) (ap (λ k. k - 1) c.BITS-payload.ensures) _ _ _ _ _ begins inv.told inv.below
-          _ _ _ _ _ read inv.mask (law.and_law _ _ _ c.bitand-digits.ensures) (law.shl_law _ _ _ c.shl-placed.ensures) (law.or_law _ _ _ (g.met.U.Numeric.bitor_assign_law _ _ _ c.bitor_assign.ensures.after)) more;
-      below = turn-below K field size m c.requires.some (omega (arith, within)) (ap (λ k. k - 1) c.BITS-payload.ensures) _ _ _ _ _ begins inv.told inv.below
-          _ _ _ _ _ read inv.mask (law.and_law _ _ _ c.bitand-digits.ensures) (law.shl_law _ _ _ c.shl-placed.ensures) (law.or_law _ _ _ (g.met.U.Numeric.bitor_assign_law _ _ _ c.bitor_assign.ensures.after));
-      sound = λ _. Reads-fine (unsigned-on_failed K.order size field) read;
+      mask = c.loop-shift.invariant.mask;
+      told = turn-told done (λ e. apart (sym ((g.met.U.UnsignedInteger.eq_value_law _ _).1 e) ∙ sym c.eq.ensures ∙ c.if-eq.false));
+      below = turn-below done;
+      sound = λ _. Reads-fine (unsigned-on_failed g.Self.BitRead.source.order g.U.Numeric.BITS_SIZE g.F.Width.BITS) done.read;
     }
 
 pub returns : goal.returns

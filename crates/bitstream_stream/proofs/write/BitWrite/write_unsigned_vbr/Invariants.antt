@@ -1,22 +1,20 @@
-use Rattle.std.proofs.Common.{◌≡◌, ◌+◌, ◌-◌, ◌^◌, length}
+use Rattle.std.proofs.Common.{◌+◌, length}
 use Rattle.bitstream_count.specs.Vbr.{vbr_word}
 use Rattle.bitstream_stream.specs.Sink.{IsWithin}
 use Rattle.bitstream_stream.proofs.VbrWrites.{GroupsBegun}
 use Rattle.bitstream_stream.proofs.write.BitWrite.write_unsigned_vbr.Given as goal
 
 -- the first groups were written, and there is room for all
-abbrev pub invariant-loop-more : goal.invariant-loop-more
-invariant-loop-more g l =
+abbrev pub invariant-loop-group : goal.invariant-loop-group
+invariant-loop-group g l =
     let K = g.Self.BitWrite.sink in
     let u = g.U.UnsignedInteger in
     let field = g.F.Width.BITS in
     let v = u.value l.fn.value in
     record {
-      more : u.value l.more ≡ 2 ^ l.payload;
-      mask : u.value l.mask ≡ 2 ^ l.payload - 1;
       groups : GroupsBegun K field v l.fn.self (u.value l.rest) l.self;
       room : IsWithin K.limit (K.len l.fn.self + length (vbr_word K.order field v));
     }
 
-abbrev pub decreases-loop-more : goal.decreases-loop-more
-decreases-loop-more g l = g.U.UnsignedInteger.value l.rest
+abbrev pub decreases-loop-group : goal.decreases-loop-group
+decreases-loop-group g l = g.U.UnsignedInteger.value l.rest

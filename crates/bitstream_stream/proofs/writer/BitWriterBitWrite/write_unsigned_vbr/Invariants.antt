@@ -1,21 +1,19 @@
-use Rattle.std.proofs.Common.{◌≡◌, ◌+◌, ◌-◌, ◌^◌, ◌≤◌}
+use Rattle.std.proofs.Common.{◌+◌, ◌≤◌}
 use Rattle.bitstream_order.specs.Refusal.{MayRefuse}
 use Rattle.bitstream_stream.specs.Writer.{writer_state, queue_sink}
 use Rattle.bitstream_stream.proofs.VbrWrites.{GroupsGathered}
 use Rattle.bitstream_stream.proofs.writer.BitWriterBitWrite.write_unsigned_vbr.Given as goal
 
 -- the first groups were written or are gathered, and there is room to gather another
-abbrev pub invariant-loop-more : goal.invariant-loop-more
-invariant-loop-more g l =
+abbrev pub invariant-loop-group : goal.invariant-loop-group
+invariant-loop-group g l =
     let target = g.W.Target in
     let state = writer_state target.contents target.reference_names in
     let u = g.U.UnsignedInteger in
     record {
-      more : u.value l.more ≡ 2 ^ l.payload;
-      mask : u.value l.mask ≡ 2 ^ l.payload - 1;
       room : l.bits + g.F.Width.BITS ≤ g.U.Numeric.BITS_SIZE;
       groups : GroupsGathered (queue_sink (MayRefuse target.contents target.refuses) g.E.Endianness.order) g.F.Width.BITS (u.value l.fn.value) (state l.fn.self) (u.value l.rest) (state l.self) l.bits (u.value l.word);
     }
 
-abbrev pub decreases-loop-more : goal.decreases-loop-more
-decreases-loop-more g l = g.U.UnsignedInteger.value l.rest
+abbrev pub decreases-loop-group : goal.decreases-loop-group
+decreases-loop-group g l = g.U.UnsignedInteger.value l.rest
