@@ -10,16 +10,6 @@ use std::test::Fail;
 
 const D: [u8; 4] = [0xb1, 0xed, 0x3b, 0xc1];
 
-#[test]
-fn reads_values_and_ends_each_time(rt: HostRuntime) -> Result<(), Fail> {
-    let mut reader = ByteReader::<_, BE>::new(D.as_slice());
-    assert_eq!(rt; reader.read::<u16>()?, 0xb1ed);
-    assert_eq!(rt; reader.read_as::<LE, u16>()?, 0xc13b);
-    assert!(rt; matches!(reader.read::<u8>(), Err(Error::EndOfInput)));
-    assert!(rt; matches!(reader.read::<u8>(), Err(Error::EndOfInput)));
-    Ok(())
-}
-
 /// Reads through a reference.
 fn two<R: ByteRead + Drop>(mut reader: R) -> Result<(u8, [u8; 2]), Error> {
     reader.skip(1)?;
@@ -69,16 +59,10 @@ fn writes_two<W: ByteWrite + Drop>(mut writer: W) -> Result<(), Error> {
 }
 
 #[test]
-fn writes_values_and_zeros(rt: HostRuntime) -> Result<(), Fail> {
+fn writes_through_a_reference(rt: HostRuntime) -> Result<(), Fail> {
     let mut bytes = Vec::new(rt.alloc());
-    let mut writer = ByteWriter::<_, BE>::new(&mut bytes);
-    writer.write_as::<LE, u16>(1)?;
-    writer.pad(3)?;
-    writes_two(&mut writer)?;
-    assert_eq!(rt;
-        bytes.as_slice(),
-        [1, 0, 0, 0, 0, 0xb1, 0xed, 0x3b].as_slice()
-    );
+    writes_two(&mut ByteWriter::<_, BE>::new(&mut bytes))?;
+    assert_eq!(rt; bytes.as_slice(), [0xb1, 0xed, 0x3b].as_slice());
     Ok(())
 }
 
