@@ -1,7 +1,9 @@
-use Rattle.std.proofs.Common.{arith, ◌≡◌, ◌<◌, ◌-◌, ◌/◌, ◌^◌, sym, ap, ◌∙◌, pow_pos}
+use Rattle.std.proofs.Common.{arith, ◌≡◌, ◌-◌, ◌/◌, ◌^◌, sym, ap, ◌∙◌, pow_pos}
 use Rattle.bitstream_order.proofs.SignLemmas.{half_is}
-use Rattle.bitstream_stream.proofs.GroupLemmas.{apart, mask_below}
+use Rattle.bitstream_stream.proofs.GroupLemmas.{apart}
 use Rattle.bitstream_stream.proofs.VbrWrites.{large_of, small_of, group_is, group_first, group_last}
+use Rattle.bitstream_stream.proofs.vbr.split_group.Given.{Over}
+use Rattle.bitstream_stream.proofs.vbr.split_group.Goals.{After-ONE-2}
 use Rattle.bitstream_stream.proofs.vbr.split_group.Goals as goal
 
 pub returns-then-eq : goal.returns-then-eq
@@ -11,33 +13,30 @@ returns-then-eq g c =
     let none = sym (law.shr_law _ _ _ c.shr-rest.ensures) ∙ (law.eq_value_law _ _).0 (sym c.eq.ensures ∙ c.if-eq.true) ∙ zero in
     record { first = tt; last = λ _. group_last g.F.Width.BITS _ c.requires.some (ap (λ k. k - 1) c.BITS-payload.ensures) _ (small_of _ _ none) }
 
-pub sub-requires : goal.sub-requires
-sub-requires g c =
+-- the digit that says that another group follows, and what is taken off it
+digit : (g : Over) (c : After-ONE-2 g) → (g.U.UnsignedInteger.value c.shl-more.result ≡ 2 ^ (c.BITS-payload.result - 1)) × (g.U.UnsignedInteger.value c.ONE-2.result ≡ 1)
+digit g c =
     let u = g.U.UnsignedInteger in
     let law = g.met.U.UnsignedInteger in
-    let one : u.value c.ONE.result ≡ 1 = ap u.value c.ONE.ensures ∙ law.ONE_value_law in
-    let unit : u.value c.ONE-2.result ≡ 1 = ap u.value c.ONE-2.ensures ∙ law.ONE_value_law in
-    let m = c.BITS-payload.result - 1 in
-    let size = g.U.Numeric.BITS_SIZE in
     let field = c.BITS-payload.ensures in
     let within = c.requires.within in
-    let less : m < size = omega (arith, field, within) in
-    law.can_sub_value_law _ _ (omega (arith, unit, half_is _ m size _ one less (law.shl_law _ _ _ c.shl-more.ensures), pow_pos m))
+    let one = ap u.value c.ONE.ensures ∙ law.ONE_value_law in
+    (half_is _ (c.BITS-payload.result - 1) g.U.Numeric.BITS_SIZE _ one (omega (arith, field, within)) (law.shl_law _ _ _ c.shl-more.ensures), ap u.value c.ONE-2.ensures ∙ law.ONE_value_law)
+
+pub sub-requires : goal.sub-requires
+sub-requires g c =
+    let made = digit g c in
+    g.met.U.UnsignedInteger.can_sub_value_law _ _ (omega (arith, made.0, made.1, pow_pos (c.BITS-payload.result - 1)))
 
 pub returns : goal.returns
 returns g c =
     let u = g.U.UnsignedInteger in
     let law = g.met.U.UnsignedInteger in
-    let one : u.value c.ONE.result ≡ 1 = ap u.value c.ONE.ensures ∙ law.ONE_value_law in
-    let unit : u.value c.ONE-2.result ≡ 1 = ap u.value c.ONE-2.ensures ∙ law.ONE_value_law in
     let m = c.BITS-payload.result - 1 in
-    let size = g.U.Numeric.BITS_SIZE in
     let field = c.BITS-payload.ensures in
-    let within = c.requires.within in
-    let less : m < size = omega (arith, field, within) in
-    let top = law.shl_law _ _ _ c.shl-more.ensures in
-    let mask = mask_below m size _ _ _ _ less one unit top (law.sub_value_law _ _ _ c.sub.ensures) in
-    let group = group_is m _ _ _ _ _ (half_is _ m size _ one less top) mask (law.and_law _ _ _ c.bitand-digits.ensures) (law.or_law _ _ _ c.bitor.ensures) in
+    let made = digit g (goal.at.returns g c).After-ONE-2 in
+    let mask : u.value c.sub.result ≡ 2 ^ m - 1 = law.sub_value_law _ _ _ c.sub.ensures ∙ omega (arith, made.0, made.1) in
+    let group = group_is m _ _ _ _ _ made.0 mask (law.and_law _ _ _ c.bitand-digits.ensures) (law.or_law _ _ _ c.bitor.ensures) in
     let rest : u.value c.shr-rest.result ≡ u.value c.args.value / 2 ^ m = law.shr_law _ _ _ c.shr-rest.ensures in
     let zero = ap u.value c.ZERO.ensures ∙ law.ZERO_value_law in
     let large = large_of m _ (λ e. apart (sym ((law.eq_value_law _ _).1 (rest ∙ e ∙ sym zero)) ∙ sym c.eq.ensures ∙ c.if-eq.false)) in
