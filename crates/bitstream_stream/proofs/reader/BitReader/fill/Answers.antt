@@ -7,12 +7,3 @@ returns-then-self-clause-reads g c = bytes-failed _ _ _ c.if-self.true
 
 pub returns-then-is_empty-clause-reads : goal.returns-then-is_empty-clause-reads
 returns-then-is_empty-clause-reads g c = let none : length c.args.buf.now ≡ 0 = search rules in bytes-nothing _ _ _ c.if-self.false none
-
-pub returns-then-self-gt0-clause-reads : goal.returns-then-self-gt0-clause-reads
-returns-then-self-gt0-clause-reads g c = c.fetch_pieces.ensures.reads
-
-pub returns-then-self-gt0-clause-asks : goal.returns-then-self-gt0-clause-asks
-returns-then-self-gt0-clause-asks g c = c.fetch_pieces.ensures.asks
-
-pub returns-clause-reads : goal.returns-clause-reads
-returns-clause-reads g c = c.fetch_aligned.ensures.reads

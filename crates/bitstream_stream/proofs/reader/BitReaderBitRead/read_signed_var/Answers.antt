@@ -26,9 +26,3 @@ pub returns-clause-reads : goal.returns-clause-reads
 returns-clause-reads g c =
     rw (← g.met.S.SignedInteger.same_size_law)
     (signed-takes_front _ _ _ _ _ (omega arith) c.signed_of.ensures c.in_ok-word.ensures.reads)
-
-pub returns-in_err-word-clause-asks : goal.returns-in_err-word-clause-asks
-returns-in_err-word-clause-asks g c = c.in_err-word.ensures.asks
-
-pub returns-clause-asks : goal.returns-clause-asks
-returns-clause-asks g c = c.in_ok-word.ensures.asks
