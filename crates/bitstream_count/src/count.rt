@@ -5,12 +5,13 @@ mod checked;
 mod fixed;
 mod kinds;
 mod mask;
+mod sealed;
 mod signed_bit_count;
 
 pub use crate::checked_error::CheckedError;
 pub use crate::count::bit_count::BitCount;
 pub use crate::count::checked::{
-    Checked, CheckedSigned, CheckedSignedFixed, CheckedUnsigned, CheckedUnsignedFixed,
+    Checked, CheckedSigned, CheckedSignedFixed, CheckedUnsigned, CheckedUnsignedFixed, Holds,
 };
 pub use crate::count::fixed::{FixedBitCount, FixedSignedBitCount};
 pub use crate::count::kinds::{Count, SignedCount};

@@ -32,8 +32,8 @@ pub mod number {
 pub mod count {
     pub use bitstream_count::count::{
         BitCount, Checked, CheckedError, CheckedSigned, CheckedSignedFixed, CheckedUnsigned,
-        CheckedUnsignedFixed, Count, FixedBitCount, FixedSignedBitCount, LsbMask, SignedBitCount,
-        SignedCount,
+        CheckedUnsignedFixed, Count, FixedBitCount, FixedSignedBitCount, Holds, LsbMask,
+        SignedBitCount, SignedCount,
     };
 }
 
@@ -106,7 +106,7 @@ pub mod laws {
 pub use bytes::{ByteRead, ByteReader, ByteWrite, ByteWriter};
 pub use count::{
     BitCount, Checked, CheckedError, CheckedSigned, CheckedSignedFixed, CheckedUnsigned,
-    CheckedUnsignedFixed, Count, FixedBitCount, FixedSignedBitCount, LsbMask, SignedBitCount,
+    CheckedUnsignedFixed, Count, FixedBitCount, FixedSignedBitCount, Holds, LsbMask, SignedBitCount,
     SignedCount,
 };
 pub use error::Error;

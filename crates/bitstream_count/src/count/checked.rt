@@ -8,13 +8,16 @@ use crate::checked_error::CheckedError;
 use crate::count::bit_count::BitCount;
 use crate::count::fixed::{FixedBitCount, FixedSignedBitCount};
 use crate::count::kinds::{Count, SignedCount};
+use crate::count::sealed::Sealed;
 use crate::count::signed_bit_count::SignedBitCount;
 use bitstream_number::number::{Numeric, SignedInteger, UnsignedInteger};
 use std::alloc::AllocError;
 use std::marker::Model;
 
-/// A kind of count of bits, and which values of T a count of it holds.
-pub trait Holds<T> {
+/// A kind of count of bits, and which values of T a count of it holds: the bound of a function over
+/// any [`Checked`]. The four kinds of this crate alone are such.
+pub trait Holds<T>: Sealed {
+    // Whether a value is one that a count holds.
     ghost holds: { Self → T → Type 0 };
 }
 

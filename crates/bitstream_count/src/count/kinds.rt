@@ -3,16 +3,10 @@
 ghost use Rattle.std.specs.Prelude.{◌≡◌, ℕ, ◌<◌, ◌≤◌, MatchOption};
 ghost use Rattle.bitstream_count.specs.Counts.{IsOutside};
 
-mod sealed {
-    pub trait Sealed {}
-
-    impl<const MAX: u32> Sealed for crate::count::BitCount<MAX> {}
-
-    impl<const MAX: u32> Sealed for crate::count::SignedBitCount<MAX> {}
-}
+use crate::count::sealed::Sealed;
 
 /// A number of bits from 0 to `MAX`. `BitCount<MAX>` alone is one.
-pub trait Count: sealed::Sealed + Copy {
+pub trait Count: Sealed + Copy {
     /// The greatest number of bits.
     const MAX: u32;
 
@@ -31,7 +25,7 @@ pub trait Count: sealed::Sealed + Copy {
 }
 
 /// A number of bits from 1 to `MAX`, of which one is the sign. `SignedBitCount<MAX>` alone is one.
-pub trait SignedCount: sealed::Sealed + Copy {
+pub trait SignedCount: Sealed + Copy {
     /// The greatest number of bits.
     const MAX: u32;
 
