@@ -151,16 +151,16 @@ bytes_stop {K = K} a b n x e s t u le h (meets_refusal k) =
     })
 bytes_stop a b n x e s t u le h (wants_memory g k) = cc
 
--- some bytes of n, and then memory was refused
-pub bytes_starved : {R : Type 0} {K : ByteSource R} (a n : ℕ) (x : List ℕ) (s t : R) → a ≤ n → ByteReadsGrowing K (given_bytes a) s (Ok x) t → ByteReadsGrowing K (given_bytes n) s (Err OutOfMemory) t
+-- fewer than n bytes, and then memory was refused
+pub bytes_starved : {R : Type 0} {K : ByteSource R} (a n : ℕ) (x : List ℕ) (s t : R) → a < n → ByteReadsGrowing K (given_bytes a) s (Ok x) t → ByteReadsGrowing K (given_bytes n) s (Err OutOfMemory) t
 unfolding given_bytes
-bytes_starved {K = K} a n x s t le h =
+bytes_starved {K = K} a n x s t less h =
     let p = bytes_took a x s t h in
     let len = p.1 in
     wants_memory refl (record {
       answer = refl;
       bytes = x;
-      needs = λ front b back is. let few = shorter x front back b is in byte_front-none n (λ w. Ok w) front (omega arith);
+      few = byte_front-none n (λ w. Ok w) x (omega arith);
       took = p.0;
     })
 
@@ -242,7 +242,7 @@ bytes_lent {K = K} s t same (meets_refusal h) = meets_refusal (record {
 bytes_lent {K = K} s t same (wants_memory g h) = wants_memory g (record {
   answer = h.answer;
   bytes = h.bytes;
-  needs = h.needs;
+  few = h.few;
   took = TookBytes-named s.ghost_name t.ghost_name h.bytes (K.state s.now) (K.state t.now) same h.took;
 })
 

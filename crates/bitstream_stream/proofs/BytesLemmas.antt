@@ -15,14 +15,14 @@ use Rattle.bitstream_number.proofs.WordLemmas.{bits-bytes, length-bits, word-num
 use Rattle.std.proofs.lemmas.List.{nil_from_length, length-replicate}
 use Rattle.bitstream_count.specs.declared.error.Error.{Error}
 use Rattle.bitstream_count.specs.declared.error.Error.TheVariants.{Failed, OutOfMemory}
-use Rattle.bitstream_count.specs.Entry.{ReadEntry, chain, gives, takes}
+use Rattle.bitstream_count.specs.Entry.{ReadEntry, TooShort, chain, gives, takes}
 use Rattle.bitstream_order.specs.Port.{PortState, Fetched}
 use Rattle.bitstream_order.specs.Shift.{Shifts}
 use Rattle.bitstream_order.specs.Pieces.{pieces}
 use Rattle.bitstream_order.specs.TakeBits.{TakesWord, seen}
 use Rattle.bitstream_stream.specs.Reads.{BitSource, ReadOutcome, failing, stays_failed}
 use Rattle.bitstream_stream.specs.ReadTable.{unsigned_entry, bytes_entry, skip_entry}
-use Rattle.bitstream_stream.proofs.EntryLemmas.{Same, Same-trans, word_front-some, chain_takes, map_takes}
+use Rattle.bitstream_stream.proofs.EntryLemmas.{Same, Same-trans, chain-none, word_front-some, word_front-none, chain_takes, map_takes}
 use Rattle.bitstream_stream.proofs.LawLemmas.{Same-chain}
 use Rattle.bitstream_stream.proofs.ReadsLemmas.{Reads-same, Reads-chain-ok, Reads-chain-err, Reads-gives, Reads-nothing, Reads-lacks_memory, seen_err}
 use Rattle.bitstream_stream.proofs.TableLemmas.{unsigned-takes}
@@ -70,6 +70,11 @@ bytes-skip o n = map_takes (8 * n) (bytes_of o n) (λ _. tt) (λ _. Ok tt) (λ w
 bytes-on_failed : (o : Order) (n : ℕ) → (bytes_entry o n).on_failed ≡ Err Failed
 unfolding bytes_entry
 bytes-on_failed o n = refl
+
+-- some bytes need bits
+bytes-some : (o : Order) (n p : ℕ) → 0 < n → (bytes_entry o n).reads p [] ≡ TooShort
+unfolding bytes_entry
+bytes-some o n p some = word_front-none (8 * n) (λ w. Ok (bytes_of o n w)) [] (omega arith)
 
 -- how long a buffer is that has grown
 pub grown_length : (xs all : List ℕ) (n : ℕ) → all ≡ xs ++ replicate (n - length xs) 0 → length xs ≤ n → length all ≡ n
@@ -177,12 +182,14 @@ module _ {R : Type 0} {K : BitSource R} {grows : Bool} where
   pub skips-bytes-stop : (o : Order) (a b n : ℕ) (x : Error) (s t z : R) → a + b ≤ n → ReadOutcome K grows (skip_entry (8 * a)) s (Ok tt) t → ReadOutcome K grows (bytes_entry o b) t (Err x) z → ReadOutcome K grows (skip_entry (8 * n)) s (Err x) z
   skips-bytes-stop o a b n x s t z le h k = skips-front (8 * (a + b)) (8 * n) x s z (omega arith) (skips-more (8 * a) (8 * b) (8 * (a + b)) (Err x) s t z (twice a b) h (Reads-same (bytes-skip o b) (Reads-chain-err _ (λ _. gives tt) k)))
 
--- memory was refused behind bytes that were read, and the reader was made to fail
-pub lacks-more : {R : Type 0} {K : BitSource R} (o : Order) (a n : ℕ) (xs : List ℕ) (s t z : R) → a ≤ n → ReadOutcome K true (bytes_entry o a) s (Ok xs) t → K.state z ≡ failing (K.state t) → ReadOutcome K true (bytes_entry o n) s (Err OutOfMemory) z
-lacks-more {K = K} o a n xs s t z le h broken =
+-- memory was refused behind bytes that were read and before others, and the reader was made to fail
+pub lacks-more : {R : Type 0} {K : BitSource R} (o : Order) (a n : ℕ) (xs : List ℕ) (s t z : R) → a < n → ReadOutcome K true (bytes_entry o a) s (Ok xs) t → K.state z ≡ failing (K.state t) → ReadOutcome K true (bytes_entry o n) s (Err OutOfMemory) z
+lacks-more {K = K} o a n xs s t z less h broken =
     let sum : a + (n - a) ≡ n = omega arith in
+    let some = bytes-some o (n - a) (K.state t).taken (omega arith) in
     subst (λ m. ReadOutcome K true (bytes_entry o m) s (Err OutOfMemory) z) sum
-    (Reads-same (bytes-split o a (n - a)) (Reads-lacks_memory (bytes_entry o a) (λ us. chain (bytes_entry o (n - a)) (λ vs. gives (us ++ vs))) xs s t z (bytes-on_failed o a) h broken))
+    (Reads-same (bytes-split o a (n - a)) (Reads-lacks_memory (bytes_entry o a) (λ us. chain (bytes_entry o (n - a)) (λ vs. gives (us ++ vs))) xs s t z (bytes-on_failed o a)
+    (chain-none (bytes_entry o (n - a)) (λ vs. gives (xs ++ vs)) (K.state t).taken [] some) h broken))
 
 -- ---- what a reader took from its port
 

@@ -221,7 +221,7 @@ MemoryFault-behind o e d w r x s t z h behind answer k = record {
   fine = h.fine;
   answer = answer;
   word = w ++ k.word;
-  needs = Behind-needs k.word behind k.needs;
+  few = behind.short k.word k.few;
   gone = h.gone ++ k.gone;
   loses = Consumes-trans s.bytes t.bytes z.bytes h.gone k.gone h.loses k.loses;
   rest = k.rest;
@@ -235,13 +235,12 @@ MemoryFault-behind o e d w r x s t z h behind answer k = record {
 
 -- the reader was made to fail behind a word, since memory was refused
 pub Took-lacks_memory : {A : Type 0} (o : Order) (e : ReadEntry A) (w : List Bool) (s t z : ReaderState) → Took o s w t → z ≡ failing t
-    → ((front : List Bool) (b : Bool) (back : List Bool) → w ≡ front ++ b ∷ back → e.reads s.taken front ≡ TooShort)
-    → MemoryFault o e s (Err OutOfMemory) z
-Took-lacks_memory o e w s t z h broken needs = rw broken (record {
+    → e.reads s.taken w ≡ TooShort → MemoryFault o e s (Err OutOfMemory) z
+Took-lacks_memory o e w s t z h broken few = rw broken (record {
   fine = h.fine;
   answer = refl;
   word = w;
-  needs = needs;
+  few = few;
   gone = h.gone;
   loses = h.loses;
   rest = t.held;
@@ -484,7 +483,7 @@ MemoryFault-named k l same h = record {
   fine = h.fine;
   answer = h.answer;
   word = h.word;
-  needs = h.needs;
+  few = h.few;
   gone = h.gone;
   loses = h.loses;
   rest = h.rest;
@@ -635,14 +634,16 @@ Reads-taken_ok fine held taken fetched (lacks_memory g h) = let p = h.answer in 
 
 -- ---- memory of the call's own
 
--- memory was refused behind a call that answered with a value, and the reader was made to fail
-pub Reads-lacks_memory : {R A B : Type 0} {K : BitSource R} (e : ReadEntry A) (f : A → ReadEntry B) (a : A) (s t z : R) → e.on_failed ≡ Err Failed → ReadOutcome K true e s (Ok a) t → K.state z ≡ failing (K.state t) → ReadsGrowing K (chain e f) s (Err OutOfMemory) z
-Reads-lacks_memory e f a s t z failed (stays_failed h) broken = let p = h.answer in cc
-Reads-lacks_memory {K = K} e f a s t z failed (takes_front h) broken =
+-- memory was refused behind a call that answered with a value and before one that needs bits, and the reader
+-- was made to fail
+pub Reads-lacks_memory : {R A B : Type 0} {K : BitSource R} (e : ReadEntry A) (f : A → ReadEntry B) (a : A) (s t z : R) → e.on_failed ≡ Err Failed → (f a).reads (K.state t).taken [] ≡ TooShort → ReadOutcome K true e s (Ok a) t → K.state z ≡ failing (K.state t)
+    → ReadsGrowing K (chain e f) s (Err OutOfMemory) z
+Reads-lacks_memory e f a s t z failed some (stays_failed h) broken = let p = h.answer in cc
+Reads-lacks_memory {K = K} e f a s t z failed some (takes_front h) broken =
     lacks_memory refl (Took-lacks_memory K.order (chain e f) h.word (K.state s) (K.state t) (K.state z) (took K.order e a (K.state s) (K.state t) h) broken
-    (λ front b back is. chain-none e f (K.state s).taken front (h.needs front b back is)))
-Reads-lacks_memory e f a s t z failed (meets_fault h) broken = let p = h.answer in cc
-Reads-lacks_memory e f a s t z failed (lacks_memory g h) broken = let p = h.answer in cc
+    (ap (λ l. (chain e f).reads (K.state s).taken l) (sym (append-nil h.word)) ∙ (chain-behind K.order e f a (K.state s) (K.state t) h).short [] some))
+Reads-lacks_memory e f a s t z failed some (meets_fault h) broken = let p = h.answer in cc
+Reads-lacks_memory e f a s t z failed some (lacks_memory g h) broken = let p = h.answer in cc
 
 -- ---- what came back through a reference
 

@@ -71,12 +71,12 @@ pub record ByteReadFault {A : Type 0} (may : Refusal → Type 0) (entry : ByteRe
   pub refusals : new.refusals ≡ refusal ∷ old.refusals
   pub reference_names : new.reference_names ≡ old.reference_names
 
--- Memory that the call asked for itself was refused. The bytes that were taken until then are no more than
--- the call's front: no beginning of them has one.
+-- Memory that the call asked for itself was refused. The bytes that were taken until then were too few for
+-- the call: so a call for no bytes never lacks memory.
 pub record ByteMemoryFault {A : Type 0} (entry : ByteReadEntry A) (old : ByteReaderState) (result : Result A Error) (new : ByteReaderState) : Type 0 where
   pub answer : result ≡ Err OutOfMemory
   pub bytes : List ℕ
-  pub needs : (front : List ℕ) (b : ℕ) (back : List ℕ) → bytes ≡ front ++ b ∷ back → entry front ≡ TooShort
+  pub few : entry bytes ≡ TooShort
   pub took : TookBytes old bytes new
 
 -- one read of bytes, by what the call means; `grows` where the call asks for memory of its own

@@ -99,12 +99,12 @@ pub record ReadFault {A : Type 0} (o : Order) (may : Refusal → Type 0) (entry 
   pub failed : new.failed ≡ true
 
 -- Memory that the call asked for itself was refused, and the reader has failed. The bits that were taken
--- until then are no more than the call's front: no beginning of them has one.
+-- until then were too few for the call: so a call for no bits never lacks memory.
 pub record MemoryFault {A : Type 0} (o : Order) (entry : ReadEntry A) (old : ReaderState) (result : Result A Error) (new : ReaderState) : Type 0 where
   pub fine : old.failed ≡ false
   pub answer : result ≡ Err OutOfMemory
   pub word : List Bool
-  pub needs : (front : List Bool) (b : Bool) (back : List Bool) → word ≡ front ++ b ∷ back → entry.reads old.taken front ≡ TooShort
+  pub few : entry.reads old.taken word ≡ TooShort
   pub gone : List ℕ
   pub loses : Consumes old.bytes new.bytes gone
   pub rest : List Bool

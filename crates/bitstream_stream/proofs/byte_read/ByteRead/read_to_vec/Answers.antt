@@ -14,7 +14,7 @@ loop-at-init g c = record {
 pub returns-in_err-grow : goal.returns-in_err-grow
 returns-in_err-grow g c =
     let inv = c.loop-at.invariant in
-    record { reads = rw (seen_err _ c.from_residual.result c.from_residual.ensures.1) (bytes_starved _ c.args.bytes _ c.args.self.now c.loop-at.self inv.within inv.reads) }
+    record { reads = rw (seen_err _ c.from_residual.result c.from_residual.ensures.1) (bytes_starved _ c.args.bytes _ c.args.self.now c.loop-at.self c.loop-at-test.true inv.reads) }
 
 pub returns-in_err-read_bytes : goal.returns-in_err-read_bytes
 returns-in_err-read_bytes g c =

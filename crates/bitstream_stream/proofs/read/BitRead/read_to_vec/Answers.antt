@@ -17,7 +17,7 @@ loop-at-init g c = record {
 
 pub returns-in_default : goal.returns-in_default
 returns-in_default g c = record {
-  reads = lacks-more _ c.loop-at.at c.args.bytes _ _ _ _ c.loop-at.invariant.within (Reads-growing c.loop-at.invariant.reads) c.fail.ensures;
+  reads = lacks-more _ c.loop-at.at c.args.bytes _ _ _ _ c.loop-at-test.true (Reads-growing c.loop-at.invariant.reads) c.fail.ensures;
 }
 
 pub returns-in_err-read_bytes : goal.returns-in_err-read_bytes
