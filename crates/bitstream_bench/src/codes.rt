@@ -45,25 +45,30 @@ fn written(alloc: Global, tree: &Tree, symbols: &[u16]) -> Result<Vec<u8>, Error
     Ok(bytes)
 }
 
+/// Writes the symbols one behind the other and reads them back, and returns how many bytes they take.
+fn come_back(rt: &impl Abort, alloc: Global, tree: &Tree, symbols: &[u16]) -> Result<usize, Error> {
+    let bytes = written(alloc, tree, symbols)?;
+    let mut reader = BitReader::<_, BE>::new(Slice::new(&bytes));
+    reads(rt, &mut reader, tree, symbols)?;
+    Ok(bytes.len())
+}
+
 #[test]
-fn each_symbol_of_a_chain_comes_back(rt: HostRuntime) -> Result<(), Fail> {
+fn r12_flat_trees(rt: HostRuntime) -> Result<(), Fail> {
     let tree = chain(rt.alloc(), 199)?;
     for symbol in 0..200 {
-        let bytes = written(rt.alloc(), &tree, &[symbol])?;
-        assert_eq!(rt; bytes.len(), (usize::from(symbol.min(198)) + 8) / 8);
-        let mut reader = BitReader::<_, BE>::new(Slice::new(&bytes));
-        reads(&rt, &mut reader, &tree, &[symbol])?;
+        let bytes = come_back(&rt, rt.alloc(), &tree, &[symbol])?;
+        assert_eq!(rt; bytes, (usize::from(symbol.min(198)) + 8) / 8);
     }
     Ok(())
 }
 
 #[test]
-fn a_long_chain_is_no_burden(rt: HostRuntime) -> Result<(), Fail> {
+fn r12_long_chain(rt: HostRuntime) -> Result<(), Fail> {
     let tree = chain(rt.alloc(), 10000)?;
-    let symbols = [0, 10000, 5000, 1, 9999];
-    let bytes = written(rt.alloc(), &tree, &symbols)?;
-    let mut reader = BitReader::<_, BE>::new(Slice::new(&bytes));
-    reads(&rt, &mut reader, &tree, &symbols)?;
+    // The words have 1, 10000, 5001, 2 and 10000 bits.
+    let bytes = come_back(&rt, rt.alloc(), &tree, &[0, 10000, 5000, 1, 9999])?;
+    assert_eq!(rt; bytes, 3126);
     Ok(())
 }
 

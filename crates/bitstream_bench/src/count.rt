@@ -87,8 +87,11 @@ impl<S: Write> Write for Count<S> {
 
     fn flush(&mut self) -> io::Result<()>
         ensures bytes { Keeps (S.contents self.old.inner) (S.contents self.new.inner) }
-        ensures counts { (self.new.requests ≡ self.old.requests) × (self.new.refused ≡ self.old.refused) }
+        ensures requests { self.new.requests ≡ counted self.old.requests }
+        ensures refused { self.new.refused ≡ counted_if_refused result self.old.refused }
     {
-        self.inner.flush()
+        let answer = self.inner.flush();
+        self.note(&answer);
+        answer
     }
 }

@@ -99,8 +99,7 @@ fn sums(number: u32) -> (Option<u32>, Option<u32>, Option<u32>) {
     )
 }
 
-#[test]
-fn sums_of_counts(rt: HostRuntime) {
+fn sums_of_counts(rt: &impl Abort) {
     for (number, want) in [
         (0, (Some(5), None, Some(5))),
         (1, (Some(6), None, Some(4))),
@@ -128,8 +127,7 @@ fn ranges(bits: u32) -> Option<(i8, i8, u8, u8)> {
     ))
 }
 
-#[test]
-fn ranges_of_counts(rt: HostRuntime) {
+fn ranges_of_counts(rt: &impl Abort) {
     for (bits, want) in [
         (0, None),
         (1, Some((-1, 0, 0, 1))),
@@ -151,8 +149,7 @@ fn split(bits: u32) -> Option<(u8, u32, u8)> {
     Some((high, u32::from(count), low))
 }
 
-#[test]
-fn parts_of_numbers(rt: HostRuntime) {
+fn parts_of_numbers(rt: &impl Abort) {
     for (bits, want) in [
         (0, Some((222, 0, 0))),
         (3, Some((27, 3, 6))),
@@ -170,8 +167,7 @@ fn refused(bits: u32, value: i8) -> Option<CheckedError> {
     CheckedSigned::new(count, value).err()
 }
 
-#[test]
-fn ends_of_signed_widths(rt: HostRuntime) {
+fn ends_of_signed_widths(rt: &impl Abort) {
     let excessive = Some(CheckedError::ExcessiveValue);
     for (bits, least, greatest) in [
         (1, -1, 0),
@@ -193,6 +189,21 @@ fn ends_of_signed_widths(rt: HostRuntime) {
     }
     assert_eq!(rt; refused(8, -128), None);
     assert_eq!(rt; refused(9, 0), Some(CheckedError::ExcessiveBits));
+}
+
+/// In four bits, 5 behind a sign bit of 1 is -3.
+fn signs_of_four_bits(rt: &impl Abort) {
+    assert_eq!(rt; UnsignedInteger::as_negative(5u8, 4), -3);
+    assert_eq!(rt; SignedInteger::as_negative(-3i8, 4), 5);
+}
+
+#[test]
+fn r02_numbers_counts(rt: HostRuntime) {
+    signs_of_four_bits(&rt);
+    sums_of_counts(&rt);
+    ranges_of_counts(&rt);
+    parts_of_numbers(&rt);
+    ends_of_signed_widths(&rt);
 }
 
 #[test]

@@ -1,6 +1,6 @@
-//! Streams for tests: one that drips, one that refuses, one that counts and one that never ends; memory
-//! that refuses; functions over bytes in memory, whose contracts tell all that they answer; and a code
-//! of a user's own.
+//! Streams for tests: one that drips, one that refuses, one that refuses once, one that counts and one
+//! that never ends; memory that refuses; functions over bytes in memory, whose contracts tell all that
+//! they answer; and a code of a user's own.
 #![tactic(auto)]
 
 #[cfg(test)]
@@ -24,6 +24,7 @@ mod numbers;
 #[cfg(test)]
 mod own;
 mod refuse;
+mod refuse_once;
 #[cfg(test)]
 mod runs;
 pub mod sign_code;
@@ -42,3 +43,4 @@ pub use drip::Drip;
 pub use endless::Endless;
 pub use memory::RefuseMemory;
 pub use refuse::Refuse;
+pub use refuse_once::RefuseOnce;

@@ -153,12 +153,6 @@ fn each_signed_type(rt: HostRuntime) {
     assert_eq!(rt; signs::<i128>(5, -3), [true; 5]);
 }
 
-#[test]
-fn signs_of_four_bits(rt: HostRuntime) {
-    assert_eq!(rt; UnsignedInteger::as_negative(5u8, 4), -3);
-    assert_eq!(rt; SignedInteger::as_negative(-3i8, 4), 5);
-}
-
 /// A number above three bits and one of these.
 fn joined<U: UnsignedInteger>(high: U, low: U) -> U
     requires high { U.value high % 2 ^ 3 ≡ 0 }

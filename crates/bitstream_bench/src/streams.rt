@@ -1,17 +1,28 @@
 //! Ways between streams: lent streams, lent readers and writers, a stream with no end.
 use crate::Endless;
 use bitstream_io::{
-    BE, BigEndian, BitRead, BitReader, BitWrite, BitWriter, Error, Lent, LittleEndian,
+    BE, BigEndian, BitRead, BitReader, BitWrite, BitWriter, Endianness, Error, Lent, LittleEndian,
 };
 use std::test::Fail;
 
+/// Whether `27` repeated is read as these three bits, and then as the same word of 128 bits each time.
+fn repeats<E: Endianness + Drop>(order: E, first: u8, word: u128) -> Result<bool, Error> {
+    let mut reader = BitReader::endian(Endless { byte: 0x27 }, order);
+    let mut same = reader.read_unsigned_var::<u8>(3)? == first;
+    for _ in 0..3 {
+        same = same && reader.read_unsigned_var::<u128>(128)? == word;
+    }
+    Ok(same)
+}
+
+// `27` is 00100111. Its highest three bits are 001, and from there on each byte is 00111001; its lowest
+// three are 111, and from there on each byte is 11100100.
 #[test]
 fn reads_a_stream_with_no_end(rt: HostRuntime) -> Result<(), Fail> {
-    let mut reader = BitReader::endian(Endless { byte: 0xa5 }, LittleEndian);
-    for _ in 0..3 {
-        let word: u128 = reader.read_unsigned_var(128)?;
-        assert_eq!(rt; word, 0xa5a5a5a5_a5a5a5a5_a5a5a5a5_a5a5a5a5);
-    }
+    let high = 0x39393939_39393939_39393939_39393939;
+    assert!(rt; repeats(BigEndian, 0b001, high)?);
+    let low = 0xe4e4e4e4_e4e4e4e4_e4e4e4e4_e4e4e4e4;
+    assert!(rt; repeats(LittleEndian, 0b111, low)?);
     Ok(())
 }
 

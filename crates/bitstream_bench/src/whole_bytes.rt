@@ -1,5 +1,5 @@
-//! Whole bytes: buffers of many lengths at each place in a byte, long skips and pads, how many requests
-//! they make, lengths that the stream does not have, and memory that is refused.
+//! Whole bytes: long vectors, skips and pads, how many requests they make, lengths that the stream does
+//! not have, and memory that is refused.
 use crate::{Count, Endless, RefuseMemory};
 use bitstream_io::{
     BE, BitRead, BitReader, BitWrite, BitWriter, ByteRead, ByteReader, Endianness, Error, LE,
@@ -19,69 +19,15 @@ fn pattern(alloc: Global, len: usize) -> Result<Vec<u8>, AllocError> {
     Ok(bytes)
 }
 
-/// What is written by so many bits and then bytes, in one call or one by one.
-fn written<E: Endianness>(
-    alloc: Global,
-    place: u32,
-    bytes: &[u8],
-    at_once: bool,
-) -> Result<Vec<u8>, Error> {
+/// What is written by so many bits and then bytes.
+fn written<E: Endianness>(alloc: Global, place: u32, bytes: &[u8]) -> Result<Vec<u8>, Error> {
     let mut out = Vec::new(alloc);
     let mut writer = BitWriter::<_, E>::new(&mut out);
     writer.write_unsigned_var(place, 1u8)?;
-    if at_once {
-        writer.write_bytes(bytes)?;
-    } else {
-        for byte in bytes {
-            writer.write_unsigned_var(8, *byte)?;
-        }
-    }
+    writer.write_bytes(bytes)?;
     writer.byte_align()?;
     let _ = writer;
     Ok(out)
-}
-
-/// The bytes behind so many bits, in one call or one by one.
-fn read<E: Endianness>(
-    alloc: Global,
-    place: u32,
-    from: &[u8],
-    len: usize,
-    at_once: bool,
-) -> Result<Vec<u8>, Error> {
-    let mut reader = BitReader::<_, E>::new(from);
-    let _: u8 = reader.read_unsigned_var(place)?;
-    if at_once {
-        return reader.read_to_vec(alloc, len);
-    }
-    let mut bytes = Vec::new(alloc);
-    bytes.resize(len, 0)?;
-    for byte in &mut bytes {
-        *byte = reader.read_unsigned_var(8)?;
-    }
-    Ok(bytes)
-}
-
-/// Whether calls for all bytes are those for each, at a place in a byte.
-fn agree<E: Endianness>(alloc: Global, place: u32, bytes: &[u8]) -> Result<bool, Error> {
-    let whole = written::<E>(alloc, place, bytes, true)?;
-    let single = written::<E>(alloc, place, bytes, false)?;
-    let back = read::<E>(alloc, place, whole.as_slice(), bytes.len(), true)?;
-    let each = read::<E>(alloc, place, whole.as_slice(), bytes.len(), false)?;
-    Ok(whole == single && back.as_slice() == bytes && each.as_slice() == bytes)
-}
-
-#[test]
-fn buffers_of_each_length(rt: HostRuntime) -> Result<(), Fail> {
-    for len in [0, 1, 7, 8, 9, 1023, 1024, 1025, 2050] {
-        let bytes = pattern(rt.alloc(), len)?;
-        for place in 0..8 {
-            let high = agree::<BE>(rt.alloc(), place, bytes.as_slice())?;
-            let low = agree::<LE>(rt.alloc(), place, bytes.as_slice())?;
-            assert!(rt; high && low, "{len} bytes behind {place} bits");
-        }
-    }
-    Ok(())
 }
 
 /// A stream whose requests are counted.
@@ -113,7 +59,7 @@ fn requests_of_a_primitive(rt: HostRuntime) -> Result<(), Fail> {
 
 /// How many requests a vector makes behind so many bits, where its bytes are these.
 fn vector<E: Endianness>(alloc: Global, place: u32, bytes: &[u8]) -> Result<Option<u64>, Error> {
-    let whole = written::<E>(alloc, place, bytes, true)?;
+    let whole = written::<E>(alloc, place, bytes)?;
     let mut count = counting(whole.as_slice());
     let mut reader = BitReader::<_, E>::new(&mut count);
     let _: u8 = reader.read_unsigned_var(place)?;

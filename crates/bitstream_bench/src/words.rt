@@ -1,5 +1,8 @@
-//! Words of each width behind each length of a queue, against the same words a bit at a time.
-use bitstream_io::{BE, BitRead, BitReader, BitWrite, BitWriter, Endianness, Error, LE};
+//! Words of each width and type behind each length of a queue, against the same words a bit at a time.
+use bitstream_io::{
+    BE, BitRead, BitReadExt, BitReader, BitWrite, BitWriteExt, BitWriter, Endianness, Error,
+    Integer, LE, Numeric,
+};
 use std::alloc::Global;
 use std::test::Fail;
 
@@ -40,6 +43,31 @@ impl Shape {
         Shape::lowest(NUMBER ^ 1u128.checked_shl(digit).unwrap_or(0), self.width)
     }
 
+    /// Returns that word with its highest digit, a sign, in each place above it too.
+    fn extended(self, digit: u32) -> u128 {
+        let word = self.turned(digit);
+        if word > Shape::lowest(u128::MAX, self.width.saturating_sub(1)) {
+            word | !Shape::lowest(u128::MAX, self.width)
+        } else {
+            word
+        }
+    }
+
+    /// Returns that word as a value of a type.
+    fn value<N: Numeric>(self, digit: u32) -> N {
+        if has_sign::<N>() {
+            number(self.extended(digit))
+        } else {
+            number(self.turned(digit))
+        }
+    }
+
+    /// Returns whether a type has values of the width.
+    fn fits<N: Numeric>(self) -> bool {
+        let least = if has_sign::<N>() { 1 } else { 0 };
+        least <= self.width && self.width <= N::BITS_SIZE
+    }
+
     /// Returns the bit at a place among so many bits of a number.
     fn bit(self, number: u128, bits: u32, at: u32) -> bool {
         let digit = if self.high_first {
@@ -51,11 +79,29 @@ impl Shape {
     }
 }
 
-/// Writes the words of a shape, each by one call.
-fn write_words<W: BitWrite>(writer: &mut W, shape: Shape) -> Result<(), Error> {
+/// Returns whether a type has numbers below 0.
+fn has_sign<N: Numeric>() -> bool {
+    !N::ZERO < N::ZERO
+}
+
+/// Returns the value that has the lowest digits of a number.
+fn number<N: Numeric>(digits: u128) -> N {
+    let mut buffer = N::buffer();
+    let bytes = N::as_bytes_mut(&mut buffer);
+    for (byte, digit) in bytes.iter_mut().zip(digits.to_le_bytes()) {
+        *byte = digit;
+    }
+    N::from_le_bytes(buffer)
+}
+
+/// Writes the words of a shape as values of a type, each by one call.
+fn write_words<N: Numeric + Integer, W: BitWrite>(
+    writer: &mut W,
+    shape: Shape,
+) -> Result<(), Error> {
     for digit in 0..shape.width.saturating_add(1) {
         writer.write_unsigned_var(shape.queued, shape.front())?;
-        writer.write_unsigned_var(shape.width, shape.turned(digit))?;
+        writer.write_var(shape.width, shape.value::<N>(digit))?;
         writer.byte_align()?;
     }
     Ok(())
@@ -99,39 +145,76 @@ fn has_bits<R: BitRead>(
     Ok(true)
 }
 
-/// Reads the words of a shape by one reader, each by one call, and by another a bit at a time, and
-/// tells whether both find those that were written.
-fn reads_same<R: BitRead, S: BitRead>(
-    words: &mut R,
-    singly: &mut S,
-    shape: Shape,
-) -> Result<bool, Error> {
+/// Reads the words of a shape a bit at a time, and tells whether they are those that were written.
+fn reads_singly<R: BitRead>(reader: &mut R, shape: Shape) -> Result<bool, Error> {
     for digit in 0..shape.width.saturating_add(1) {
-        let front: u128 = words.read_unsigned_var(shape.queued)?;
-        let word: u128 = words.read_unsigned_var(shape.width)?;
-        words.byte_align();
-        let same = has_bits(singly, shape, front, shape.queued)?
-            && has_bits(singly, shape, word, shape.width)?;
-        singly.byte_align();
-        if !same || front != shape.front() || word != shape.turned(digit) {
+        let same = has_bits(reader, shape, shape.front(), shape.queued)?
+            && has_bits(reader, shape, shape.turned(digit), shape.width)?;
+        reader.byte_align();
+        if !same {
             return Ok(false);
         }
     }
     Ok(true)
 }
 
-/// Whether the words of a shape are, a bit at a time, the same bytes and the same numbers.
-fn agrees<E: Endianness + Drop>(alloc: Global, shape: Shape) -> Result<bool, Error> {
+/// Reads the words of a shape as values of a type, each by one call, and tells whether they are those
+/// that were written.
+fn reads_words<N: Numeric + Integer, R: BitRead>(
+    reader: &mut R,
+    shape: Shape,
+) -> Result<bool, Error> {
+    for digit in 0..shape.width.saturating_add(1) {
+        let front: u128 = reader.read_unsigned_var(shape.queued)?;
+        let word: N = reader.read_var(shape.width)?;
+        reader.byte_align();
+        if front != shape.front() || word != shape.value(digit) {
+            return Ok(false);
+        }
+    }
+    Ok(true)
+}
+
+/// Whether the words of a shape, as values of a type, are these bytes.
+fn are_these<E: Endianness + Drop, N: Numeric + Integer>(
+    alloc: Global,
+    shape: Shape,
+    singly: &[u8],
+) -> Result<bool, Error> {
     let mut bytes = Vec::new(alloc);
-    write_words(&mut BitWriter::<_, E>::new(&mut bytes), shape)?;
-    let mut singly = Vec::new(alloc);
-    write_singly(&mut BitWriter::<_, E>::new(&mut singly), shape)?;
-    let same = reads_same(
-        &mut BitReader::<_, E>::new(bytes.as_slice()),
-        &mut BitReader::<_, E>::new(singly.as_slice()),
-        shape,
-    )?;
-    Ok(same && bytes.as_slice() == singly.as_slice())
+    write_words::<N, _>(&mut BitWriter::<_, E>::new(&mut bytes), shape)?;
+    let read = reads_words::<N, _>(&mut BitReader::<_, E>::new(singly), shape)?;
+    Ok(read && bytes.as_slice() == singly)
+}
+
+/// Whether they are, if the type has values of the width. Else nothing is asked of them.
+fn agrees<E: Endianness + Drop, N: Numeric + Integer>(
+    alloc: Global,
+    shape: Shape,
+    singly: &[u8],
+) -> bool {
+    !shape.fits::<N>() || matches!(are_these::<E, N>(alloc, shape, singly), Ok(true))
+}
+
+/// Whether the words of a shape are, a bit at a time, the same bytes and the same numbers: the bits that
+/// are read, and the values of each type.
+fn each_agrees<E: Endianness + Drop>(alloc: Global, shape: Shape) -> Result<[bool; 11], Error> {
+    let mut bytes = Vec::new(alloc);
+    write_singly(&mut BitWriter::<_, E>::new(&mut bytes), shape)?;
+    let singly = bytes.as_slice();
+    Ok([
+        reads_singly(&mut BitReader::<_, E>::new(singly), shape)?,
+        agrees::<E, u8>(alloc, shape, singly),
+        agrees::<E, u16>(alloc, shape, singly),
+        agrees::<E, u32>(alloc, shape, singly),
+        agrees::<E, u64>(alloc, shape, singly),
+        agrees::<E, u128>(alloc, shape, singly),
+        agrees::<E, i8>(alloc, shape, singly),
+        agrees::<E, i16>(alloc, shape, singly),
+        agrees::<E, i32>(alloc, shape, singly),
+        agrees::<E, i64>(alloc, shape, singly),
+        agrees::<E, i128>(alloc, shape, singly),
+    ])
 }
 
 #[test]
@@ -147,12 +230,14 @@ fn words_are_single_bits(rt: HostRuntime) -> Result<(), Fail> {
                 high_first: false,
                 ..high_first
             };
-            assert!(rt;
-                agrees::<BE>(rt.alloc(), high_first)?,
+            assert_eq!(rt;
+                each_agrees::<BE>(rt.alloc(), high_first)?,
+                [true; 11],
                 "be, {width} behind {queued}"
             );
-            assert!(rt;
-                agrees::<LE>(rt.alloc(), low_first)?,
+            assert_eq!(rt;
+                each_agrees::<LE>(rt.alloc(), low_first)?,
+                [true; 11],
                 "le, {width} behind {queued}"
             );
         }
