@@ -97,7 +97,7 @@ WritesBits-packed K fields vs old r new layout fit w sound unlimited =
 
 -- ---- the fields' calls, one behind the other
 
-pub result_err : {B : Type 0} {x : Error} (r : Result B Error) → IsErrAnd r (λ y. y ≡ x) → r ≡ Err x
+pub result_err : {B E : Type 0} {x : E} (r : Result B E) → IsErrAnd r (λ y. y ≡ x) → r ≡ Err x
 result_err (Ok b) h = absurd h
 result_err (Err y) h = ap Err h
 

@@ -1,5 +1,5 @@
 -- Faults, and their printed text.
-use Rattle.std.specs.Prelude.{ℕ, List, ◌++◌, codes}
+use Rattle.std.specs.Prelude.{ℕ, List, [], ◌∷◌, ◌++◌, codes}
 use Rattle.std.specs.Fmt.{decimal}
 use Rattle.std.specs.declared.io.ErrorKind.{ErrorKind}
 use Rattle.std.specs.declared.io.ErrorKind.TheVariants as kinds
@@ -45,6 +45,6 @@ reason_text LimitPassed = codes "limit passed"
 reason_text StreamFault = codes "stream fault"
 reason_text OutOfMemory = codes "out of memory"
 
--- `bitfields: field K: REASON`
-abbrev pub fault_text : Fault → List ℕ
-fault_text f = codes "bitfields: field " ++ decimal f.field ++ codes ": " ++ reason_text f.reason
+-- `bitfields: field K: REASON`, and LF
+abbrev pub fault_line : Fault → List ℕ
+fault_line f = codes "bitfields: field " ++ decimal f.field ++ codes ": " ++ reason_text f.reason ++ 10 ∷ []

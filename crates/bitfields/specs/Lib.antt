@@ -4,5 +4,6 @@ pub mod Fault
 pub mod Layout
 pub mod Packing
 pub mod Run
+pub mod Streams
 pub mod Unpacking
 pub mod Value

@@ -1,91 +1,93 @@
 -- What a call of the program does to its streams.
-use Rattle.std.specs.Prelude.{◌≡◌, ◌⊎◌, ℕ, List, [], ◌∷◌, ◌++◌, Option, Some, None, Result, Ok, Err, OnOk}
-use Rattle.std.specs.Io.KnownBytes.{Appends, Consumes, IsAtEnd}
-use Rattle.std.specs.declared.io.Error.{Error}
+use Rattle.std.specs.Prelude.{◌≡◌, ◌⊎◌, ℕ, List, [], ◌∷◌, ◌++◌, length, Option, Some, None, Result, Ok, Err}
+use Rattle.std.specs.Io.KnownBytes.{Appends}
 use Rattle.std.specs.declared.io.ErrorKind.{ErrorKind}
 use Rattle.bitstream_io.specs.Word.{Order}
 use Rattle.bitstream_io.specs.Refusal.{MayRefuse}
-use Rattle.bitfields.specs.declared.fault.Reason.TheVariants.{BadArguments, OutOfMemory, StreamFault}
+use Rattle.bitfields.specs.declared.fault.Reason.TheVariants.{BadArguments, OutOfMemory}
 use Rattle.bitfields.specs.declared.fault.Fault.{Fault}
 use Rattle.bitfields.specs.declared.field.Field.{Field}
 use Rattle.bitfields.specs.declared.field_value.FieldValue.{FieldValue}
 use Rattle.bitfields.specs.declared.run.Command.{Command}
 use Rattle.bitfields.specs.declared.run.Command.TheVariants.{Pack, Unpack}
 use Rattle.bitfields.specs.Call.{Request}
-use Rattle.bitfields.specs.Fault.{fault, fault_text}
+use Rattle.bitfields.specs.Fault.{fault, fault_line}
 use Rattle.bitfields.specs.Layout.{IsUnlessMemory, layout_of}
-use Rattle.bitfields.specs.Packing.{PackedBytes}
+use Rattle.bitfields.specs.Packing.{PackedBytes, RefusedBytes}
+use Rattle.bitfields.specs.Streams.{InputStream, OutputStream, ReadToEnd, RefusedInput, RefusedOutput, Flushed}
 use Rattle.bitfields.specs.Unpacking.{UnpackedBytes, UnpacksBytes}
 use Rattle.bitfields.specs.Value.{lines, values}
-
--- the fault is a stream's or the memory's
-abbrev pub IsOfStreamOrMemory : Fault → Type 0
-IsOfStreamOrMemory f = (f ≡ fault 0 StreamFault) ⊎ (f ≡ fault 0 OutOfMemory)
 
 -- ---- packing
 
 -- the input was read to its end, and what its lines spell for the fields is this
 pub record SpelledInput (fields : List Field) (input : Option (List ℕ)) (spelt : Result (List FieldValue) Fault) (input_after : Option (List ℕ)) : Type 0 where
   pub bytes : List ℕ
-  pub read : Consumes input input_after bytes
-  pub end : IsAtEnd input_after
+  pub reads : ReadToEnd input bytes input_after
   pub spells : values 1 fields (lines bytes) ≡ spelt
 
--- the values that the input's lines spell were packed
-pub record PackedInput (o : Order) (fields : List Field) (input output input_after output_after : Option (List ℕ)) : Type 0 where
+-- the values that the input's lines spell were packed, and the output was flushed behind their bytes
+pub record PackedInput {R W : Type 0} (I : InputStream R) (O : OutputStream W) (o : Order) (fields : List Field) (input : R) (output : W) (input_after : R) (output_after : W) : Type 0 where
   pub vs : List FieldValue
-  pub reads : SpelledInput fields input (Ok vs) input_after
-  pub packs : PackedBytes o fields vs output output_after
+  pub reads : SpelledInput fields (I.remaining input) (Ok vs) (I.remaining input_after)
+  pub filled : W
+  pub packs : PackedBytes o fields vs (O.contents output) (O.contents filled)
+  pub flushed : Flushed O filled output_after
 
--- the output's stream refused while the values that the input's lines spell were packed
-pub record UnfinishedPacking (fields : List Field) (input : Option (List ℕ)) (f : Fault) (input_after : Option (List ℕ)) : Type 0 where
-  pub vs : List FieldValue
-  pub reads : SpelledInput fields input (Ok vs) input_after
-  pub outside : IsOfStreamOrMemory f
+-- the values that the input's lines spell were packed, and the flush behind their bytes was refused
+pub record UnflushedBytes {W : Type 0} (O : OutputStream W) (o : Order) (fields : List Field) (vs : List FieldValue) (output : W) (f : Fault) (output_after : W) : Type 0 where
+  pub filled : W
+  pub packs : PackedBytes o fields vs (O.contents output) (O.contents filled)
+  pub refused : RefusedOutput O filled 0 f output_after
 
--- Packing an input. A fault is that of its lines, or its stream or memory refused: then nothing was written. Else the output's stream
--- refused, when all lines had been read.
-abbrev pub PacksInput : {R W : Type 0} → (R → Option (List ℕ)) → (W → Option (List ℕ)) → Order → List Field → R → W → Result (Unit {0}) Fault → R → W → Type 0
-PacksInput known contents o fields input output (Ok done) input_after output_after =
-    PackedInput o fields (known input) (contents output) (known input_after) (contents output_after)
-PacksInput known contents o fields input output (Err f) input_after output_after =
-    (SpelledInput fields (known input) (Err f) (known input_after) × (output_after ≡ output))
-    ⊎ (IsOfStreamOrMemory f × (output_after ≡ output))
-    ⊎ UnfinishedPacking fields (known input) f (known input_after)
+-- Why an input was not packed: it refused to be read, its lines have a fault, or memory was refused, and then the output is as it was.
+-- Else all lines had been read, and the output refused a request for the packed bytes, or the flush behind them.
+pub data PackingFault {R W : Type 0} (I : InputStream R) (O : OutputStream W) (o : Order) (fields : List Field) (input : R) (output : W) (f : Fault) (input_after : R) (output_after : W) : Type 0 where
+  refused_input : RefusedInput I input f input_after → output_after ≡ output → PackingFault I O o fields input output f input_after output_after
+  misspelt_input : SpelledInput fields (I.remaining input) (Err f) (I.remaining input_after) → output_after ≡ output → PackingFault I O o fields input output f input_after output_after
+  refused_memory : (bytes : List ℕ) → ReadToEnd (I.remaining input) bytes (I.remaining input_after) → f ≡ fault 0 OutOfMemory → output_after ≡ output → PackingFault I O o fields input output f input_after output_after
+  refused_bytes : (vs : List FieldValue) → SpelledInput fields (I.remaining input) (Ok vs) (I.remaining input_after) → RefusedBytes (MayRefuse O.contents O.refuses) o fields vs (O.contents output) f (O.contents output_after) → PackingFault I O o fields input output f input_after output_after
+  unflushed_bytes : (vs : List FieldValue) → SpelledInput fields (I.remaining input) (Ok vs) (I.remaining input_after) → UnflushedBytes O o fields vs output f output_after → PackingFault I O o fields input output f input_after output_after
+
+-- packing an input
+abbrev pub PacksInput : {R W : Type 0} → InputStream R → OutputStream W → Order → List Field → R → W → Result (Unit {0}) Fault → R → W → Type 0
+PacksInput I O o fields input output (Ok done) input_after output_after = PackedInput I O o fields input output input_after output_after
+PacksInput I O o fields input output (Err f) input_after output_after = PackingFault I O o fields input output f input_after output_after
 
 -- ---- unpacking
 
--- the input's bits were unpacked, and the lines of their values written
-pub record UnpackedInput (o : Order) (fields : List Field) (input output input_after output_after : Option (List ℕ)) : Type 0 where
+-- the input's bits were unpacked, the lines of their values written, and the output was flushed behind them
+pub record UnpackedInput {R W : Type 0} (I : InputStream R) (O : OutputStream W) (o : Order) (fields : List Field) (input : R) (output : W) (input_after : R) (output_after : W) : Type 0 where
   pub text : List ℕ
-  pub unpacks : UnpackedBytes o fields input text input_after
-  pub writes : Appends output output_after text
+  pub unpacks : UnpackedBytes o fields (I.remaining input) text (I.remaining input_after)
+  pub filled : W
+  pub writes : Appends (O.contents output) (O.contents filled) text
+  pub flushed : Flushed O filled output_after
 
--- the output's stream refused while the lines of the values that the input's bits say were written
-pub record UnfinishedUnpacking (o : Order) (fields : List Field) (input : Option (List ℕ)) (f : Fault) (input_after : Option (List ℕ)) : Type 0 where
-  pub text : List ℕ
-  pub unpacks : UnpackedBytes o fields input text input_after
-  pub outside : IsOfStreamOrMemory f
+-- the lines were written, and the flush behind them was refused
+pub record UnflushedLines {W : Type 0} (O : OutputStream W) (output : W) (text : List ℕ) (f : Fault) (output_after : W) : Type 0 where
+  pub filled : W
+  pub writes : Appends (O.contents output) (O.contents filled) text
+  pub refused : RefusedOutput O filled 0 f output_after
 
--- std tells nothing of how a `Read` refuses
-abbrev pub any_refusal : {R : Type 0} → R → ℕ → ErrorKind → R → Type 0
-any_refusal before wanted kind after = Unit {0}
+-- Why an input was not unpacked: its bits have a fault, or it refused a request, or memory was refused, at a field, and then the
+-- output is as it was. Else all fields had been read, and the output refused the one request for all lines, or the flush behind them.
+pub data UnpackingFault {R W : Type 0} (I : InputStream R) (O : OutputStream W) (o : Order) (fields : List Field) (input : R) (output : W) (f : Fault) (input_after : R) (output_after : W) : Type 0 where
+  stopped_input : UnpacksBytes I.remaining (MayRefuse I.remaining I.refuses) o fields input (Err f) input_after → output_after ≡ output → UnpackingFault I O o fields input output f input_after output_after
+  refused_lines : (text : List ℕ) → UnpackedBytes o fields (I.remaining input) text (I.remaining input_after) → RefusedOutput O output (length text) f output_after → UnpackingFault I O o fields input output f input_after output_after
+  unflushed_lines : (text : List ℕ) → UnpackedBytes o fields (I.remaining input) text (I.remaining input_after) → UnflushedLines O output text f output_after → UnpackingFault I O o fields input output f input_after output_after
 
--- Unpacking an input. A fault is that of its bits, or its stream or memory refused at a field: then nothing was written. Else the
--- output's stream refused, when all bits had been read.
-abbrev pub UnpacksInput : {R W : Type 0} → (R → Option (List ℕ)) → (W → Option (List ℕ)) → Order → List Field → R → W → Result (Unit {0}) Fault → R → W → Type 0
-UnpacksInput known contents o fields input output (Ok done) input_after output_after =
-    UnpackedInput o fields (known input) (contents output) (known input_after) (contents output_after)
-UnpacksInput known contents o fields input output (Err f) input_after output_after =
-    (UnpacksBytes known (MayRefuse known any_refusal) o fields input (Err f) input_after × (output_after ≡ output))
-    ⊎ UnfinishedUnpacking o fields (known input) f (known input_after)
+-- unpacking an input
+abbrev pub UnpacksInput : {R W : Type 0} → InputStream R → OutputStream W → Order → List Field → R → W → Result (Unit {0}) Fault → R → W → Type 0
+UnpacksInput I O o fields input output (Ok done) input_after output_after = UnpackedInput I O o fields input output input_after output_after
+UnpacksInput I O o fields input output (Err f) input_after output_after = UnpackingFault I O o fields input output f input_after output_after
 
 -- ---- a call
 
 -- a command's work
-abbrev pub Performs : {R W : Type 0} → (R → Option (List ℕ)) → (W → Option (List ℕ)) → Command → Order → List Field → R → W → Result (Unit {0}) Fault → R → W → Type 0
-Performs known contents Pack = PacksInput known contents
-Performs known contents Unpack = UnpacksInput known contents
+abbrev pub Performs : {R W : Type 0} → InputStream R → OutputStream W → Command → Order → List Field → R → W → Result (Unit {0}) Fault → R → W → Type 0
+Performs I O Pack = PacksInput I O
+Performs I O Unpack = UnpacksInput I O
 
 -- memory was refused before a stream was touched
 abbrev pub IsStarved : {R W : Type 0} → R → W → Result (Unit {0}) Fault → R → W → Type 0
@@ -93,17 +95,17 @@ IsStarved input output result input_after output_after = (result ≡ Err (fault 
 
 -- The fields of a layout are packed or unpacked; or the layout's fault is answered, and no stream touched. Want of memory aside, which is
 -- answered before a stream is touched.
-abbrev pub Follows : {R W : Type 0} → (R → Option (List ℕ)) → (W → Option (List ℕ)) → Command → Order → Result (List Field) Fault → R → W → Result (Unit {0}) Fault → R → W → Type 0
-Follows known contents command o (Ok fields) input output result input_after output_after =
-    IsStarved input output result input_after output_after ⊎ Performs known contents command o fields input output result input_after output_after
-Follows known contents command o (Err f) input output result input_after output_after =
+abbrev pub Follows : {R W : Type 0} → InputStream R → OutputStream W → Command → Order → Result (List Field) Fault → R → W → Result (Unit {0}) Fault → R → W → Type 0
+Follows I O command o (Ok fields) input output result input_after output_after =
+    IsStarved input output result input_after output_after ⊎ Performs I O command o fields input output result input_after output_after
+Follows I O command o (Err f) input output result input_after output_after =
     IsUnlessMemory (Err f) result × (input_after ≡ input) × (output_after ≡ output)
 
 -- what is asked for is done; where nothing is, that is answered, and no stream touched
-abbrev pub Calls : {R W : Type 0} → (R → Option (List ℕ)) → (W → Option (List ℕ)) → Option Request → R → W → Result (Unit {0}) Fault → R → W → Type 0
-Calls known contents (Some request) input output result input_after output_after =
-    Follows known contents request.command request.order (layout_of request.layout) input output result input_after output_after
-Calls known contents None input output result input_after output_after =
+abbrev pub Calls : {R W : Type 0} → InputStream R → OutputStream W → Option Request → R → W → Result (Unit {0}) Fault → R → W → Type 0
+Calls I O (Some request) input output result input_after output_after =
+    Follows I O request.command request.order (layout_of request.layout) input output result input_after output_after
+Calls I O None input output result input_after output_after =
     (result ≡ Err (fault 0 BadArguments)) × (input_after ≡ input) × (output_after ≡ output)
 
 -- 0, or the status of a fault
@@ -111,20 +113,24 @@ abbrev pub status_of : Result (Unit {0}) Fault → ℕ
 status_of (Ok done) = 0
 status_of (Err f) = f.status
 
--- a fault's line was printed, unless printing it answered an error
-pub record Reports {X : Type 0} (contents : X → Option (List ℕ)) (f : Fault) (faults faults_after : X) : Type 0 where
-  pub printed : Result (Unit {0}) Error
-  pub line : OnOk printed (Appends (contents faults) (contents faults_after) (fault_text f ++ 10 ∷ []))
+-- The one request for a fault's line was refused, as the stream for faults may refuse. It is as the refusal left it.
+pub record RefusedLine {X : Type 0} (T : OutputStream X) (f : Fault) (faults faults_after : X) : Type 0 where
+  pub kind : ErrorKind
+  pub refused : T.refuses faults (length (fault_line f)) kind faults_after
+
+-- a fault's line was printed, or its request refused
+abbrev pub Reports : {X : Type 0} → OutputStream X → Fault → X → X → Type 0
+Reports T f faults faults_after = Appends (T.contents faults) (T.contents faults_after) (fault_line f) ⊎ RefusedLine T f faults faults_after
 
 -- nothing is reported of a success
-abbrev pub ReportsAny : {X : Type 0} → (X → Option (List ℕ)) → Result (Unit {0}) Fault → X → X → Type 0
-ReportsAny contents (Ok done) faults faults_after = faults_after ≡ faults
-ReportsAny contents (Err f) faults faults_after = Reports contents f faults faults_after
+abbrev pub ReportsAny : {X : Type 0} → OutputStream X → Result (Unit {0}) Fault → X → X → Type 0
+ReportsAny T (Ok done) faults faults_after = faults_after ≡ faults
+ReportsAny T (Err f) faults faults_after = Reports T f faults faults_after
 
 -- a call ends with the status of what became of it, which is reported
-pub record Runs {R W X : Type 0} (known : R → Option (List ℕ)) (contents : W → Option (List ℕ)) (told : X → Option (List ℕ)) (request : Option Request)
+pub record Runs {R W X : Type 0} (I : InputStream R) (O : OutputStream W) (T : OutputStream X) (request : Option Request)
     (input : R) (output : W) (faults : X) (status : ℕ) (input_after : R) (output_after : W) (faults_after : X) : Type 0 where
   pub outcome : Result (Unit {0}) Fault
-  pub calls : Calls known contents request input output outcome input_after output_after
-  pub reports : ReportsAny told outcome faults faults_after
+  pub calls : Calls I O request input output outcome input_after output_after
+  pub reports : ReportsAny T outcome faults faults_after
   pub ends : status ≡ status_of outcome

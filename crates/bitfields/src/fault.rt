@@ -5,8 +5,8 @@ ghost use Rattle.bitfields.specs.Fault.{fault, reason_status, reason_text};
 ghost use Rattle.bitfields.specs.declared.fault.Reason.TheVariants.{OutOfMemory};
 
 use std::alloc::{AllocError, AllocFailed};
+use std::io;
 use std::io::ErrorKind;
-use std::{fmt, io};
 
 /// Why a call fails.
 #[derive(Clone, Copy, Debug, PartialEq, Eq, Drop)]
@@ -109,7 +109,8 @@ impl Reason {
         }
     }
 
-    fn text(self) -> &'static str
+    /// Returns the text that is printed for this reason.
+    pub fn text(self) -> &'static str
         ensures { result.now ≡ reason_text self }
     {
         match self {
@@ -126,29 +127,5 @@ impl Reason {
             Reason::StreamFault => "stream fault",
             Reason::OutOfMemory => "out of memory",
         }
-    }
-}
-
-impl fmt::Display for Reason {
-    ghost use Rattle.std.specs.Prelude.{Some};
-    ghost use Rattle.bitfields.specs.Fault.{reason_text};
-
-    ghost output = { λ r. Some (reason_text r) };
-
-    fn fmt<W: fmt::Write>(&self, f: &mut fmt::Formatter<W>) -> fmt::Result {
-        f.write_str(self.text())
-    }
-}
-
-impl fmt::Display for Fault {
-    ghost use Rattle.std.specs.Prelude.{Some};
-    ghost use Rattle.bitfields.specs.Fault.{fault_text};
-
-    ghost output = { λ f. Some (fault_text f) };
-
-    fn fmt<W: fmt::Write>(&self, f: &mut fmt::Formatter<W>) -> fmt::Result {
-        let field = self.field;
-        let reason = self.reason;
-        write!(f, "bitfields: field {field}: {reason}")
     }
 }

@@ -3,8 +3,10 @@
 
 mod decimal;
 mod fault;
+mod fault_line;
 mod field;
 mod field_value;
+mod input;
 mod laws;
 mod layout;
 mod lines;

@@ -1,10 +1,9 @@
-//! Whole calls of the program, from bytes to bytes.
+//! Whole calls of the program, from bytes to bytes, over streams that count their requests and may
+//! refuse one of them.
 use crate::run::run;
-use bitstream_bench::{Count, Drip, Refuse};
+use bitstream_bench::{Count, Drip, RefuseOnce};
 use std::alloc::{AllocError, Global};
-use std::io;
-use std::io::{ErrorKind, Read, Write};
-use std::process::Abort;
+use std::io::ErrorKind;
 use std::test::Fail;
 
 /// A call, what stands on its input, what it must write, the field and reason of its fault (none:
@@ -62,11 +61,36 @@ const ROWS: [Row; 17] = [
     Row("size be u8", b"1\n", b"", "0: bad arguments", 2),
 ];
 
-/// The kinds of refusals that are tried, with their reason and status.
-const KINDS: [(ErrorKind, &str); 2] = [
-    (ErrorKind::ConnectionReset, "stream fault"),
-    (ErrorKind::OutOfMemory, "out of memory"),
-];
+/// Which request of each stream is refused, if any: the first is 0. Each later one is served again.
+#[derive(Clone, Copy, Drop)]
+struct Refused {
+    input: Option<u32>,
+    output: Option<u32>,
+    faults: Option<u32>,
+    kind: ErrorKind,
+}
+
+const NONE: Refused = Refused {
+    input: None,
+    output: None,
+    faults: None,
+    kind: ErrorKind::Other,
+};
+
+/// What became of a call.
+#[derive(Drop)]
+struct Ended {
+    status: u8,
+    output: Vec<u8>,
+    faults: Vec<u8>,
+    /// How many bytes of the input were left.
+    left: usize,
+    /// How many requests were made of the input, of the output and of the stream for faults.
+    requests: (u64, u64, u64),
+}
+
+/// What stands on the stream for faults before a call.
+const BEFORE: &str = "before\n";
 
 fn split(alloc: Global, text: &str) -> Result<Vec<String>, AllocError> {
     let mut words = Vec::new(alloc);
@@ -76,132 +100,163 @@ fn split(alloc: Global, text: &str) -> Result<Vec<String>, AllocError> {
     Ok(words)
 }
 
-/// The line of a fault, behind what stood before it; nothing more where there is none.
-fn told(alloc: Global, before: &str, fault: &str) -> Result<String, AllocError> {
-    if fault.is_empty() {
-        String::from_str(alloc, before)
-    } else {
-        format!(in alloc; "{before}bitfields: field {fault}\n")
+fn stream<S>(inner: S, left: Option<u32>, kind: ErrorKind) -> Count<RefuseOnce<S>> {
+    let inner = RefuseOnce { inner, left, kind };
+    Count {
+        inner,
+        requests: 0,
+        refused: 0,
     }
 }
 
-/// Runs a row over these streams: its status is answered, and only the line of this fault may be printed.
-fn play<R: Read, W: Write>(
-    rt: &impl Abort,
+/// Runs a call over an input that gives its bytes at once, or drips.
+fn play(
     alloc: Global,
-    row: &Row,
-    input: &mut R,
-    output: &mut W,
-    fault: &str,
-) -> Result<u8, Fail> {
-    let words = split(alloc, row.0)?;
-    let mut faults = Vec::new(alloc);
-    faults.write_all(b"before\n")?;
-    let status = run(alloc, &words, input, output, &mut faults);
-    let want = told(alloc, "before\n", fault)?;
-    assert!(rt; faults.as_slice() == want.as_bytes(), "{}", row.0);
-    Ok(status)
-}
-
-/// Runs a row over an input that gives its bytes.
-fn served<R: Read>(rt: &impl Abort, alloc: Global, row: &Row, input: &mut R) -> Result<(), Fail> {
-    let mut output = Vec::new(alloc);
-    let status = play(rt, alloc, row, input, &mut output, row.3)?;
-    assert_eq!(rt; status, row.4, "{}", row.0);
-    assert!(rt; output.as_slice() == row.2, "{}", row.0);
-    Ok(())
-}
-
-/// Runs a row that succeeds over an input that refuses after so many requests: nothing is written, unless all were served.
-fn input_refused(
-    rt: &impl Abort,
-    alloc: Global,
-    row: &Row,
-    left: u32,
-    kind: ErrorKind,
-    fault: &str,
-) -> Result<u8, Fail> {
-    let mut input = Refuse {
-        inner: row.1,
-        left,
-        kind,
+    words: &str,
+    bytes: &[u8],
+    drips: bool,
+    refused: Refused,
+) -> Result<Ended, AllocError> {
+    let words = split(alloc, words)?;
+    let before = String::from_str(alloc, BEFORE)?.into_bytes();
+    let drip = Drip {
+        inner: bytes,
+        drips,
     };
-    let mut output = Vec::new(alloc);
-    let status = play(rt, alloc, row, &mut input, &mut output, fault)?;
-    let want = if fault.is_empty() {
-        row.2
+    let mut input = stream(drip, refused.input, refused.kind);
+    let mut output = stream(Vec::new(alloc), refused.output, refused.kind);
+    let mut faults = stream(before, refused.faults, refused.kind);
+    let status = run(alloc, &words, &mut input, &mut output, &mut faults);
+    Ok(Ended {
+        status,
+        left: input.inner.inner.inner.len(),
+        requests: (input.requests, output.requests, faults.requests),
+        output: output.inner.inner,
+        faults: faults.inner.inner,
+    })
+}
+
+/// Whether a call ended with this status, wrote these bytes, and printed the line of this fault, or
+/// nothing if there is none.
+fn ends(
+    alloc: Global,
+    ended: &Ended,
+    status: u8,
+    output: &[u8],
+    fault: &str,
+) -> Result<bool, AllocError> {
+    let line = if fault.is_empty() {
+        String::from_str(alloc, BEFORE)?
     } else {
-        b"".as_slice()
+        format!(in alloc; "{BEFORE}bitfields: field {fault}\n")?
     };
-    assert!(rt; output.as_slice() == want, "{}", row.0);
-    Ok(status)
+    Ok(
+        ended.status == status
+            && ended.output.as_slice() == output
+            && ended.faults.as_slice() == line.as_bytes(),
+    )
 }
 
 #[test]
 fn r01_first_path(rt: HostRuntime) -> Result<(), Fail> {
     let alloc = rt.alloc();
     for row in &ROWS {
-        let mut whole = row.1;
-        served(&rt, alloc, row, &mut whole)?;
-        let mut drip = Drip {
-            inner: row.1,
-            drips: true,
+        for drips in [false, true] {
+            let ended = play(alloc, row.0, row.1, drips, NONE)?;
+            assert!(rt; ends(alloc, &ended, row.4, row.2, row.3)?, "{}", row.0);
+        }
+    }
+    Ok(())
+}
+
+/// Which stream refuses a request, and which of its requests, the first of which is 0.
+#[derive(Clone, Copy, Drop)]
+enum Refusing {
+    Input(u32),
+    Output(u32),
+}
+
+/// A call of which a request of the input or of the output is refused: which one, the field of its
+/// fault, how many of the row's bytes went before, and how many requests were made of the input, of the
+/// output and of the stream for faults.
+#[derive(Drop)]
+struct Refusal(Row, Refusing, usize, usize, (u64, u64, u64));
+
+const REFUSALS: [Refusal; 10] = [
+    // Reading to the end takes one request for the bytes and one that finds the end.
+    Refusal(PACKED, Refusing::Input(0), 0, 0, (1, 0, 1)),
+    Refusal(PACKED, Refusing::Input(1), 0, 0, (2, 0, 1)),
+    // The first byte is full at the third field, the others at the last, and a flush follows.
+    Refusal(PACKED, Refusing::Output(0), 0, 0, (2, 1, 1)),
+    Refusal(PACKED, Refusing::Output(1), 0, 1, (2, 2, 1)),
+    Refusal(PACKED, Refusing::Output(2), 0, 4, (2, 3, 1)),
+    // The bytes are needed at the first, the third and the last field.
+    Refusal(UNPACKED, Refusing::Input(0), 1, 0, (1, 0, 1)),
+    Refusal(UNPACKED, Refusing::Input(1), 3, 0, (2, 0, 1)),
+    Refusal(UNPACKED, Refusing::Input(2), 5, 0, (3, 0, 1)),
+    // All lines are one request, and a flush follows.
+    Refusal(UNPACKED, Refusing::Output(0), 0, 0, (3, 1, 1)),
+    Refusal(UNPACKED, Refusing::Output(1), 0, 15, (3, 2, 1)),
+];
+
+/// The kinds of refusals that are tried, with their reason.
+const KINDS: [(ErrorKind, &str); 2] = [
+    (ErrorKind::ConnectionReset, "stream fault"),
+    (ErrorKind::OutOfMemory, "out of memory"),
+];
+
+/// Whether a call ends as it should if its request is refused with this kind.
+fn ends_refused(
+    alloc: Global,
+    refusal: &Refusal,
+    kind: ErrorKind,
+    reason: &str,
+) -> Result<bool, AllocError> {
+    let Refusal(row, refusing, field, written, requests) = refusal;
+    let refused = match refusing {
+        Refusing::Input(at) => Refused {
+            input: Some(*at),
+            kind,
+            ..NONE
+        },
+        Refusing::Output(at) => Refused {
+            output: Some(*at),
+            kind,
+            ..NONE
+        },
+    };
+    let ended = play(alloc, row.0, row.1, false, refused)?;
+    let fault = format!(in alloc; "{field}: {reason}")?;
+    let front = row.2.get(..*written).unwrap_or(b"");
+    Ok(ends(alloc, &ended, 5, front, fault.as_str())? && ended.requests == *requests)
+}
+
+#[test]
+fn asks_nothing_more_after_a_refusal(rt: HostRuntime) -> Result<(), Fail> {
+    for (at, refusal) in REFUSALS.iter().enumerate() {
+        for (kind, reason) in KINDS {
+            let is_right = ends_refused(rt.alloc(), refusal, kind, reason)?;
+            assert!(rt; is_right, "refusal {at}, {reason}");
+        }
+    }
+    Ok(())
+}
+
+#[test]
+fn an_end_is_no_stream_fault(rt: HostRuntime) -> Result<(), Fail> {
+    let alloc = rt.alloc();
+    for (input, fault) in [
+        (0, "1: bits ended"),
+        (1, "3: bits ended"),
+        (2, "5: bits ended"),
+    ] {
+        let refused = Refused {
+            input: Some(input),
+            kind: ErrorKind::UnexpectedEof,
+            ..NONE
         };
-        served(&rt, alloc, row, &mut drip)?;
-    }
-    Ok(())
-}
-
-#[test]
-fn writes_nothing_of_an_input_that_is_refused(rt: HostRuntime) -> Result<(), Fail> {
-    let alloc = rt.alloc();
-    let kinds = [KINDS[0], KINDS[1], (ErrorKind::UnexpectedEof, "bits ended")];
-    for (kind, reason) in kinds {
-        for (left, field) in [(0, 1), (1, 3), (2, 5)] {
-            let fault = format!(in alloc; "{field}: {reason}")?;
-            let status = input_refused(&rt, alloc, &UNPACKED, left, kind, fault.as_str())?;
-            assert_eq!(rt;
-                status,
-                if kind == ErrorKind::UnexpectedEof {
-                    4
-                } else {
-                    5
-                }
-            );
-        }
-        assert_eq!(rt; input_refused(&rt, alloc, &UNPACKED, 3, kind, "")?, 0);
-    }
-    for (kind, reason) in KINDS {
-        let fault = format!(in alloc; "0: {reason}")?;
-        for left in 0..2 {
-            assert_eq!(rt;
-                input_refused(&rt, alloc, &PACKED, left, kind, fault.as_str())?,
-                5
-            );
-        }
-        assert_eq!(rt; input_refused(&rt, alloc, &PACKED, 9, kind, "")?, 0);
-    }
-    Ok(())
-}
-
-#[test]
-fn says_that_its_output_was_refused(rt: HostRuntime) -> Result<(), Fail> {
-    let alloc = rt.alloc();
-    for (kind, reason) in KINDS {
-        let fault = format!(in alloc; "0: {reason}")?;
-        for (row, left) in [(&PACKED, 0), (&PACKED, 1), (&UNPACKED, 0)] {
-            let mut input = row.1;
-            let mut output = Refuse {
-                inner: Vec::new(alloc),
-                left,
-                kind,
-            };
-            assert_eq!(rt;
-                play(&rt, alloc, row, &mut input, &mut output, fault.as_str())?,
-                5
-            );
-            assert!(rt; row.2.starts_with(output.inner.as_slice()), "{reason}");
-        }
+        let ended = play(alloc, UNPACKED.0, UNPACKED.1, false, refused)?;
+        assert!(rt; ends(alloc, &ended, 4, b"", fault)?, "{fault}");
     }
     Ok(())
 }
@@ -209,74 +264,30 @@ fn says_that_its_output_was_refused(rt: HostRuntime) -> Result<(), Fail> {
 #[test]
 fn asks_for_no_byte_more(rt: HostRuntime) -> Result<(), Fail> {
     let alloc = rt.alloc();
-    let row = Row("unpack be u2,u3,u5", D, b"2\n6\n7\n", "", 0);
-    let mut input = D;
-    served(&rt, alloc, &row, &mut input)?;
-    assert!(rt; input == &D[2..]);
-    let mut input = Count {
-        inner: Refuse {
-            inner: D,
-            left: 1,
-            kind: ErrorKind::ConnectionReset,
-        },
-        requests: 0,
-        refused: 0,
-    };
-    let mut output = Vec::new(alloc);
-    let _ = play(&rt, alloc, &row, &mut input, &mut output, "3: stream fault")?;
-    assert_eq!(rt; (input.requests, input.refused), (2, 1));
+    for (words, bytes, left, requests) in [
+        (PACKED.0, PACKED.1, 0, (2, 3, 0)),
+        (UNPACKED.0, UNPACKED.1, 0, (3, 2, 0)),
+        ("unpack be u2,u3,u5", D, 2, (2, 2, 0)),
+        ("unpack le a", D, 4, (0, 2, 0)),
+        ("pack be u8,n1", D, 4, (0, 0, 1)),
+        ("size be u8", D, 4, (0, 0, 1)),
+    ] {
+        let ended = play(alloc, words, bytes, false, NONE)?;
+        assert_eq!(rt; (ended.left, ended.requests), (left, requests), "{words}");
+    }
     Ok(())
 }
 
 #[test]
-fn keeps_its_status_where_no_fault_can_be_printed(rt: HostRuntime) -> Result<(), Fail> {
+fn keeps_its_status_if_no_fault_can_be_printed(rt: HostRuntime) -> Result<(), Fail> {
     let alloc = rt.alloc();
-    let words = split(alloc, "pack be")?;
-    let mut input: &[u8] = b"";
-    let mut output = Vec::new(alloc);
-    let mut faults = Refuse {
-        inner: Vec::new(alloc),
-        left: 0,
+    let refused = Refused {
+        faults: Some(0),
         kind: ErrorKind::ConnectionReset,
+        ..NONE
     };
-    assert_eq!(rt; run(alloc, &words, &mut input, &mut output, &mut faults), 2);
-    Ok(())
-}
-
-/// A writer that takes each byte and refuses to flush.
-#[derive(Drop)]
-struct Unflushed {
-    bytes: Vec<u8>,
-    kind: ErrorKind,
-}
-
-impl Write for Unflushed {
-    fn write(&mut self, buf: &[u8]) -> io::Result<usize> {
-        self.bytes.write(buf)
-    }
-
-    fn flush(&mut self) -> io::Result<()> {
-        Err(io::Error::from(self.kind))
-    }
-}
-
-#[test]
-fn flushes_its_output(rt: HostRuntime) -> Result<(), Fail> {
-    let alloc = rt.alloc();
-    for (kind, reason) in KINDS {
-        let fault = format!(in alloc; "0: {reason}")?;
-        for row in [&PACKED, &UNPACKED] {
-            let mut input = row.1;
-            let mut output = Unflushed {
-                bytes: Vec::new(alloc),
-                kind,
-            };
-            assert_eq!(rt;
-                play(&rt, alloc, row, &mut input, &mut output, fault.as_str())?,
-                5
-            );
-            assert!(rt; output.bytes.as_slice() == row.2, "{reason}");
-        }
-    }
+    let ended = play(alloc, "pack be", b"", false, refused)?;
+    assert!(rt; ends(alloc, &ended, 2, b"", "")?);
+    assert_eq!(rt; ended.requests, (0, 0, 1));
     Ok(())
 }

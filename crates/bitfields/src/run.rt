@@ -4,14 +4,16 @@ ghost use Rattle.std.specs.Prelude.{◌≡◌, map, string_bytes};
 ghost use Rattle.bitfields.specs.Call.{bit_order, command_of, order_of, request_of};
 ghost use Rattle.bitfields.specs.Layout.{layout_of};
 ghost use Rattle.bitfields.specs.Run.{Calls, Follows, PacksInput, Performs, Reports, Runs, UnpacksInput};
+ghost use Rattle.bitfields.specs.Streams.{input_stream, output_stream};
 
 use crate::fault::{Fault, Reason};
+use crate::fault_line::FaultLine;
+use crate::input::Input;
 use crate::layout::{Layout, parse_layout};
 use crate::packing::pack;
 use crate::unpacking::unpack;
-use bitstream_io::{BigEndian, Endianness, LittleEndian};
+use bitstream_io::{BigEndian, Endianness, LittleEndian, Target};
 use std::alloc::Global;
-use std::io::{Read, Write};
 
 /// What is done with a layout.
 #[derive(Clone, Copy, Debug, PartialEq, Eq, Drop)]
@@ -30,20 +32,24 @@ pub enum NamedOrder {
 }
 
 /// Runs the program on its arguments, without the program's name, and returns the status that it ends
-/// with: 0, or that of a fault, whose line is then printed on `faults`. A line that can't be printed
-/// leaves the status as it is.
+/// with: 0, or that of a fault, whose line is then printed on `faults` by one request. A line that can't
+/// be printed leaves the status as it is.
 ///
-/// The output is written and flushed only where the whole layout succeeded: at a status of 2, 3 or 4
-/// nothing was written, and at a status of 5 only where it was the output that refused. Nothing is
-/// printed on `faults` at a status of 0.
-pub fn run<R: Read, W: Write, X: Write>(
+/// The input is any `Read`, the output and the stream for faults are any `Write`, or a target that is
+/// lent. The output is written and flushed only if the whole layout succeeded: at a status of 2, 3 or 4
+/// nothing was written, and at a status of 5 only if it was the output that refused a request. After a
+/// refused request nothing more is asked of the input or the output. Nothing is printed on `faults` at a
+/// status of 0.
+pub fn run<R: Input, W: Target, X: Target>(
     alloc: Global,
     words: &[String],
     input: &mut R,
     output: &mut W,
     faults: &mut X,
 ) -> u8
-    ensures { Runs R.remaining W.contents X.contents (request_of (map string_bytes words.now))
+    ensures { Runs (input_stream R.remaining R.refuses R.refuses_rest)
+        (output_stream W.contents W.refuses W.flushes) (output_stream X.contents X.refuses X.flushes)
+        (request_of (map string_bytes words.now))
         input.old output.old faults.old result input.new output.new faults.new }
 {
     match call(alloc, words, input, output) {
@@ -52,22 +58,32 @@ pub fn run<R: Read, W: Write, X: Write>(
     }
 }
 
-/// Prints the line of a fault, and returns its status. A line that can't be printed is passed over.
-pub fn report<X: Write>(fault: Fault, faults: &mut X) -> u8
+/// Prints the line of a fault, and returns its status.
+pub fn report<X: Target>(fault: Fault, faults: &mut X) -> u8
     ensures status { result ≡ fault.status }
-    ensures line { Reports X.contents fault faults.old faults.new }
+    ensures line { Reports (output_stream X.contents X.refuses X.flushes) fault
+        faults.old faults.new }
 {
-    let _ = writeln!(faults, "{fault}");
+    print_line(fault, faults);
     fault.status
 }
 
-fn call<R: Read, W: Write>(
+/// Prints the line of a fault by one request. A refusal is passed over.
+fn print_line<X: Target>(fault: Fault, faults: &mut X)
+    ensures { Reports (output_stream X.contents X.refuses X.flushes) fault faults.old faults.new }
+{
+    let line = FaultLine::of(fault);
+    let _ = faults.write_all(line.as_slice());
+}
+
+fn call<R: Input, W: Target>(
     alloc: Global,
     words: &[String],
     input: &mut R,
     output: &mut W,
 ) -> Result<(), Fault>
-    ensures { Calls R.remaining W.contents (request_of (map string_bytes words.now))
+    ensures { Calls (input_stream R.remaining R.refuses R.refuses_rest)
+        (output_stream W.contents W.refuses W.flushes) (request_of (map string_bytes words.now))
         input.old output.old result input.new output.new }
 {
     let [command, order, text] = words else {
@@ -102,7 +118,7 @@ fn parse_order(word: &str) -> Option<NamedOrder>
     }
 }
 
-fn follow<R: Read, W: Write>(
+fn follow<R: Input, W: Target>(
     alloc: Global,
     command: Command,
     order: NamedOrder,
@@ -110,7 +126,8 @@ fn follow<R: Read, W: Write>(
     input: &mut R,
     output: &mut W,
 ) -> Result<(), Fault>
-    ensures { Follows R.remaining W.contents command (bit_order order) (layout_of text.now)
+    ensures { Follows (input_stream R.remaining R.refuses R.refuses_rest)
+        (output_stream W.contents W.refuses W.flushes) command (bit_order order) (layout_of text.now)
         input.old output.old result input.new output.new }
 {
     let layout = parse_layout(alloc, text)?;
@@ -120,14 +137,15 @@ fn follow<R: Read, W: Write>(
     }
 }
 
-fn perform<E: Endianness, R: Read, W: Write>(
+fn perform<E: Endianness, R: Input, W: Target>(
     alloc: Global,
     command: Command,
     layout: &Layout,
     input: &mut R,
     output: &mut W,
 ) -> Result<(), Fault>
-    ensures { Performs R.remaining W.contents command E.order layout.now
+    ensures { Performs (input_stream R.remaining R.refuses R.refuses_rest)
+        (output_stream W.contents W.refuses W.flushes) command E.order layout.now
         input.old output.old result input.new output.new }
 {
     match command {
@@ -136,29 +154,30 @@ fn perform<E: Endianness, R: Read, W: Write>(
     }
 }
 
-fn pack_input<E: Endianness, R: Read, W: Write>(
+fn pack_input<E: Endianness, R: Input, W: Target>(
     alloc: Global,
     layout: &Layout,
     input: &mut R,
     output: &mut W,
 ) -> Result<(), Fault>
-    ensures { PacksInput R.remaining W.contents E.order layout.now
+    ensures { PacksInput (input_stream R.remaining R.refuses R.refuses_rest)
+        (output_stream W.contents W.refuses W.flushes) E.order layout.now
         input.old output.old result input.new output.new }
 {
-    let mut bytes = Vec::new(alloc);
-    input.read_to_end(&mut bytes)?;
+    let bytes = input.read_rest(alloc)?;
     pack::<E, W>(alloc, layout, &bytes, output)?;
     output.flush()?;
     Ok(())
 }
 
-fn unpack_input<E: Endianness, R: Read, W: Write>(
+fn unpack_input<E: Endianness, R: Input, W: Target>(
     alloc: Global,
     layout: &Layout,
     input: &mut R,
     output: &mut W,
 ) -> Result<(), Fault>
-    ensures { UnpacksInput R.remaining W.contents E.order layout.now
+    ensures { UnpacksInput (input_stream R.remaining R.refuses R.refuses_rest)
+        (output_stream W.contents W.refuses W.flushes) E.order layout.now
         input.old output.old result input.new output.new }
 {
     let lines = unpack::<E, R>(alloc, layout, input)?;

@@ -1,18 +1,18 @@
-use Rattle.std.proofs.Common.{rules}
-use Rattle.std.specs.Io.KnownBytes.{Consumes, IsAtEnd}
-use Rattle.bitfields.proofs.RunLemmas.{PacksInput-refused, PacksInput-unflushed}
+use Rattle.std.proofs.Common.{rules, refl}
+use Rattle.bitfields.specs.Streams.{ReadToEnd}
+use Rattle.bitfields.proofs.PackingLemmas.{result_err}
+use Rattle.bitfields.proofs.RunLemmas.{packing_fault, packing_unflushed}
 use Rattle.bitfields.proofs.run.pack_input.Goals as goal
 
 pub returns-in_err-pack : goal.returns-in_err-pack
 returns-in_err-pack g c =
-    let known = g.R.Read.remaining in
-    let read : Consumes (known c.args.input.now) (known c.read_to_end.new.self) c.deref.result.now = search rules in
-    let end : IsAtEnd (known c.read_to_end.new.self) = c.in_ok-read_to_end.ensures.end in
-    PacksInput-refused known g.W.Write.contents _ g.E.Endianness.order c.args.layout.now _ _ c.deref.result.now c.from_residual-in_err-pack.result _ _ _ c.from_residual-in_err-pack.ensures.1 read end c.in_err-pack.ensures
+    let known = g.R.Source.remaining in
+    let reads : ReadToEnd (known c.args.input.now) c.deref.result.now (known c.read_rest.new.self) = search rules in
+    rw (result_err c.from_residual-in_err-pack.result c.from_residual-in_err-pack.ensures.1) (packing_fault reads _ refl c.in_err-pack.ensures)
 
 pub returns-in_err-flush : goal.returns-in_err-flush
 returns-in_err-flush g c =
-    let known = g.R.Read.remaining in
-    let read : Consumes (known c.args.input.now) (known c.read_to_end.new.self) c.deref.result.now = search rules in
-    let end : IsAtEnd (known c.read_to_end.new.self) = c.in_ok-read_to_end.ensures.end in
-    PacksInput-unflushed known g.W.Write.contents _ g.E.Endianness.order c.args.layout.now _ _ c.deref.result.now c.from_residual-in_err-flush.result _ _ _ _ c.from_residual-in_err-flush.ensures.1 read end c.in_ok-pack.ensures
+    let known = g.R.Source.remaining in
+    let reads : ReadToEnd (known c.args.input.now) c.deref.result.now (known c.read_rest.new.self) = search rules in
+    rw (result_err c.from_residual-in_err-flush.result c.from_residual-in_err-flush.ensures.1)
+    (packing_unflushed reads _ refl c.in_ok-pack.ensures (record { kind = _; refused = c.in_err-flush.ensures.refused; reason = refl }))

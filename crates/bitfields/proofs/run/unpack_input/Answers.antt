@@ -1,7 +1,14 @@
-use Rattle.bitfields.proofs.RunLemmas.{UnpacksInput-refused}
+use Rattle.std.proofs.Common.{rules, refl}
+use Rattle.bitfields.specs.Run.{refused_lines, unflushed_lines}
+use Rattle.bitfields.proofs.PackingLemmas.{result_err}
 use Rattle.bitfields.proofs.run.unpack_input.Goals as goal
 
-pub returns-in_err-lines : goal.returns-in_err-lines
-returns-in_err-lines g c =
-    UnpacksInput-refused g.R.Read.remaining g.W.Write.contents g.E.Endianness.order c.args.layout.now c.args.input.now c.args.output.now _ c.from_residual.result c.unpack.new.input
-    c.from_residual.ensures.1 c.in_err-lines.ensures.unpacks
+pub returns-in_err-write_all : goal.returns-in_err-write_all
+returns-in_err-write_all g c =
+    rw (result_err c.from_residual-in_err-write_all.result c.from_residual-in_err-write_all.ensures.1)
+    (refused_lines c.deref.result.now (search rules) (record { kind = _; refused = c.in_err-write_all.ensures.refused; reason = refl }))
+
+pub returns-in_err-flush : goal.returns-in_err-flush
+returns-in_err-flush g c =
+    rw (result_err c.from_residual-in_err-flush.result c.from_residual-in_err-flush.ensures.1)
+    (unflushed_lines c.deref.result.now (search rules) (record { filled = _; writes = c.in_ok-write_all.ensures.bytes; refused = record { kind = _; refused = c.in_err-flush.ensures.refused; reason = refl } }))
