@@ -41,7 +41,8 @@ impl<'a> Call<'a> {
         }
         let (bits, value) = match (form, kind) {
             (Form::Bytes, Kind::Write) => (0, word_at(&words, 1)),
-            (Form::Whole(_, _) | Form::Variable(_, _, _), _) => (0, word_at(&words, 2)),
+            (Form::Whole(_, _), _) => (0, word_at(&words, 2)),
+            (Form::Variable(_, _, _) | Form::VariablePair(_), _) => (0, word_at(&words, 2)),
             (Form::Prefix(_) | Form::Limited(_, _), _) => (0, word_at(&words, 2)),
             _ if arguments == 0 => (0, ""),
             _ => (number(word_at(&words, 1))?, word_at(&words, 2)),

@@ -34,7 +34,7 @@ macro_rules! read_at {
     ($alloc:ident, $reader:ident, $bits:ident, $type:ident, $($width:literal)+) => {
         match $bits {
             $($width => read_in::<Bits<$width>, $type, R>($alloc, $reader),)+
-            _ => Err(Objection::NotYet),
+            _ => Err(Objection::UNLISTED),
         }
     };
 }
@@ -44,7 +44,7 @@ macro_rules! write_at {
     ($writer:ident, $bits:ident, $value:ident, $type:ident, $($width:literal)+) => {
         match $bits {
             $($width => write_in::<Bits<$width>, $type, W>($writer, $value),)+
-            _ => Err(Objection::NotYet),
+            _ => Err(Objection::UNLISTED),
         }
     };
 }
@@ -69,10 +69,10 @@ fn read_fixed_unsigned<R: BitRead>(
     bits: u32,
 ) -> Result<String, Objection> {
     match size {
-        Size::Bits8 => read_at!(alloc, reader, bits, u8, 0 2 3 5 7 8),
+        Size::Bits8 => read_at!(alloc, reader, bits, u8, 0 1 2 3 5 7 8),
         Size::Bits16 => read_at!(alloc, reader, bits, u16, 1 3 6 8 9 15 16),
-        Size::Bits32 => read_at!(alloc, reader, bits, u32, 1 4 7 20 31 32),
-        Size::Bits64 => read_at!(alloc, reader, bits, u64, 1 5 33 36 64),
+        Size::Bits32 => read_at!(alloc, reader, bits, u32, 1 4 7 16 20 31 32),
+        Size::Bits64 => read_at!(alloc, reader, bits, u64, 1 5 33 36 63 64),
         Size::Bits128 => read_at!(alloc, reader, bits, u128, 1 7 64 65 127 128),
     }
 }
@@ -84,10 +84,10 @@ fn read_fixed_signed<R: BitRead>(
     bits: u32,
 ) -> Result<String, Objection> {
     match size {
-        Size::Bits8 => read_at!(alloc, reader, bits, i8, 1 2 3 4 5 8),
+        Size::Bits8 => read_at!(alloc, reader, bits, i8, 1 2 3 4 5 7 8),
         Size::Bits16 => read_at!(alloc, reader, bits, i16, 1 3 8 9 15 16),
-        Size::Bits32 => read_at!(alloc, reader, bits, i32, 1 4 7 16 31 32),
-        Size::Bits64 => read_at!(alloc, reader, bits, i64, 1 5 12 63 64),
+        Size::Bits32 => read_at!(alloc, reader, bits, i32, 1 4 7 16 20 31 32),
+        Size::Bits64 => read_at!(alloc, reader, bits, i64, 1 5 12 33 36 63 64),
         Size::Bits128 => read_at!(alloc, reader, bits, i128, 1 7 64 65 127 128),
     }
 }
@@ -112,10 +112,10 @@ fn write_fixed_unsigned<W: BitWrite>(
     value: &str,
 ) -> Result<Result<(), Error>, Objection> {
     match size {
-        Size::Bits8 => write_at!(writer, bits, value, u8, 0 2 3 5 7 8),
+        Size::Bits8 => write_at!(writer, bits, value, u8, 0 1 2 3 5 7 8),
         Size::Bits16 => write_at!(writer, bits, value, u16, 1 3 6 8 9 15 16),
-        Size::Bits32 => write_at!(writer, bits, value, u32, 1 4 7 20 31 32),
-        Size::Bits64 => write_at!(writer, bits, value, u64, 1 5 33 36 64),
+        Size::Bits32 => write_at!(writer, bits, value, u32, 1 4 7 16 20 31 32),
+        Size::Bits64 => write_at!(writer, bits, value, u64, 1 5 33 36 63 64),
         Size::Bits128 => write_at!(writer, bits, value, u128, 1 7 64 65 127 128),
     }
 }
@@ -127,10 +127,10 @@ fn write_fixed_signed<W: BitWrite>(
     value: &str,
 ) -> Result<Result<(), Error>, Objection> {
     match size {
-        Size::Bits8 => write_at!(writer, bits, value, i8, 1 2 3 4 5 8),
+        Size::Bits8 => write_at!(writer, bits, value, i8, 1 2 3 4 5 7 8),
         Size::Bits16 => write_at!(writer, bits, value, i16, 1 3 8 9 15 16),
-        Size::Bits32 => write_at!(writer, bits, value, i32, 1 4 7 16 31 32),
-        Size::Bits64 => write_at!(writer, bits, value, i64, 1 5 12 63 64),
+        Size::Bits32 => write_at!(writer, bits, value, i32, 1 4 7 16 20 31 32),
+        Size::Bits64 => write_at!(writer, bits, value, i64, 1 5 12 33 36 63 64),
         Size::Bits128 => write_at!(writer, bits, value, i128, 1 7 64 65 127 128),
     }
 }

@@ -1,5 +1,6 @@
 //! The forms of calls, as rows spell them.
 use crate::objection::Objection;
+use crate::to_come::ToCome;
 
 /// The number of bits of a type.
 #[derive(Clone, Copy, Drop)]
@@ -95,6 +96,8 @@ pub enum Form {
     Value(Number),
     /// A number of a size, in groups of so many bits.
     Variable(Grouped, Size, u32),
+    /// Two of `u8`, each in groups of so many bits.
+    VariablePair(u32),
     /// A vector of bytes.
     Vector,
     /// A primitive.
@@ -127,8 +130,8 @@ pub fn form_of(name: &str, next: &str) -> Result<Form, Objection> {
     let named = named.or_else(|| symbol_form(name, next));
     if let Some(form) = named.or_else(|| number_form(name)) {
         Ok(form)
-    } else if is_to_come(name) {
-        Err(Objection::NotYet)
+    } else if let Some(call) = call_to_come(name) {
+        Err(Objection::NotYet(call))
     } else {
         Err(Objection::BAD_FORM)
     }
@@ -174,6 +177,9 @@ fn variable_form(name: &str, next: &str) -> Option<Form> {
         return Some(Form::Variable(Grouped::Signed, size, field.parse().ok()?));
     }
     let field = name.strip_prefix("vbr")?.parse().ok()?;
+    if next == "array2-u8" {
+        return Some(Form::VariablePair(field));
+    }
     let (value, size) = if let Some(size) = next.strip_prefix("nonzero") {
         (Grouped::NonZero, size)
     } else if let Some(size) = next.strip_prefix("optional") {
@@ -234,7 +240,11 @@ fn size_of(name: &str) -> Option<Size> {
     }
 }
 
-/// Whether a name is that of a call that the heads of the files name, and that is still to come.
-fn is_to_come(name: &str) -> bool {
-    name.strip_prefix("checked-").and_then(number_of).is_some()
+/// The call to come whose name, with a type behind it, a name spells.
+fn call_to_come(name: &str) -> Option<ToCome> {
+    let (call, number) = name.split_once('-')?;
+    number_of(number)?;
+    ToCome::ALL
+        .into_iter()
+        .find(|to_come| to_come.name() == call)
 }

@@ -3,7 +3,11 @@
 //! Each file says in its head what its rows and columns mean, and where the answers come from. Each row
 //! is played over a slice or a vector, over a stream that gives or takes a byte a request, and over
 //! streams that refuse from each of its requests on. A row with a call that the library does not have
-//! yet is passed over.
+//! yet is passed over, and counted by the name of the call. Buffers of each length are written and read
+//! at each place in a byte.
+//!
+//! The program fails if a row or a buffer differs, or if a row has a form, a width or a constant that the
+//! player does not know.
 #![tactic(auto)]
 
 /// A function at the unsigned type of a size.
@@ -33,6 +37,7 @@ macro_rules! signed {
 }
 
 mod answer;
+mod buffers;
 mod call;
 mod fixed;
 mod form;
@@ -42,16 +47,20 @@ mod reads;
 mod replay;
 mod row;
 mod symbols;
+mod to_come;
 mod variable;
 mod whole;
 mod writes;
 
+use buffers::play_buffers;
 use objection::Objection;
 use replay::replay;
 use std::alloc::Global;
 use std::io;
 use std::io::ErrorKind;
+use std::process::ExitCode;
 use std::rt::Files;
+use to_come::ToCome;
 
 /// The files of rows.
 const FILES: [&str; 6] = [
@@ -64,11 +73,13 @@ const FILES: [&str; 6] = [
 ];
 
 /// How many rows a file has, how many were played, and how many differ.
-#[derive(Clone, Copy, Drop)]
+#[derive(Drop)]
 struct Totals {
     rows: u32,
     played: u32,
     differing: u32,
+    /// A call to come for each row that was passed over.
+    passed_over: Vec<ToCome>,
 }
 
 impl Totals {
@@ -82,9 +93,9 @@ impl Totals {
         self.rows = self.rows.saturating_add(1);
         match outcome {
             Err(Objection::OutOfMemory) => return Err(io::Error::from(ErrorKind::OutOfMemory)),
-            Err(Objection::NotYet) => {}
+            Err(Objection::NotYet(call)) => self.passed_over.push(call)?,
             Err(Objection::Differs(what)) => {
-                println!(rt; "differs {}: {line}", what.name())?;
+                println!(rt; "{}: {line}", what.text())?;
                 self.played = self.played.saturating_add(1);
                 self.differing = self.differing.saturating_add(1);
             }
@@ -92,32 +103,52 @@ impl Totals {
         }
         Ok(())
     }
+
+    /// Prints them for a file of this name.
+    fn print(&self, rt: &impl Print, name: &str) -> io::Result<()> {
+        let (rows, played, differing) = (self.rows, self.played, self.differing);
+        println!(rt; "{name}: {rows} rows, {played} played, {differing} differ")?;
+        for call in ToCome::ALL {
+            let rows = self
+                .passed_over
+                .iter()
+                .filter(|over| **over == call)
+                .count();
+            if rows > 0 {
+                println!(rt; "{name}: {rows} rows passed over for {}", call.name())?;
+            }
+        }
+        Ok(())
+    }
 }
 
-/// Plays the rows of a file.
-fn play_file(rt: &(impl Files + Print + Alloc), alloc: Global, name: &str) -> io::Result<()> {
+/// Plays the rows of a file, and gives how many differ.
+fn play_file(rt: &(impl Files + Print + Alloc), alloc: Global, name: &str) -> io::Result<u32> {
     let text = std::fs::read_to_string(rt, name)?;
     let mut totals = Totals {
         rows: 0,
         played: 0,
         differing: 0,
+        passed_over: Vec::new(alloc),
     };
     for line in text.as_str().lines() {
         if !line.starts_with('#') {
             totals.note(rt, line, replay(alloc, line))?;
         }
     }
-    let Totals {
-        rows,
-        played,
-        differing,
-    } = totals;
-    println!(rt; "{name}: {rows} rows, {played} played, {differing} differ")
+    totals.print(rt, name)?;
+    Ok(totals.differing)
 }
 
-fn main(rt: HostRuntime) -> io::Result<()> {
+fn main(rt: HostRuntime) -> io::Result<ExitCode> {
+    let mut differing = 0u32;
     for name in FILES {
-        play_file(&rt, rt.alloc(), name)?;
+        differing = differing.saturating_add(play_file(&rt, rt.alloc(), name)?);
     }
-    Ok(())
+    differing = differing.saturating_add(play_buffers(&rt, rt.alloc())?);
+    Ok(if differing == 0 {
+        ExitCode::SUCCESS
+    } else {
+        ExitCode::FAILURE
+    })
 }

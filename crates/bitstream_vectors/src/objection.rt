@@ -1,5 +1,6 @@
 //! Why a row does not stand.
 
+use crate::to_come::ToCome;
 use std::alloc::{AllocError, AllocFailed};
 
 /// What is not as a row says.
@@ -7,6 +8,8 @@ use std::alloc::{AllocError, AllocFailed};
 pub enum Difference {
     /// The row is of a form that the head of its file does not name.
     Form,
+    /// A call has a width, a greatest number or a constant for which the player has no line.
+    Unlisted,
     /// An answer, over a slice or a vector.
     Answer,
     /// An answer over a stream that gives or takes a byte a request.
@@ -22,16 +25,17 @@ pub enum Difference {
 }
 
 impl Difference {
-    /// Its name.
-    pub fn name(self) -> &'static str {
+    /// What is printed before the row.
+    pub fn text(self) -> &'static str {
         match self {
-            Difference::Form => "in its form",
-            Difference::Answer => "in an answer",
-            Difference::Dripped => "over a stream that drips",
-            Difference::Refused => "over a stream that refuses",
-            Difference::Bytes => "in its bytes",
-            Difference::Place => "in its place",
-            Difference::Requests => "in its requests",
+            Difference::Form => "has a form that the player does not know",
+            Difference::Unlisted => "has a width or constant that the player does not list",
+            Difference::Answer => "differs in an answer",
+            Difference::Dripped => "differs over a stream that drips",
+            Difference::Refused => "differs over a stream that refuses",
+            Difference::Bytes => "differs in its bytes",
+            Difference::Place => "differs in its place",
+            Difference::Requests => "differs in its requests",
         }
     }
 }
@@ -39,8 +43,8 @@ impl Difference {
 /// Why a row does not stand.
 #[derive(Clone, Copy, Drop)]
 pub enum Objection {
-    /// It names a call, a width or a constant that is not there yet.
-    NotYet,
+    /// It makes a call that the library does not have yet.
+    NotYet(ToCome),
     /// Something is not as it says.
     Differs(Difference),
     /// Memory was refused.
@@ -50,6 +54,9 @@ pub enum Objection {
 impl Objection {
     /// A row whose form is none that the head of its file names.
     pub const BAD_FORM: Objection = Objection::Differs(Difference::Form);
+
+    /// A row with a number that stands in no table of the player.
+    pub const UNLISTED: Objection = Objection::Differs(Difference::Unlisted);
 }
 
 impl From<AllocError> for Objection {

@@ -7,7 +7,7 @@ use crate::fixed::read_fixed;
 use crate::form::{Form, Items, Number, Size};
 use crate::objection::Objection;
 use crate::symbols::{read_limited, read_symbol};
-use crate::variable::read_variable;
+use crate::variable::{read_variable, read_variable_pair};
 use crate::whole::{WholeRead, read_whole};
 use bitstream_io::{
     BitCount, BitRead, BitReadExt, Bits, Error, Integer, SignedInteger, UnsignedInteger, Width,
@@ -40,6 +40,7 @@ pub fn read_call<R: BitRead + WholeRead>(
         Form::Unary(stop) => read_unary(alloc, reader, stop),
         Form::Value(number) => read_number(alloc, reader, number, bits),
         Form::Variable(value, size, field) => read_variable(alloc, reader, value, size, field),
+        Form::VariablePair(field) => read_variable_pair(alloc, reader, field),
         Form::Word(number) => read_word(alloc, reader, number, bits),
         Form::Bytes | Form::Pad | Form::Skip | Form::Vector | Form::Whole(_, _) => {
             read_whole(alloc, reader, call)
@@ -194,7 +195,7 @@ fn read_array<R: BitRead>(
     match items {
         Items::Bytes => shown_bytes(alloc, reader.read_var::<[u8; 4]>(bits)),
         Items::None => shown_nothing(alloc, reader.read_var::<[u8; 0]>(bits)),
-        Items::Signed => shown_signed(alloc, reader.read_var::<[i8; 2]>(bits)),
+        Items::Signed => shown_pair(alloc, reader.read_var::<[i8; 2]>(bits)),
         Items::Truths => shown_truths(alloc, reader.read_var::<[bool; 4]>(bits)),
     }
 }
@@ -217,7 +218,11 @@ fn shown_nothing(alloc: Global, answer: Result<[u8; 0], Error>) -> Result<String
     }
 }
 
-fn shown_signed(alloc: Global, answer: Result<[i8; 2], Error>) -> Result<String, Objection> {
+/// Two values with a comma between them.
+pub fn shown_pair<T: Display + Drop>(
+    alloc: Global,
+    answer: Result<[T; 2], Error>,
+) -> Result<String, Objection> {
     match answer {
         Ok(pair) => {
             let [a, b] = pair;
@@ -246,7 +251,7 @@ fn read_count<R: BitRead>(alloc: Global, reader: &mut R, max: u32) -> Result<Str
         63 => shown(alloc, reader.read_count::<BitCount<63>>()),
         127 => shown(alloc, reader.read_count::<BitCount<127>>()),
         4294967295 => shown(alloc, reader.read_count::<BitCount<4294967295>>()),
-        _ => Err(Objection::NotYet),
+        _ => Err(Objection::UNLISTED),
     }
 }
 
@@ -294,6 +299,6 @@ fn read_const<R: BitRead>(
         (8, 177) => read_const_in::<Bits<8>, Bits<177>, R>(alloc, reader),
         (12, 2643) => read_const_in::<Bits<12>, Bits<2643>, R>(alloc, reader),
         (32, 4294967295) => read_const_in::<Bits<32>, Bits<4294967295>, R>(alloc, reader),
-        _ => Err(Objection::NotYet),
+        _ => Err(Objection::UNLISTED),
     }
 }

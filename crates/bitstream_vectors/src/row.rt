@@ -107,21 +107,21 @@ fn order_of(name: &str) -> Result<Order, Objection> {
     }
 }
 
-/// The calls of a list. A call of a bad form is named before one that is still to come.
+/// The calls of a list. A call of a bad form is named before one that is still to come, and of those
+/// the first.
 fn calls_of<'a>(alloc: Global, kind: Kind, list: &'a str) -> Result<Vec<Call<'a>>, Objection> {
     let mut calls = Vec::new(alloc);
-    let mut to_come = false;
+    let mut to_come = None;
     for spelled in list.split(';') {
         match Call::parse(alloc, kind, spelled) {
             Ok(call) => calls.push(call)?,
-            Err(Objection::NotYet) => to_come = true,
+            Err(Objection::NotYet(call)) => to_come = to_come.or(Some(call)),
             Err(objection) => return Err(objection),
         }
     }
-    if to_come {
-        Err(Objection::NotYet)
-    } else {
-        Ok(calls)
+    match to_come {
+        Some(call) => Err(Objection::NotYet(call)),
+        None => Ok(calls),
     }
 }
 

@@ -63,7 +63,7 @@ pub fn read_limited<R: BitRead>(
         (false, 10) => reader.read_huffman(&LimitedUnary::<0, 10> {}),
         (true, 3) => reader.read_huffman(&LimitedUnary::<1, 3> {}),
         (true, 10) => reader.read_huffman(&LimitedUnary::<1, 10> {}),
-        _ => return Err(Objection::NotYet),
+        _ => return Err(Objection::UNLISTED),
     };
     shown_or_none(alloc, answer)
 }
@@ -80,6 +80,6 @@ pub fn write_limited<W: BitWrite>(writer: &mut W, stop: bool, most: u32, value: 
         (false, 10) => Ok(writer.write_huffman(&LimitedUnary::<0, 10> {}, run)),
         (true, 3) => Ok(writer.write_huffman(&LimitedUnary::<1, 3> {}, run)),
         (true, 10) => Ok(writer.write_huffman(&LimitedUnary::<1, 10> {}, run)),
-        _ => Err(Objection::NotYet),
+        _ => Err(Objection::UNLISTED),
     }
 }

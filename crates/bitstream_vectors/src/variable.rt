@@ -3,7 +3,8 @@ use crate::answer::{Answer, shown};
 use crate::call::number;
 use crate::form::{Grouped, Size};
 use crate::objection::Objection;
-use crate::reads::shown_or_none;
+use crate::reads::{shown_or_none, shown_pair};
+use crate::writes::pair_of;
 use bitstream_io::{BitRead, BitReadExt, BitWrite, BitWriteExt, Bits, VBRInteger, Width};
 use std::alloc::Global;
 use std::fmt::Display;
@@ -70,7 +71,7 @@ macro_rules! at_field {
     ($field:ident, $call:ident, $unsigned:ty, $signed:ty, $arguments:tt, $($width:literal)+) => {
         match $field {
             $($width => $call::<Bits<$width>, $unsigned, $signed, NonZero<$unsigned>, _>$arguments,)+
-            _ => Err(Objection::NotYet),
+            _ => Err(Objection::UNLISTED),
         }
     };
 }
@@ -108,4 +109,24 @@ pub fn write_variable<W: BitWrite>(
     value: &str,
 ) -> Answer {
     in_fields!(size, field, write_in, (writer, kind, value))
+}
+
+/// Reads two of `u8` in groups of so many bits, and spells the answer.
+pub fn read_variable_pair<R: BitRead>(
+    alloc: Global,
+    reader: &mut R,
+    field: u32,
+) -> Result<String, Objection> {
+    match field {
+        4 => shown_pair(alloc, reader.read_vbr::<Bits<4>, [u8; 2]>()),
+        _ => Err(Objection::UNLISTED),
+    }
+}
+
+/// Writes the two of `u8` that a text spells in groups of so many bits.
+pub fn write_variable_pair<W: BitWrite>(writer: &mut W, field: u32, value: &str) -> Answer {
+    match field {
+        4 => Ok(writer.write_vbr::<Bits<4>, [u8; 2]>(pair_of(value)?)),
+        _ => Err(Objection::UNLISTED),
+    }
 }

@@ -7,7 +7,7 @@ use crate::fixed::write_fixed;
 use crate::form::{Form, Items, Number, Size};
 use crate::objection::Objection;
 use crate::symbols::{write_limited, write_symbol};
-use crate::variable::write_variable;
+use crate::variable::{write_variable, write_variable_pair};
 use crate::whole::{WholeWrite, write_whole};
 use bitstream_io::{
     BitCount, BitWrite, BitWriteExt, Bits, Error, Integer, SignedInteger, UnsignedInteger, Width,
@@ -40,6 +40,7 @@ pub fn write_call<W: BitWrite + WholeWrite>(
         Form::Unary(stop) => Ok(write_unary(writer, stop, bits)),
         Form::Value(number) => write_number(writer, number, bits, value),
         Form::Variable(kind, size, field) => write_variable(writer, kind, size, field, value),
+        Form::VariablePair(field) => write_variable_pair(writer, field, value),
         Form::Word(number) => write_word(writer, number, bits, value),
         Form::Bytes | Form::Pad | Form::Skip | Form::Vector | Form::Whole(_, _) => {
             write_whole(alloc, writer, call)
@@ -170,7 +171,7 @@ fn write_array<W: BitWrite>(
     match items {
         Items::Bytes => write_bytes(alloc, writer, bits, value),
         Items::None => write_nothing(writer, bits, value),
-        Items::Signed => write_signed_pair(writer, bits, value),
+        Items::Signed => Ok(writer.write_var::<[i8; 2]>(bits, pair_of(value)?)),
         Items::Truths => write_truths(alloc, writer, bits, value),
     }
 }
@@ -191,11 +192,12 @@ fn write_nothing<W: BitWrite>(writer: &mut W, bits: u32, value: &str) -> Answer 
     }
 }
 
-fn write_signed_pair<W: BitWrite>(writer: &mut W, bits: u32, value: &str) -> Answer {
-    let Some((first, second)) = value.split_once(',') else {
-        return Err(Objection::BAD_FORM);
-    };
-    Ok(writer.write_var::<[i8; 2]>(bits, [number(first)?, number(second)?]))
+/// The two values that a text spells, with a comma between them.
+pub fn pair_of<T: FromStr<Err = ParseIntError> + Drop>(text: &str) -> Result<[T; 2], Objection> {
+    match text.split_once(',') {
+        Some((first, second)) => Ok([number(first)?, number(second)?]),
+        None => Err(Objection::BAD_FORM),
+    }
 }
 
 fn write_truths<W: BitWrite>(alloc: Global, writer: &mut W, bits: u32, value: &str) -> Answer {
@@ -227,7 +229,7 @@ fn write_count<W: BitWrite>(writer: &mut W, max: u32, value: u32) -> Answer {
         100 => write_count_below::<100, W>(writer, value),
         127 => write_count_below::<127, W>(writer, value),
         4294967295 => write_count_below::<4294967295, W>(writer, value),
-        _ => Err(Objection::NotYet),
+        _ => Err(Objection::UNLISTED),
     }
 }
 
@@ -250,6 +252,6 @@ fn write_const<W: BitWrite>(writer: &mut W, bits: u32, value: u32) -> Answer {
         (8, 177) => write_const_in::<Bits<8>, Bits<177>, W>(writer),
         (12, 2643) => write_const_in::<Bits<12>, Bits<2643>, W>(writer),
         (32, 4294967295) => write_const_in::<Bits<32>, Bits<4294967295>, W>(writer),
-        _ => Err(Objection::NotYet),
+        _ => Err(Objection::UNLISTED),
     }
 }
