@@ -1,4 +1,5 @@
 -- How reads compose.
+use Rattle.std.specs.Prelude.{if◌then◌else◌}
 use Rattle.std.proofs.Common.{◌≡◌, ℕ, ◌+◌, ◌*◌, ◌/◌, ◌<◌, ◌≤◌, Bool, true, false, List, [], ◌∷◌, ◌++◌, length, drop, Option, Some, None, Result, Ok, Err, refl, sym, ap, ap₂, ◌∙◌, subst, append_assoc, append-nil, length-append, arith, inl, inr, ◌⊎◌}
 use Rattle.std.proofs.KnownBytes.{Consumes-nil, Consumes-trans}
 use Rattle.std.proofs.Math.Seq.{drop-append_seam}
@@ -8,14 +9,14 @@ use Rattle.std.specs.Io.KnownBytes.{Consumes}
 use Rattle.std.specs.Result.{IsErrAnd}
 use Rattle.bitstream_count.specs.declared.error.Error.{Error}
 use Rattle.bitstream_count.specs.declared.error.Error.TheVariants.{EndOfInput, OutOfMemory, Failed, RunTooLong}
-use Rattle.bitstream_count.specs.Entry.{ReadEntry, TooShort, Takes, longer, chain, gives}
+use Rattle.bitstream_count.specs.Entry.{Front, ReadEntry, TooShort, Takes, longer, chain, gives}
 use Rattle.bitstream_number.specs.Word.{Order, bits}
 use Rattle.bitstream_number.proofs.WordLemmas.{bits-append}
 use Rattle.bitstream_order.specs.TakeBits.{seen}
 use Rattle.bitstream_order.specs.Fault.{read_refusal_of}
 use Rattle.bitstream_order.specs.Refusal.{Refusal, IsTrueEnd}
 use Rattle.bitstream_stream.proofs.EntryLemmas.{Same, chain-ok, chain-err, chain-none, chain-failed}
-use Rattle.bitstream_stream.specs.Reads.{ReaderState, BitSource, Demands, HoldsRest, TakesFront, ReadFault, MemoryFault, ReadOutcome, stays_failed, takes_front, meets_fault, lacks_memory, Reads, ReadsGrowing, TakesBytes, bits_left, is_run_too_long, failing, lent, lent_source}
+use Rattle.bitstream_stream.specs.Reads.{ReaderState, BitSource, Demands, HoldsRest, StaysFailed, TakesFront, ReadFault, MemoryFault, ReadOutcome, stays_failed, takes_front, meets_fault, lacks_memory, Reads, ReadsGrowing, TakesBytes, bits_left, is_run_too_long, failing, lent, lent_source}
 
 -- ---- lists
 
@@ -67,10 +68,13 @@ Took-nil o s fine = record {
   failed = fine;
 }
 
+-- the bits held before and those of more bytes are a word, the bits held then and those of the bytes left
+parts_left : (o : Order) (a b u : List Bool) (g h : List ℕ) → a ++ bits o g ≡ u ++ b → a ++ bits o (g ++ h) ≡ u ++ (b ++ bits o h)
+parts_left o a b u g h p = ap (λ w. a ++ w) (bits-append o g h) ∙ sym (append_assoc a (bits o g) (bits o h)) ∙ ap (λ w. w ++ bits o h) p ∙ append_assoc u b (bits o h)
+
 -- the bits held before and those of all bytes fetched are both words and then the bits held now
 parts-trans : (o : Order) (a b c u v : List Bool) (g h : List ℕ) → a ++ bits o g ≡ u ++ b → b ++ bits o h ≡ v ++ c → a ++ bits o (g ++ h) ≡ (u ++ v) ++ c
-parts-trans o a b c u v g h p q =
-    ap (λ w. a ++ w) (bits-append o g h) ∙ sym (append_assoc a (bits o g) (bits o h)) ∙ ap (λ w. w ++ bits o h) p ∙ append_assoc u b (bits o h) ∙ ap (λ w. u ++ w) q ∙ sym (append_assoc u v c)
+parts-trans o a b c u v g h p q = parts_left o a b u g h p ∙ ap (λ w. u ++ w) q ∙ sym (append_assoc u v c)
 
 pub Took-trans : (o : Order) (u v : List Bool) (s t z : ReaderState) → Took o s u t → Took o t v z → Took o s (u ++ v) z
 Took-trans o u v s t z h k = record {
@@ -99,12 +103,12 @@ took o e a s t h = record {
   failed = h.failed;
 }
 
--- a call's word that was taken so is answered
-pub Took-takes_front : {A : Type 0} (o : Order) (e : ReadEntry A) (a : A) (w : List Bool) (s t : ReaderState) → Took o s w t
-    → ((more : List Bool) → e.reads s.taken (w ++ more) ≡ Takes (length w) (Ok a))
+-- a front that is a word which was taken: behind an answer that is a run too long, the reader has failed
+Took-front : {A : Type 0} (o : Order) (e : ReadEntry A) (r : Result A Error) (w : List Bool) (s t : ReaderState) → Took o s w t
+    → ((more : List Bool) → e.reads s.taken (w ++ more) ≡ Takes (length w) r)
     → ((front : List Bool) (b : Bool) (back : List Bool) → w ≡ front ++ b ∷ back → e.reads s.taken front ≡ TooShort)
-    → TakesFront o e s (Ok a) t
-Took-takes_front o e a w s t h decides needs = record {
+    → TakesFront o e s r (record t { held = if is_run_too_long r then [] else t.held; failed = is_run_too_long r })
+Took-front o e r w s t h decides needs = record {
   fine = h.fine;
   word = w;
   decides = decides;
@@ -118,7 +122,7 @@ Took-takes_front o e a w s t h decides needs = record {
   taken = h.taken;
   refusals = h.refusals;
   reference_names = h.reference_names;
-  failed = h.failed;
+  failed = refl;
 }
 
 -- a word that the held bits begin with fetches nothing
@@ -143,7 +147,7 @@ Took-held o w s t demands holds later h = elim (cut s.held (bits o h.gone) w t.h
 pub Took-left : (o : Order) (w : List Bool) (s t : ReaderState) → Took o s w t → (xs : List ℕ) → s.bytes ≡ Some xs → (ys : List ℕ) × (t.bytes ≡ Some ys) × (s.held ++ bits o xs ≡ w ++ (t.held ++ bits o ys))
 Took-left o w s t h xs known =
     let lost = Consumes-known s.bytes t.bytes h.gone xs h.loses known in
-    (lost.0, lost.1, ap (λ l. s.held ++ bits o l) lost.2 ∙ ap (λ l. s.held ++ l) (bits-append o h.gone lost.0) ∙ sym (append_assoc s.held (bits o h.gone) (bits o lost.0)) ∙ ap (λ l. l ++ bits o lost.0) h.parts ∙ append_assoc w t.held (bits o lost.0))
+    (lost.0, lost.1, ap (λ l. s.held ++ bits o l) lost.2 ∙ parts_left o s.held t.held w h.gone lost.0 h.parts)
 
 -- ---- a call behind a word that was taken: of a chain, or of a loop's next turn
 
@@ -168,70 +172,71 @@ none_needed (c ∷ front) b back e = cc
 Behind-none : {A B : Type 0} (e : ReadEntry A) (d : ReadEntry B) (p : ℕ) → ((more : List Bool) → d.reads p more ≡ TooShort → e.reads p more ≡ TooShort) → Behind e p [] d p
 Behind-none e d p short = record { needs = λ front b back is. absurd (none_needed front b back is); short = short }
 
-pub TakesFront-behind : {A B : Type 0} (o : Order) (e : ReadEntry A) (d : ReadEntry B) (w : List Bool) (r : Result A Error) (x : Result B Error) (s t z : ReaderState)
-    → Took o s w t → Behind e s.taken w d t.taken → is_run_too_long r ≡ is_run_too_long x → (k : TakesFront o d t x z)
-    → ((more : List Bool) → e.reads s.taken ((w ++ k.word) ++ more) ≡ Takes (length (w ++ k.word)) r)
-    → TakesFront o e s r z
-TakesFront-behind o e d w r x s t z h behind same k decides = record {
-  fine = h.fine;
-  word = w ++ k.word;
-  decides = decides;
-  needs = Behind-needs k.word behind k.needs;
-  gone = h.gone ++ k.gone;
-  loses = Consumes-trans s.bytes t.bytes z.bytes h.gone k.gone h.loses k.loses;
-  rest = k.rest;
-  parts = parts-trans o s.held t.held k.rest w k.word h.gone k.gone h.parts k.parts;
-  held = rw same k.held;
-  fetched = let a = h.fetched in let b = k.fetched in let l = length-append h.gone k.gone in omega arith;
-  taken = let a = h.taken in let b = k.taken in let l = length-append w k.word in omega arith;
-  refusals = k.refusals ∙ h.refusals;
-  reference_names = k.reference_names ∙ h.reference_names;
-  failed = k.failed ∙ sym same;
-}
+-- the same state, reached through references of these names
+abbrev named : List GName → ReaderState → ReaderState
+named names s = record s { reference_names = names }
 
-pub ReadFault-behind : {A B : Type 0} (o : Order) (may : Refusal → Type 0) (e : ReadEntry A) (d : ReadEntry B) (w : List Bool) (r : Result A Error) (x : Result B Error) (s t z : ReaderState)
-    → Demands s → HoldsRest s → Demands t → Took o s w t → Behind e s.taken w d t.taken → (k : ReadFault o may d t x z) → r ≡ Err (read_refusal_of k.refusal.kind)
-    → ReadFault o may e s r z
-ReadFault-behind o may e d w r x s t z demands holds later h behind k answer = record {
-  fine = h.fine;
-  refusal = k.refusal;
-  allowed = k.allowed;
-  answer = answer;
-  short = elim (Took-held o w s t demands holds later h) [
-    | inl first ↦ behind.needs s.held first.0 first.1 first.2
-    | inr all ↦ ap (λ l. e.reads s.taken l) all ∙ behind.short t.held k.short
-  ];
-  gone = h.gone ++ k.gone;
-  loses = Consumes-trans s.bytes t.bytes k.refusal.before h.gone k.gone h.loses k.loses;
-  after = k.after;
-  fetched = let a = h.fetched in let b = k.fetched in let l = length-append h.gone k.gone in omega arith;
-  few = ap (λ l. e.reads s.taken l) (ap (λ l. s.held ++ l) (bits-append o h.gone k.gone) ∙ sym (append_assoc s.held (bits o h.gone) (bits o k.gone)) ∙ ap (λ l. l ++ bits o k.gone) h.parts ∙ append_assoc w t.held (bits o k.gone))
-      ∙ behind.short (t.held ++ bits o k.gone) k.few;
-  ended = λ end xs known.
-      let left = Took-left o w s t h xs known in
-      ap (λ l. e.reads s.taken l) left.2 ∙ behind.short (t.held ++ bits o left.0) (k.ended end left.0 left.1);
-  refusals = k.refusals ∙ ap (λ l. k.refusal ∷ l) h.refusals;
-  reference_names = k.reference_names ∙ h.reference_names;
-  failed = k.failed;
-}
+module _ {A B : Type 0} (o : Order) (e : ReadEntry A) (d : ReadEntry B) (w : List Bool) (r : Result A Error) (x : Result B Error) (s t z : ReaderState) (k l : List GName)
+    (same : l ≡ k) (h : Took o s w t) (behind : Behind e s.taken w d t.taken) where
+  TakesFront-behind : is_run_too_long r ≡ is_run_too_long x → (f : TakesFront o d t x z)
+      → ((more : List Bool) → e.reads s.taken ((w ++ f.word) ++ more) ≡ Takes (length (w ++ f.word)) r)
+      → TakesFront o e (named k s) r (named l z)
+  TakesFront-behind long f decides = record {
+    fine = h.fine;
+    word = w ++ f.word;
+    decides = decides;
+    needs = Behind-needs f.word behind f.needs;
+    gone = h.gone ++ f.gone;
+    loses = Consumes-trans s.bytes t.bytes z.bytes h.gone f.gone h.loses f.loses;
+    rest = f.rest;
+    parts = parts-trans o s.held t.held f.rest w f.word h.gone f.gone h.parts f.parts;
+    held = rw long f.held;
+    fetched = let a = h.fetched in let b = f.fetched in let l = length-append h.gone f.gone in omega arith;
+    taken = let a = h.taken in let b = f.taken in let l = length-append w f.word in omega arith;
+    refusals = f.refusals ∙ h.refusals;
+    reference_names = same;
+    failed = f.failed ∙ sym long;
+  }
 
-pub MemoryFault-behind : {A B : Type 0} (o : Order) (e : ReadEntry A) (d : ReadEntry B) (w : List Bool) (r : Result A Error) (x : Result B Error) (s t z : ReaderState)
-    → Took o s w t → Behind e s.taken w d t.taken → r ≡ Err OutOfMemory → MemoryFault o d t x z → MemoryFault o e s r z
-MemoryFault-behind o e d w r x s t z h behind answer k = record {
-  fine = h.fine;
-  answer = answer;
-  word = w ++ k.word;
-  few = behind.short k.word k.few;
-  gone = h.gone ++ k.gone;
-  loses = Consumes-trans s.bytes t.bytes z.bytes h.gone k.gone h.loses k.loses;
-  rest = k.rest;
-  parts = parts-trans o s.held t.held k.rest w k.word h.gone k.gone h.parts k.parts;
-  fetched = let a = h.fetched in let b = k.fetched in let l = length-append h.gone k.gone in omega arith;
-  taken = let a = h.taken in let b = k.taken in let l = length-append w k.word in omega arith;
-  refusals = k.refusals ∙ h.refusals;
-  reference_names = k.reference_names ∙ h.reference_names;
-  failed = k.failed;
-}
+  ReadFault-behind : {may : Refusal → Type 0} → Demands s → HoldsRest s → Demands t → (f : ReadFault o may d t x z) → r ≡ Err (read_refusal_of f.refusal.kind) → ReadFault o may e (named k s) r (named l z)
+  ReadFault-behind demands holds later f answer = record {
+    fine = h.fine;
+    refusal = f.refusal;
+    allowed = f.allowed;
+    answer = answer;
+    short = elim (Took-held o w s t demands holds later h) [
+      | inl first ↦ behind.needs s.held first.0 first.1 first.2
+      | inr all ↦ ap (λ l. e.reads s.taken l) all ∙ behind.short t.held f.short
+    ];
+    gone = h.gone ++ f.gone;
+    loses = Consumes-trans s.bytes t.bytes f.refusal.before h.gone f.gone h.loses f.loses;
+    after = f.after;
+    fetched = let a = h.fetched in let b = f.fetched in let l = length-append h.gone f.gone in omega arith;
+    few = ap (λ l. e.reads s.taken l) (parts_left o s.held t.held w h.gone f.gone h.parts) ∙ behind.short (t.held ++ bits o f.gone) f.few;
+    ended = λ end xs known.
+        let left = Took-left o w s t h xs known in
+        ap (λ l. e.reads s.taken l) left.2 ∙ behind.short (t.held ++ bits o left.0) (f.ended end left.0 left.1);
+    refusals = f.refusals ∙ ap (λ l. f.refusal ∷ l) h.refusals;
+    reference_names = same;
+    failed = f.failed;
+  }
+
+  MemoryFault-behind : r ≡ Err OutOfMemory → MemoryFault o d t x z → MemoryFault o e (named k s) r (named l z)
+  MemoryFault-behind answer f = record {
+    fine = h.fine;
+    answer = answer;
+    word = w ++ f.word;
+    few = behind.short f.word f.few;
+    gone = h.gone ++ f.gone;
+    loses = Consumes-trans s.bytes t.bytes z.bytes h.gone f.gone h.loses f.loses;
+    rest = f.rest;
+    parts = parts-trans o s.held t.held f.rest w f.word h.gone f.gone h.parts f.parts;
+    fetched = let a = h.fetched in let b = f.fetched in let l = length-append h.gone f.gone in omega arith;
+    taken = let a = h.taken in let b = f.taken in let l = length-append w f.word in omega arith;
+    refusals = f.refusals ∙ h.refusals;
+    reference_names = same;
+    failed = f.failed;
+  }
 
 -- the reader was made to fail behind a word, since memory was refused
 pub Took-lacks_memory : {A : Type 0} (o : Order) (e : ReadEntry A) (w : List Bool) (s t z : ReaderState) → Took o s w t → z ≡ failing t
@@ -252,103 +257,135 @@ Took-lacks_memory o e w s t z h broken few = rw broken (record {
   failed = refl;
 })
 
+-- ---- a call behind others, as in a chain or a loop
+
+-- so far a loop took a word, or it did nothing yet
+pub Begun : {R : Type 0} → BitSource R → R → List Bool → R → Type 0
+Begun K s w t = ((w ≡ []) × (t ≡ s)) ⊎ Took K.order (K.state s) w (K.state t)
+
+pub Begun-nil : {R : Type 0} (K : BitSource R) (s : R) → Begun K s [] s
+unfolding Begun
+Begun-nil K s = inl (refl, refl)
+
+pub Begun-took : {R : Type 0} (K : BitSource R) (s : R) (w : List Bool) (t : R) → Begun K s w t → (K.state t).failed ≡ false → Took K.order (K.state s) w (K.state t)
+unfolding Begun
+Begun-took K s w t (inl h) fine =
+    subst (λ v. Took K.order (K.state s) v (K.state t)) (sym h.0) (subst (λ x. Took K.order (K.state x) [] (K.state t)) h.1 (Took-nil K.order (K.state t) fine))
+Begun-took K s w t (inr h) fine = h
+
+-- bits were taken
+pub Begun-word : {R : Type 0} (K : BitSource R) (s : R) (w : List Bool) (t : R) → Begun K s w t → 0 < length w → Took K.order (K.state s) w (K.state t)
+unfolding Begun
+Begun-word K s w t (inl h) some = let none : length w ≡ 0 = ap (λ l. length l) h.0 in absurd (omega arith)
+Begun-word K s w t (inr h) some = h
+
+begun_failed : {R : Type 0} (K : BitSource R) (s : R) (w : List Bool) (t : R) → Begun K s w t → (K.state t).failed ≡ true → t ≡ s
+unfolding Begun
+begun_failed K s w t (inl h) failed = h.1
+begun_failed K s w t (inr h) failed = let p = h.failed in cc
+
+-- A call that is left behind a word, with the answer of the last call or with one that its value decides.
+pub Reads-behind : {R A B : Type 0} {K : BitSource R} {grows : Bool} (e : ReadEntry A) (d : ReadEntry B) (w : List Bool) (r : Result A Error) (x : Result B Error) (s t z : R)
+    → Begun K s w t → Behind e (K.state s).taken w d (K.state t).taken → ((K.state t).failed ≡ true → x ≡ d.on_failed → r ≡ e.on_failed)
+    → ((y : Error) → x ≡ Err y → r ≡ Err y) → is_run_too_long r ≡ is_run_too_long x
+    → ((v : List Bool) → ((more : List Bool) → d.reads (K.state t).taken (v ++ more) ≡ Takes (length v) x) → (more : List Bool) → e.reads (K.state s).taken ((w ++ v) ++ more) ≡ Takes (length (w ++ v)) r)
+    → ReadOutcome K grows d t x z → ReadOutcome K grows e s r z
+Reads-behind {K = K} e d w r x s t z b behind fails passes long decides (stays_failed h) =
+    let here = begun_failed K s w t b h.failed in
+    stays_failed (record { failed = ap (λ y. (K.state y).failed) (sym here) ∙ h.failed; answer = fails h.failed h.answer; same = h.same ∙ ap K.state here })
+Reads-behind {K = K} e d w r x s t z b behind fails passes long decides (takes_front h) =
+    let was = Begun-took K s w t b h.fine in
+    takes_front (TakesFront-behind K.order e d w r x (K.state s) (K.state t) (K.state z) _ _ (h.reference_names ∙ was.reference_names) was behind long h (decides h.word h.decides))
+Reads-behind {K = K} e d w r x s t z b behind fails passes long decides (meets_fault h) =
+    let was = Begun-took K s w t b h.fine in
+    meets_fault (ReadFault-behind K.order e d w r x (K.state s) (K.state t) (K.state z) _ _ (h.reference_names ∙ was.reference_names) was behind (K.demands s) (K.holds s) (K.demands t) h (passes (read_refusal_of h.refusal.kind) h.answer))
+Reads-behind {K = K} e d w r x s t z b behind fails passes long decides (lacks_memory g h) =
+    let was = Begun-took K s w t b h.fine in
+    lacks_memory g (MemoryFault-behind K.order e d w r x (K.state s) (K.state t) (K.state z) _ _ (h.reference_names ∙ was.reference_names) was behind (passes OutOfMemory h.answer) h)
+
+-- a call on a reader that has failed
+still_failed : {R A : Type 0} {K : BitSource R} {grows : Bool} {e : ReadEntry A} {r : Result A Error} {s t : R} → (K.state s).failed ≡ true → ReadOutcome K grows e s r t → StaysFailed e (K.state s) r (K.state t)
+still_failed failed (stays_failed h) = h
+still_failed failed (takes_front h) = let p = h.fine in cc
+still_failed failed (meets_fault h) = let p = h.fine in cc
+still_failed failed (lacks_memory g h) = let p = h.fine in cc
+
+-- a call that answered with a value
+pub ok_front : {R A : Type 0} {K : BitSource R} {grows : Bool} {e : ReadEntry A} {a : A} {s t : R} → e.on_failed ≡ Err Failed → ReadOutcome K grows e s (Ok a) t → TakesFront K.order e (K.state s) (Ok a) (K.state t)
+ok_front failed (stays_failed h) = let p = h.answer in cc
+ok_front failed (takes_front h) = h
+ok_front failed (meets_fault h) = let p = h.answer in cc
+ok_front failed (lacks_memory g h) = let p = h.answer in cc
+
+-- the next turn's call answered with a value
+pub Begun-more : {R A : Type 0} {K : BitSource R} {grows : Bool} (d : ReadEntry A) (a : A) (s : R) (w : List Bool) (t z : R) → Begun K s w t → d.on_failed ≡ Err Failed → ReadOutcome K grows d t (Ok a) z
+    → (v : List Bool) × ((more : List Bool) → d.reads (K.state t).taken (v ++ more) ≡ Takes (length v) (Ok a)) × Begun K s (w ++ v) z
+unfolding Begun
+Begun-more {K = K} d a s w t z b failed read =
+    let h = ok_front failed read in
+    (h.word, h.decides, inr (Took-trans K.order w h.word (K.state s) (K.state t) (K.state z) (Begun-took K s w t b h.fine) (took K.order d a (K.state t) (K.state z) h)))
+
+-- a run that was too long: the reader was then made to fail
+pub Took-too_long : {A : Type 0} (o : Order) (e : ReadEntry A) (w : List Bool) (s t z : ReaderState) → Took o s w t → z ≡ failing t
+    → ((more : List Bool) → e.reads s.taken (w ++ more) ≡ Takes (length w) (Err RunTooLong))
+    → ((front : List Bool) (b : Bool) (back : List Bool) → w ≡ front ++ b ∷ back → e.reads s.taken front ≡ TooShort)
+    → TakesFront o e s (Err RunTooLong) z
+Took-too_long o e w s t z h broken decides needs = rw broken (Took-front o e (Err RunTooLong) w s t h decides needs)
+
 -- ---- chains
 
--- two fronts, one behind the other
+-- two calls, one behind the other
+chain_front : {A B : Type 0} (e : ReadEntry A) (f : A → ReadEntry B) (p q : ℕ) (u v : List Bool) (a : A) (x : Front B)
+    → e.reads p (u ++ v) ≡ Takes (length u) (Ok a) → q ≡ p + length u → (f a).reads q v ≡ x → (chain e f).reads p (u ++ v) ≡ longer (length u) x
+chain_front e f p q u v a x first place second =
+    chain-ok e f p (u ++ v) (length u) a first ∙ ap₂ (λ i l. longer (length u) ((f a).reads i l)) (sym place) (drop_front u v) ∙ ap (longer (length u)) second
+
+-- two fronts
 pub chain_decides : {A B : Type 0} (e : ReadEntry A) (f : A → ReadEntry B) (p q : ℕ) (u v : List Bool) (a : A) (r : Result B Error)
     → ((more : List Bool) → e.reads p (u ++ more) ≡ Takes (length u) (Ok a))
     → q ≡ p + length u
     → ((more : List Bool) → (f a).reads q (v ++ more) ≡ Takes (length v) r)
     → (more : List Bool) → (chain e f).reads p ((u ++ v) ++ more) ≡ Takes (length (u ++ v)) r
 chain_decides e f p q u v a r first place second more =
-    let here : (chain e f).reads p (u ++ (v ++ more)) ≡ longer (length u) ((f a).reads (p + length u) (drop (length u) (u ++ (v ++ more)))) =
-    chain-ok e f p (u ++ (v ++ more)) (length u) a (first (v ++ more)) in
-    let there : (f a).reads (p + length u) (drop (length u) (u ++ (v ++ more))) ≡ Takes (length v) r =
-    rw (drop_front u (v ++ more), ← place) (second more) in
-    rw (append_assoc u v more, here, there, length-append u v) refl
+    rw (append_assoc u v more, chain_front e f p q u (v ++ more) a (Takes (length v) r) (first (v ++ more)) place (second more), length-append u v) refl
 
 chain-behind : {A B : Type 0} (o : Order) (e : ReadEntry A) (f : A → ReadEntry B) (a : A) (s t : ReaderState) (h : TakesFront o e s (Ok a) t) → Behind (chain e f) s.taken h.word (f a) t.taken
 chain-behind o e f a s t h = record {
   needs = λ front b back is. chain-none e f s.taken front (h.needs front b back is);
-  short = λ more short.
-      let here : (chain e f).reads s.taken (h.word ++ more) ≡ longer (length h.word) ((f a).reads (s.taken + length h.word) (drop (length h.word) (h.word ++ more))) =
-      chain-ok e f s.taken (h.word ++ more) (length h.word) a (h.decides more) in
-      let there : (f a).reads (s.taken + length h.word) (drop (length h.word) (h.word ++ more)) ≡ TooShort =
-      rw (drop_front h.word more, ← h.taken) short in
-      rw (here, there) refl;
+  short = λ more short. chain_front e f s.taken t.taken h.word more a TooShort (h.decides more) h.taken short;
 }
 
 pub Reads-chain-ok : {R A B : Type 0} {K : BitSource R} {grows : Bool} (e : ReadEntry A) (f : A → ReadEntry B) {a : A} {r : Result B Error} {s t z : R}
     → ReadOutcome K grows e s (Ok a) t → ReadOutcome K grows (f a) t r z → ReadOutcome K grows (chain e f) s r z
-Reads-chain-ok e f (stays_failed h) (stays_failed k) = stays_failed (record {
-  failed = h.failed;
-  answer = rw (chain-failed e f, ← h.answer) k.answer;
-  same = k.same ∙ h.same;
-})
-Reads-chain-ok e f (stays_failed h) (takes_front k) = let same = ap (λ (x : ReaderState). x.failed) h.same in let p = h.failed in let q = k.fine in cc
-Reads-chain-ok e f (stays_failed h) (meets_fault k) = let same = ap (λ (x : ReaderState). x.failed) h.same in let p = h.failed in let q = k.fine in cc
-Reads-chain-ok e f (stays_failed h) (lacks_memory g k) = let same = ap (λ (x : ReaderState). x.failed) h.same in let p = h.failed in let q = k.fine in cc
-Reads-chain-ok e f (takes_front h) (stays_failed k) = let p = h.failed in let q = k.failed in cc
-Reads-chain-ok {K = K} e f {a = a} {r = r} {s = s} {t = t} {z = z} (takes_front h) (takes_front k) =
-    takes_front (TakesFront-behind K.order (chain e f) (f a) h.word r r (K.state s) (K.state t) (K.state z) (took K.order e a (K.state s) (K.state t) h) (chain-behind K.order e f a (K.state s) (K.state t) h) refl k
-    (chain_decides e f (K.state s).taken (K.state t).taken h.word k.word a r h.decides h.taken k.decides))
-Reads-chain-ok {K = K} e f {a = a} {r = r} {s = s} {t = t} {z = z} (takes_front h) (meets_fault k) =
-    meets_fault (ReadFault-behind K.order K.may (chain e f) (f a) h.word r r (K.state s) (K.state t) (K.state z) (K.demands s) (K.holds s) (K.demands t)
-    (took K.order e a (K.state s) (K.state t) h) (chain-behind K.order e f a (K.state s) (K.state t) h) k k.answer)
-Reads-chain-ok {K = K} e f {a = a} {r = r} {s = s} {t = t} {z = z} (takes_front h) (lacks_memory g k) =
-    lacks_memory g (MemoryFault-behind K.order (chain e f) (f a) h.word r r (K.state s) (K.state t) (K.state z) (took K.order e a (K.state s) (K.state t) h) (chain-behind K.order e f a (K.state s) (K.state t) h) k.answer k)
+unfolding Begun
+Reads-chain-ok e f (stays_failed h) k =
+    let next = still_failed (ap (λ (x : ReaderState). x.failed) h.same ∙ h.failed) k in
+    stays_failed (record { failed = h.failed; answer = rw (chain-failed e f, ← h.answer) next.answer; same = next.same ∙ h.same })
+Reads-chain-ok {K = K} e f {a = a} {r = r} {s = s} {t = t} {z = z} (takes_front h) k =
+    Reads-behind (chain e f) (f a) h.word r r s t z (inr (took K.order e a (K.state s) (K.state t) h)) (chain-behind K.order e f a (K.state s) (K.state t) h)
+    (λ broken q. let p = h.failed in cc) (λ y q. q) refl (λ v d. chain_decides e f (K.state s).taken (K.state t).taken h.word v a r h.decides h.taken d) k
 Reads-chain-ok e f (meets_fault h) k = let p = h.answer in cc
 Reads-chain-ok e f (lacks_memory g h) k = let p = h.answer in cc
 
-err-behind : {A B : Type 0} (e : ReadEntry A) (f : A → ReadEntry B) (p : ℕ) → Behind (chain e f) p [] e p
-err-behind e f p = Behind-none (chain e f) e p (λ more short. chain-none e f p more short)
-
 pub Reads-chain-err : {R A B : Type 0} {K : BitSource R} {grows : Bool} (e : ReadEntry A) (f : A → ReadEntry B) {x : Error} {s t : R}
     → ReadOutcome K grows e s (Err x) t → ReadOutcome K grows (chain e f) s (Err x) t
-Reads-chain-err e f (stays_failed h) = stays_failed (record { failed = h.failed; answer = rw (chain-failed e f, ← h.answer) refl; same = h.same })
-Reads-chain-err {K = K} e f {x = x} {s = s} {t = t} (takes_front h) =
-    takes_front (TakesFront-behind K.order (chain e f) e [] (Err x) (Err x) (K.state s) (K.state s) (K.state t) (Took-nil K.order (K.state s) h.fine) (err-behind e f (K.state s).taken) refl h
-    (λ more. chain-err e f (K.state s).taken (h.word ++ more) (length h.word) x (h.decides more)))
-Reads-chain-err {K = K} e f {x = x} {s = s} {t = t} (meets_fault h) =
-    meets_fault (ReadFault-behind K.order K.may (chain e f) e [] (Err x) (Err x) (K.state s) (K.state s) (K.state t) (K.demands s) (K.holds s) (K.demands s)
-    (Took-nil K.order (K.state s) h.fine) (err-behind e f (K.state s).taken) h (let p = h.answer in cc))
-Reads-chain-err {K = K} e f {x = x} {s = s} {t = t} (lacks_memory g h) =
-    lacks_memory g (MemoryFault-behind K.order (chain e f) e [] (Err x) (Err x) (K.state s) (K.state s) (K.state t) (Took-nil K.order (K.state s) h.fine) (err-behind e f (K.state s).taken) (let p = h.answer in cc) h)
-
-Same-behind : {A : Type 0} {d e : ReadEntry A} → Same d e → (p : ℕ) → Behind e p [] d p
-Same-behind {d = d} {e = e} same p = Behind-none e d p (λ more short. sym (same.reads p more) ∙ short)
+Reads-chain-err {K = K} e f {x = x} {s = s} {t = t} h =
+    Reads-behind (chain e f) e [] (Err x) (Err x) s s t (Begun-nil K s) (Behind-none (chain e f) e (K.state s).taken (λ more short. chain-none e f (K.state s).taken more short))
+    (λ broken q. rw (chain-failed e f, ← q) refl) (λ y q. let same : x ≡ y = cc in ap Err same) refl (λ v d more. chain-err e f (K.state s).taken (v ++ more) (length v) x (d more)) h
 
 pub Reads-same : {R A : Type 0} {K : BitSource R} {grows : Bool} {d e : ReadEntry A} {r : Result A Error} {s t : R} → Same d e → ReadOutcome K grows d s r t → ReadOutcome K grows e s r t
-Reads-same same (stays_failed h) = stays_failed (record { failed = h.failed; answer = h.answer ∙ same.on_failed; same = h.same })
-Reads-same {K = K} {d = d} {e = e} {r = r} {s = s} {t = t} same (takes_front h) =
-    takes_front (TakesFront-behind K.order e d [] r r (K.state s) (K.state s) (K.state t) (Took-nil K.order (K.state s) h.fine) (Same-behind same (K.state s).taken) refl h
-    (λ more. sym (same.reads (K.state s).taken (h.word ++ more)) ∙ h.decides more))
-Reads-same {K = K} {d = d} {e = e} {r = r} {s = s} {t = t} same (meets_fault h) =
-    meets_fault (ReadFault-behind K.order K.may e d [] r r (K.state s) (K.state s) (K.state t) (K.demands s) (K.holds s) (K.demands s)
-    (Took-nil K.order (K.state s) h.fine) (Same-behind same (K.state s).taken) h h.answer)
-Reads-same {K = K} {d = d} {e = e} {r = r} {s = s} {t = t} same (lacks_memory g h) =
-    lacks_memory g (MemoryFault-behind K.order e d [] r r (K.state s) (K.state s) (K.state t) (Took-nil K.order (K.state s) h.fine) (Same-behind same (K.state s).taken) h.answer h)
+Reads-same {K = K} {d = d} {e = e} {r = r} {s = s} {t = t} same h =
+    Reads-behind e d [] r r s s t (Begun-nil K s) (Behind-none e d (K.state s).taken (λ more short. sym (same.reads (K.state s).taken more) ∙ short))
+    (λ broken q. q ∙ same.on_failed) (λ y q. q) refl (λ v d more. sym (same.reads (K.state s).taken (v ++ more)) ∙ d more) h
 
 -- ---- a call that takes nothing
 
 pub Reads-nothing : {R A : Type 0} {K : BitSource R} {grows : Bool} (e : ReadEntry A) (r : Result A Error) (s : R) → (K.state s).failed ≡ false → is_run_too_long r ≡ false
     → ((more : List Bool) → e.reads (K.state s).taken more ≡ Takes 0 r) → ReadOutcome K grows e s r s
-Reads-nothing {K = K} e r s fine short decides = takes_front (record {
-  fine = fine;
-  word = [];
-  decides = decides;
-  needs = λ front b back is. absurd (none_needed front b back is);
-  gone = [];
-  loses = Consumes-nil (K.state s).bytes;
-  rest = (K.state s).held;
-  parts = append-nil (K.state s).held;
-  held = rw short refl;
-  fetched = omega arith;
-  taken = omega arith;
-  refusals = refl;
-  reference_names = refl;
-  failed = fine ∙ sym short;
-})
+Reads-nothing {K = K} e r s fine short decides =
+    let x = K.state s in
+    takes_front (subst (TakesFront K.order e x r) (ap₂ (λ b f. record x { held = if b then [] else x.held; failed = f }) short (short ∙ sym fine))
+    (Took-front K.order e r [] x x (Took-nil K.order x fine) decides (λ front b back is. absurd (none_needed front b back is))))
 
 gives-by : {R A : Type 0} {K : BitSource R} {grows : Bool} (a : A) (s : R) (v : Bool) → (K.state s).failed ≡ v → ReadOutcome K grows (gives a) s (Ok a) s
 gives-by a s true h = stays_failed (record { failed = h; answer = refl; same = refl })
@@ -396,7 +433,7 @@ takes_front_left : {A : Type 0} (o : Order) (e : ReadEntry A) (r : Result A Erro
     → (ys : List ℕ) × (t.bytes ≡ Some ys) × (s.held ++ bits o xs ≡ h.word ++ (h.rest ++ bits o ys))
 takes_front_left o e r s t h xs known =
     let lost = Consumes-known s.bytes t.bytes h.gone xs h.loses known in
-    (lost.0, lost.1, ap (λ l. s.held ++ bits o l) lost.2 ∙ ap (λ l. s.held ++ l) (bits-append o h.gone lost.0) ∙ sym (append_assoc s.held (bits o h.gone) (bits o lost.0)) ∙ ap (λ l. l ++ bits o lost.0) h.parts ∙ append_assoc h.word h.rest (bits o lost.0))
+    (lost.0, lost.1, ap (λ l. s.held ++ bits o l) lost.2 ∙ parts_left o s.held h.rest h.word h.gone lost.0 h.parts)
 
 pub Reads-sure : {R A : Type 0} {K : BitSource R} {e : ReadEntry A} {r : Result A Error} {s t : R} → ((x : Refusal) → K.may x → IsTrueEnd x) → (xs : List ℕ) → (K.state s).failed ≡ false → (K.state s).bytes ≡ Some xs → Reads K e s r t
     → Told K e s ((K.state s).held ++ bits K.order xs) r t ⊎ Ended K e s ((K.state s).held ++ bits K.order xs) r t
@@ -417,178 +454,34 @@ Reads-sure ends xs fine known (meets_fault h) =
     inr (record { front = h.ended end xs known; answer = h.answer ∙ ap (λ k. Err (read_refusal_of k)) end.kind; failed = h.failed })
 Reads-sure ends xs fine known (lacks_memory g h) = cc
 
--- a call with a front is answered by it
-pub front_sure : {R A : Type 0} {K : BitSource R} {e : ReadEntry A} {r x : Result A Error} {s t : R} → ((x : Refusal) → K.may x → IsTrueEnd x) → (xs : List ℕ) (n : ℕ) → (K.state s).failed ≡ false → (K.state s).bytes ≡ Some xs
-    → e.reads (K.state s).taken ((K.state s).held ++ bits K.order xs) ≡ Takes n x → Reads K e s r t → r ≡ x
-front_sure {r = r} {x = x} ends xs n fine known has h = elim (Reads-sure ends xs fine known h) [
-  | inl told ↦ let same : Takes n x ≡ Takes told.len r = sym has ∙ told.front in cc
-  | inr ended ↦ let none = ended.front in cc
-]
-
--- a call with none answers the end
-pub none_sure : {R A : Type 0} {K : BitSource R} {e : ReadEntry A} {r : Result A Error} {s t : R} → ((x : Refusal) → K.may x → IsTrueEnd x) → (xs : List ℕ) → (K.state s).failed ≡ false → (K.state s).bytes ≡ Some xs
-    → e.reads (K.state s).taken ((K.state s).held ++ bits K.order xs) ≡ TooShort → Reads K e s r t → r ≡ Err EndOfInput
-none_sure {r = r} ends xs fine known none h = elim (Reads-sure ends xs fine known h) [
-  | inl told ↦ let some = told.front in cc
-  | inr ended ↦ ended.answer
-]
-
 -- ---- a reader that is seen through a reference
 
--- the same state, reached through references of these names
-named : List GName → ReaderState → ReaderState
-named names s = record s { reference_names = names }
+-- behind nothing
+nothing_behind : {A : Type 0} (e : ReadEntry A) (p : ℕ) → Behind e p [] e p
+nothing_behind e p = Behind-none e e p (λ more short. short)
 
-TakesFront-named : {A : Type 0} {o : Order} {e : ReadEntry A} {r : Result A Error} {s t : ReaderState} (k l : List GName) → l ≡ k → TakesFront o e s r t → TakesFront o e (named k s) r (named l t)
-unfolding named
-TakesFront-named k l same h = record {
-  fine = h.fine;
-  word = h.word;
-  decides = h.decides;
-  needs = h.needs;
-  gone = h.gone;
-  loses = h.loses;
-  rest = h.rest;
-  parts = h.parts;
-  held = h.held;
-  fetched = h.fetched;
-  taken = h.taken;
-  refusals = h.refusals;
-  reference_names = same;
-  failed = h.failed;
-}
+-- the same outcome between states that are reached through other references
+module _ {A : Type 0} {o : Order} {e : ReadEntry A} {r : Result A Error} {s t : ReaderState} (k l : List GName) (same : l ≡ k) where
+  TakesFront-named : TakesFront o e s r t → TakesFront o e (named k s) r (named l t)
+  TakesFront-named h = TakesFront-behind o e e [] r r s s t k l same (Took-nil o s h.fine) (nothing_behind e s.taken) refl h h.decides
 
-ReadFault-named : {A : Type 0} {o : Order} {may : Refusal → Type 0} {e : ReadEntry A} {r : Result A Error} {s t : ReaderState} (k l : List GName) → l ≡ k → ReadFault o may e s r t → ReadFault o may e (named k s) r (named l t)
-unfolding named
-ReadFault-named k l same h = record {
-  fine = h.fine;
-  refusal = h.refusal;
-  allowed = h.allowed;
-  answer = h.answer;
-  short = h.short;
-  gone = h.gone;
-  loses = h.loses;
-  after = h.after;
-  fetched = h.fetched;
-  few = h.few;
-  ended = h.ended;
-  refusals = h.refusals;
-  reference_names = same;
-  failed = h.failed;
-}
+  ReadFault-named : {may : Refusal → Type 0} → Demands s → HoldsRest s → ReadFault o may e s r t → ReadFault o may e (named k s) r (named l t)
+  ReadFault-named demands holds h = ReadFault-behind o e e [] r r s s t k l same (Took-nil o s h.fine) (nothing_behind e s.taken) demands holds demands h h.answer
 
-MemoryFault-named : {A : Type 0} {o : Order} {e : ReadEntry A} {r : Result A Error} {s t : ReaderState} (k l : List GName) → l ≡ k → MemoryFault o e s r t → MemoryFault o e (named k s) r (named l t)
-unfolding named
-MemoryFault-named k l same h = record {
-  fine = h.fine;
-  answer = h.answer;
-  word = h.word;
-  few = h.few;
-  gone = h.gone;
-  loses = h.loses;
-  rest = h.rest;
-  parts = h.parts;
-  fetched = h.fetched;
-  taken = h.taken;
-  refusals = h.refusals;
-  reference_names = same;
-  failed = h.failed;
-}
-
-lent_names : (n m : GName) (k l : List GName) → m ≡ n → l ≡ k → m ∷ l ≡ n ∷ k
-lent_names n m k l same e = ap₂ (λ x y. x ∷ y) same e
+  MemoryFault-named : MemoryFault o e s r t → MemoryFault o e (named k s) r (named l t)
+  MemoryFault-named h = MemoryFault-behind o e e [] r r s s t k l same (Took-nil o s h.fine) (nothing_behind e s.taken) h.answer h
 
 pub Reads-lent : {R A : Type 0} {K : BitSource R} {grows : Bool} {e : ReadEntry A} {r : Result A Error} (s t : MutBor R) → t.ghost_name ≡ s.ghost_name → ReadOutcome K grows e s.now r t.now → ReadOutcome (lent_source K) grows e s r t
-unfolding named
 Reads-lent {K = K} s t same (stays_failed h) = stays_failed (record { failed = h.failed; answer = h.answer; same = ap (λ n. lent n (K.state t.now)) same ∙ ap (λ x. lent s.ghost_name x) h.same })
-Reads-lent {K = K} s t same (takes_front h) = takes_front (TakesFront-named _ _ (lent_names s.ghost_name t.ghost_name (K.state s.now).reference_names (K.state t.now).reference_names same h.reference_names) h)
-Reads-lent {K = K} s t same (meets_fault h) = meets_fault (ReadFault-named _ _ (lent_names s.ghost_name t.ghost_name (K.state s.now).reference_names (K.state t.now).reference_names same h.reference_names) h)
-Reads-lent {K = K} s t same (lacks_memory g h) = lacks_memory g (MemoryFault-named _ _ (lent_names s.ghost_name t.ghost_name (K.state s.now).reference_names (K.state t.now).reference_names same h.reference_names) h)
+Reads-lent s t same (takes_front h) = takes_front (TakesFront-named _ _ (ap₂ (λ n l. n ∷ l) same h.reference_names) h)
+Reads-lent {K = K} s t same (meets_fault h) = meets_fault (ReadFault-named _ _ (ap₂ (λ n l. n ∷ l) same h.reference_names) (K.demands s.now) (K.holds s.now) h)
+Reads-lent s t same (lacks_memory g h) = lacks_memory g (MemoryFault-named _ _ (ap₂ (λ n l. n ∷ l) same h.reference_names) h)
 
 pub Reads-reference_names : {R A : Type 0} {K : BitSource R} {grows : Bool} {e : ReadEntry A} {r : Result A Error} {s t : R} → ReadOutcome K grows e s r t → (K.state t).reference_names ≡ (K.state s).reference_names
 Reads-reference_names (stays_failed h) = ap (λ (x : ReaderState). x.reference_names) h.same
 Reads-reference_names (takes_front h) = h.reference_names
 Reads-reference_names (meets_fault h) = h.reference_names
 Reads-reference_names (lacks_memory g h) = h.reference_names
-
--- ---- loops
-
--- so far a loop took a word, or it did nothing yet
-pub Begun : {R : Type 0} → BitSource R → R → List Bool → R → Type 0
-Begun K s w t = ((w ≡ []) × (t ≡ s)) ⊎ Took K.order (K.state s) w (K.state t)
-
-pub Begun-nil : {R : Type 0} (K : BitSource R) (s : R) → Begun K s [] s
-unfolding Begun
-Begun-nil K s = inl (refl, refl)
-
-pub Begun-took : {R : Type 0} (K : BitSource R) (s : R) (w : List Bool) (t : R) → Begun K s w t → (K.state t).failed ≡ false → Took K.order (K.state s) w (K.state t)
-unfolding Begun
-Begun-took K s w t (inl h) fine =
-    subst (λ v. Took K.order (K.state s) v (K.state t)) (sym h.0) (subst (λ x. Took K.order (K.state x) [] (K.state t)) h.1 (Took-nil K.order (K.state t) fine))
-Begun-took K s w t (inr h) fine = h
-
--- the next turn's call answered with a value
-pub Begun-more : {R A : Type 0} {K : BitSource R} {grows : Bool} (d : ReadEntry A) (a : A) (s : R) (w : List Bool) (t z : R) → Begun K s w t → d.on_failed ≡ Err Failed → ReadOutcome K grows d t (Ok a) z
-    → (v : List Bool) × ((more : List Bool) → d.reads (K.state t).taken (v ++ more) ≡ Takes (length v) (Ok a)) × Begun K s (w ++ v) z
-unfolding Begun
-Begun-more d a s w t z b failed (stays_failed h) = let p = h.answer in cc
-Begun-more {K = K} d a s w t z b failed (takes_front h) =
-    (h.word, h.decides, inr (Took-trans K.order w h.word (K.state s) (K.state t) (K.state z) (Begun-took K s w t b h.fine) (took K.order d a (K.state t) (K.state z) h)))
-Begun-more d a s w t z b failed (meets_fault h) = let p = h.answer in cc
-Begun-more d a s w t z b failed (lacks_memory g h) = let p = h.answer in cc
-
-begun_failed : {R : Type 0} (K : BitSource R) (s : R) (w : List Bool) (t : R) → Begun K s w t → (K.state t).failed ≡ true → t ≡ s
-unfolding Begun
-begun_failed K s w t (inl h) failed = h.1
-begun_failed K s w t (inr h) failed = let p = h.failed in cc
-
--- A call that is left behind a word, with the answer of the last call or with one that its value decides.
-pub Reads-behind : {R A B : Type 0} {K : BitSource R} {grows : Bool} (e : ReadEntry A) (d : ReadEntry B) (w : List Bool) (r : Result A Error) (x : Result B Error) (s t z : R)
-    → Begun K s w t → Behind e (K.state s).taken w d (K.state t).taken → e.on_failed ≡ Err Failed → d.on_failed ≡ Err Failed
-    → ((y : Error) → x ≡ Err y → r ≡ Err y) → is_run_too_long r ≡ is_run_too_long x
-    → ((v : List Bool) → ((more : List Bool) → d.reads (K.state t).taken (v ++ more) ≡ Takes (length v) x) → (more : List Bool) → e.reads (K.state s).taken ((w ++ v) ++ more) ≡ Takes (length (w ++ v)) r)
-    → ReadOutcome K grows d t x z → ReadOutcome K grows e s r z
-Reads-behind {K = K} e d w r x s t z b behind e_failed d_failed passes same decides (stays_failed h) =
-    let here = begun_failed K s w t b h.failed in
-    stays_failed (record {
-      failed = ap (λ y. (K.state y).failed) (sym here) ∙ h.failed;
-      answer = passes Failed (h.answer ∙ d_failed) ∙ sym e_failed;
-      same = h.same ∙ ap K.state here;
-    })
-Reads-behind {K = K} e d w r x s t z b behind e_failed d_failed passes same decides (takes_front h) =
-    takes_front (TakesFront-behind K.order e d w r x (K.state s) (K.state t) (K.state z) (Begun-took K s w t b h.fine) behind same h (decides h.word h.decides))
-Reads-behind {K = K} e d w r x s t z b behind e_failed d_failed passes same decides (meets_fault h) =
-    meets_fault (ReadFault-behind K.order K.may e d w r x (K.state s) (K.state t) (K.state z) (K.demands s) (K.holds s) (K.demands t) (Begun-took K s w t b h.fine) behind h (passes (read_refusal_of h.refusal.kind) h.answer))
-Reads-behind {K = K} e d w r x s t z b behind e_failed d_failed passes same decides (lacks_memory g h) =
-    lacks_memory g (MemoryFault-behind K.order e d w r x (K.state s) (K.state t) (K.state z) (Begun-took K s w t b h.fine) behind (passes OutOfMemory h.answer) h)
-
--- a run that was too long: the reader was then made to fail
-pub Took-too_long : {A : Type 0} (o : Order) (e : ReadEntry A) (w : List Bool) (s t z : ReaderState) → Took o s w t → z ≡ failing t
-    → ((more : List Bool) → e.reads s.taken (w ++ more) ≡ Takes (length w) (Err RunTooLong))
-    → ((front : List Bool) (b : Bool) (back : List Bool) → w ≡ front ++ b ∷ back → e.reads s.taken front ≡ TooShort)
-    → TakesFront o e s (Err RunTooLong) z
-Took-too_long o e w s t z h broken decides needs = rw broken (record {
-  fine = h.fine;
-  word = w;
-  decides = decides;
-  needs = needs;
-  gone = h.gone;
-  loses = h.loses;
-  rest = t.held;
-  parts = h.parts;
-  held = refl;
-  fetched = h.fetched;
-  taken = h.taken;
-  refusals = h.refusals;
-  reference_names = h.reference_names;
-  failed = refl;
-})
-
--- bits were taken
-pub Begun-word : {R : Type 0} (K : BitSource R) (s : R) (w : List Bool) (t : R) → Begun K s w t → 0 < length w → Took K.order (K.state s) w (K.state t)
-unfolding Begun
-Begun-word K s w t (inl h) some = let none : length w ≡ 0 = ap (λ l. length l) h.0 in absurd (omega arith)
-Begun-word K s w t (inr h) some = h
 
 -- ---- what no reader of bits may do
 
@@ -638,54 +531,28 @@ Reads-taken_ok fine held taken fetched (lacks_memory g h) = let p = h.answer in 
 -- was made to fail
 pub Reads-lacks_memory : {R A B : Type 0} {K : BitSource R} (e : ReadEntry A) (f : A → ReadEntry B) (a : A) (s t z : R) → e.on_failed ≡ Err Failed → (f a).reads (K.state t).taken [] ≡ TooShort → ReadOutcome K true e s (Ok a) t → K.state z ≡ failing (K.state t)
     → ReadsGrowing K (chain e f) s (Err OutOfMemory) z
-Reads-lacks_memory e f a s t z failed some (stays_failed h) broken = let p = h.answer in cc
-Reads-lacks_memory {K = K} e f a s t z failed some (takes_front h) broken =
+Reads-lacks_memory {K = K} e f a s t z failed some read broken =
+    let h = ok_front failed read in
     lacks_memory refl (Took-lacks_memory K.order (chain e f) h.word (K.state s) (K.state t) (K.state z) (took K.order e a (K.state s) (K.state t) h) broken
     (ap (λ l. (chain e f).reads (K.state s).taken l) (sym (append-nil h.word)) ∙ (chain-behind K.order e f a (K.state s) (K.state t) h).short [] some))
-Reads-lacks_memory e f a s t z failed some (meets_fault h) broken = let p = h.answer in cc
-Reads-lacks_memory e f a s t z failed some (lacks_memory g h) broken = let p = h.answer in cc
 
 -- ---- what came back through a reference
 
-tail_of : List GName → List GName
-tail_of [] = []
-tail_of (n ∷ l) = l
-
-head_of : GName → List GName → GName
-head_of d [] = d
-head_of d (n ∷ l) = n
-
-behind_one : ReaderState → ReaderState
-behind_one s = record s { reference_names = tail_of s.reference_names }
-
 same_behind : (n m : GName) (s t : ReaderState) → lent m t ≡ lent n s → t ≡ s
-unfolding behind_one tail_of
-same_behind n m s t e = ap behind_one e
+same_behind n m s t e = ap (λ (x : ReaderState). record x { reference_names = drop 1 x.reference_names }) e
 
-tails : (n m : GName) (k l : List GName) → m ∷ l ≡ n ∷ k → l ≡ k
-unfolding tail_of
-tails n m k l e = ap tail_of e
+tails : {n m : GName} {k l : List GName} → m ∷ l ≡ n ∷ k → l ≡ k
+tails e = cc
 
 -- the first of the references through which a stream is reached
 pub first_name : {m n : GName} {k l : List GName} → m ∷ l ≡ n ∷ k → m ≡ n
-unfolding head_of
-first_name {n = n} e = ap (head_of n) e
+first_name e = cc
+
+back : {R A : Type 0} {K : BitSource R} {grows : Bool} {e : ReadEntry A} {r : Result A Error} {s t : MutBor R} → ReadOutcome (lent_source K) grows e s r t → ReadOutcome K grows e s.now r t.now
+back {K = K} {s = s} {t = t} (stays_failed h) = stays_failed (record { failed = h.failed; answer = h.answer; same = same_behind s.ghost_name t.ghost_name (K.state s.now) (K.state t.now) h.same })
+back (takes_front h) = takes_front (TakesFront-named _ _ (tails h.reference_names) h)
+back {K = K} {s = s} (meets_fault h) = meets_fault (ReadFault-named _ _ (tails h.reference_names) (K.demands s.now) (K.holds s.now) h)
+back (lacks_memory g h) = lacks_memory g (MemoryFault-named _ _ (tails h.reference_names) h)
 
 pub Reads-back : {R A : Type 0} {K : BitSource R} {grows : Bool} {e : ReadEntry A} {r : Result A Error} {s t : MutBor R} → ReadOutcome (lent_source K) grows e s r t → (t.ghost_name ≡ s.ghost_name) × ReadOutcome K grows e s.now r t.now
-unfolding named
-Reads-back {K = K} {s = s} {t = t} (stays_failed h) = (
-  first_name {m = t.ghost_name} {n = s.ghost_name} {k = (K.state s.now).reference_names} {l = (K.state t.now).reference_names} (ap (λ (x : ReaderState). x.reference_names) h.same),
-  stays_failed (record { failed = h.failed; answer = h.answer; same = same_behind s.ghost_name t.ghost_name (K.state s.now) (K.state t.now) h.same }),
-)
-Reads-back {K = K} {s = s} {t = t} (takes_front h) = (
-  first_name h.reference_names,
-  takes_front (TakesFront-named _ _ (tails s.ghost_name t.ghost_name (K.state s.now).reference_names (K.state t.now).reference_names h.reference_names) h),
-)
-Reads-back {K = K} {s = s} {t = t} (meets_fault h) = (
-  first_name h.reference_names,
-  meets_fault (ReadFault-named _ _ (tails s.ghost_name t.ghost_name (K.state s.now).reference_names (K.state t.now).reference_names h.reference_names) h),
-)
-Reads-back {K = K} {s = s} {t = t} (lacks_memory g h) = (
-  first_name h.reference_names,
-  lacks_memory g (MemoryFault-named _ _ (tails s.ghost_name t.ghost_name (K.state s.now).reference_names (K.state t.now).reference_names h.reference_names) h),
-)
+Reads-back h = (first_name (Reads-reference_names h), back h)

@@ -2,11 +2,17 @@
 use Rattle.std.proofs.Common.{◌≡◌, ℕ, ◌+◌, ◌*◌, ◌%◌, ◌<◌, ◌≤◌, ◌≢◌, Bool, IsTrue, true, false, List, [], ◌∷◌, ◌++◌, length, Option, Some, None, Result, Ok, Err, refl, sym, ◌∙◌, ap, ap₂, inl, inr, arith}
 use Rattle.std.proofs.lemmas.Bool.{cases_lt}
 use Rattle.std.specs.Borrow.{GName, MutBor}
+use Rattle.std.specs.Result.{IsErrAnd}
 use Rattle.bitstream_count.specs.Entry.{WriteEntry}
 use Rattle.bitstream_count.specs.declared.error.Error.{Error}
 use Rattle.bitstream_count.specs.declared.error.Error.TheVariants.{Failed}
 use Rattle.bitstream_stream.specs.Alignment.{to_boundary}
 use Rattle.bitstream_stream.specs.Sink.{Sink, Writes, Kept, IsWithin, IsBeyond, IsFullLimit, seen_sink, inner_sink, lent_sink, was_failed, was_refused, passed_limit, had_fault, did_write}
+
+-- what the exit of a `?` returns
+pub exit_is : {V : Type 0} {d : Error} (r : Result V Error) → IsErrAnd r (λ y. y ≡ d) → r ≡ Err d
+exit_is (Ok v) h = absurd h
+exit_is (Err y) h = ap Err h
 
 -- ---- limits
 

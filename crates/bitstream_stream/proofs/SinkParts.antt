@@ -1,26 +1,21 @@
 -- A word written in parts.
-use Rattle.std.proofs.Common.{◌≡◌, ℕ, ◌+◌, ◌%◌, ◌≤◌, Bool, false, List, [], ◌∷◌, ◌++◌, length, replicate, Result, Ok, Err, refl, sym, ◌∙◌, ap, subst, append-nil, append_assoc, length-append, arith}
-use Rattle.std.proofs.lemmas.List.{length-replicate}
+use Rattle.std.proofs.Common.{◌≡◌, ℕ, ◌+◌, ◌%◌, ◌^◌, ◌<◌, ◌≤◌, IsTrue, Bool, false, List, [], ◌∷◌, ◌++◌, length, replicate, Result, Ok, Err, refl, sym, ◌∙◌, ap, subst, append-nil, append_assoc, length-append, arith}
+use Rattle.std.specs.Result.{IsErrAnd}
+use Rattle.std.proofs.lemmas.List.{replicate-append-replicate}
 use Rattle.bitstream_number.specs.Word.{Order, word}
 use Rattle.bitstream_count.specs.Entry.{WriteEntry}
 use Rattle.bitstream_count.specs.declared.error.Error.{Error}
 use Rattle.bitstream_count.specs.declared.error.Error.TheVariants.{Failed, CounterOverflow}
 use Rattle.bitstream_stream.specs.Sink.{Sink, Writes, Appended, Kept, WriteFault, IsWithin, IsBeyond, was_failed, was_refused, passed_limit, had_fault, did_write}
-use Rattle.bitstream_stream.specs.Alignment.{to_boundary}
-use Rattle.bitstream_stream.specs.WriteTable.{unsigned, align}
-use Rattle.bitstream_stream.proofs.WriteLemmas.{unsigned-accepted, padded}
-use Rattle.bitstream_stream.proofs.SinkLemmas.{not_beyond, empty}
+use Rattle.bitstream_stream.specs.WriteTable.{unsigned}
+use Rattle.bitstream_stream.proofs.WriteLemmas.{unsigned-fits, unsigned-none}
+use Rattle.bitstream_stream.proofs.SinkLemmas.{not_beyond, within_less, past_limit, untold, exit_is, empty}
 
 -- the sink had not failed, and x is appended
 pub record Begun {S : Type 0} (K : Sink S) (old : S) (x : List Bool) (new : S) : Type 0 where
   pub was_sound : K.failed old ≡ false
   pub within : IsWithin K.limit (K.len old + length x)
   pub done : Appended K old x new
-
--- nothing was called yet, or x is appended
-pub data Partly {S : Type 0} (K : Sink S) (old : S) (x : List Bool) (mid : S) : Type 0 where
-  none_yet : mid ≡ old → x ≡ [] → Partly K old x mid
-  begun : Begun K old x mid → Partly K old x mid
 
 -- what a fault behind some bits says of them all
 fault_full : (a b x y n : ℕ) → b ≡ a + x → 8 ≤ b % 8 + y → n ≡ x + y → 8 ≤ a % 8 + n
@@ -89,14 +84,6 @@ module _ {S : Type 0} (K : Sink S) where
         done = subst (λ (z : List Bool). Appended K old z new) same a;
       }
 
-  -- and some word, in any case
-  pub written : {T : Type 0} (e : WriteEntry) (old : S) (r : Result T Error) (new : S) (t : T) → Writes K e old r new → r ≡ Ok t → (x : List Bool) × (e (K.len old) ≡ Ok x) × Begun K old x new
-  written e old r new t (was_failed f re k) q = cc
-  written e old r new t (was_refused d f en re k) q = cc
-  written e old r new t (passed_limit y f en b re k) q = cc
-  written e old r new t (had_fault y d f en wi re k) q = cc
-  written e old r new t (did_write y w f en wi re a) q = (y, en, record { was_sound = f; within = wi; done = a })
-
   -- and the other way
   pub to_ok : {T : Type 0} (e : WriteEntry) (old : S) (r : Result T Error) (new : S) (t : T) (x : List Bool) → Begun K old x new → r ≡ Ok t → e (K.len old) ≡ Ok x → Writes K e old r new
   to_ok e old r new t x b q h = did_write x t b.was_sound h b.within q b.done
@@ -117,28 +104,7 @@ module _ {S : Type 0} (K : Sink S) where
         };
       }
 
-  -- nothing yet, and then a call that answers `Ok`
-  pub more : {T : Type 0} (e : WriteEntry) (old mid : S) (r : Result T Error) (new : S) (t : T) (x y : List Bool)
-      → Partly K old x mid → Writes K e mid r new → r ≡ Ok t → e (K.len mid) ≡ Ok y → Begun K old (x ++ y) new
-  more e old mid r new t x y (none_yet same nil) w q h =
-      subst (λ (z : List Bool). Begun K old (z ++ y) new) (sym nil)
-      (subst (λ (s : S). Begun K s y new) same (from_ok e mid r new t y w q h))
-  more e old mid r new t x y (begun b) w q h = Begun-more old mid new x y b (from_ok e mid r new t y w q h)
-
-  -- a first part of a word that has room answers an error
-  pub stop_first : {T V : Type 0} (e f : WriteEntry) (old : S) (r : Result T Error) (r' : Result V Error) (new : S) (d : Error) (y z : List Bool)
-      → Writes K e old r new → r ≡ Err d → r' ≡ Err d → e (K.len old) ≡ Ok y → f (K.len old) ≡ Ok (y ++ z) → IsWithin K.limit (K.len old + length (y ++ z)) → Writes K f old r' new
-  stop_first e f old r r' new d y z (was_failed p re k) q q' h h' room = let same : d ≡ Failed = cc in was_failed p (q' ∙ ap Err same) k
-  stop_first e f old r r' new d y z (was_refused d' p en re k) q q' h h' room = cc
-  stop_first e f old r r' new d y z (passed_limit y' p en b re k) q q' h h' room =
-      let same : y' ≡ y = cc in
-      absurd (not_beyond K.limit _ _ room (omega (arith, ap length same, length-append y z)) b)
-  stop_first e f old r r' new d y z (had_fault y' d' p en wi re k) q q' h h' room =
-      let same : y' ≡ y = cc in
-      had_fault (y ++ z) d' p h' room (cc) (WriteFault-longer old new d' y z (subst (λ (l : List Bool). WriteFault K old l d' new) same k))
-  stop_first e f old r r' new d y z (did_write y' w p en wi re a) q q' h h' room = cc
-
-  -- a later one does
+  -- a later part of a word that has room answers an error
   pub stop_later : {T V : Type 0} (e f : WriteEntry) (old mid : S) (r : Result T Error) (r' : Result V Error) (new : S) (d : Error) (x y z : List Bool)
       → Begun K old x mid → Writes K e mid r new → r ≡ Err d → r' ≡ Err d → e (K.len mid) ≡ Ok y → f (K.len old) ≡ Ok (x ++ (y ++ z)) → IsWithin K.limit (K.len old + length (x ++ (y ++ z))) → Writes K f old r' new
   stop_later e f old mid r r' new d x y z b (was_failed p re k) q q' h h' room = let n = b.done.sound in cc
@@ -152,19 +118,12 @@ module _ {S : Type 0} (K : Sink S) where
       (WriteFault-behind old mid new d' x (y ++ z) b.done (WriteFault-longer mid new d' y z (subst (λ (l : List Bool). WriteFault K mid l d' new) same k)))
   stop_later e f old mid r r' new d x y z b (did_write y' w p en wi re a) q q' h h' room = cc
 
-  pub stop : {T V : Type 0} (e f : WriteEntry) (old mid : S) (r : Result T Error) (r' : Result V Error) (new : S) (d : Error) (x y z : List Bool)
-      → Partly K old x mid → Writes K e mid r new → r ≡ Err d → r' ≡ Err d → e (K.len mid) ≡ Ok y → f (K.len old) ≡ Ok (x ++ (y ++ z)) → IsWithin K.limit (K.len old + length (x ++ (y ++ z))) → Writes K f old r' new
-  stop e f old mid r r' new d x y z (none_yet same nil) w q q' h h' room =
-      stop_first e f old r r' new d y z (subst (λ (s : S). Writes K e s r new) same w) q q' (subst (λ (s : S). e (K.len s) ≡ Ok y) same h)
-      (h' ∙ ap (λ (l : List Bool). Ok (l ++ (y ++ z))) nil) (subst (λ (l : List Bool). IsWithin K.limit (K.len old + length (l ++ (y ++ z)))) nil room)
-  stop e f old mid r r' new d x y z (begun b) w q q' h h' room = stop_later e f old mid r r' new d x y z b w q q' h h' room
-
   -- the last part of a word that has room, whatever it answers
   pub last : {T : Type 0} (e f : WriteEntry) (old mid : S) (r : Result T Error) (new : S) (x y : List Bool)
-      → Partly K old x mid → Writes K e mid r new → e (K.len mid) ≡ Ok y → f (K.len old) ≡ Ok (x ++ y) → IsWithin K.limit (K.len old + length (x ++ y)) → Writes K f old r new
-  last e f old mid (Ok t) new x y p w h h' room = to_ok f old (Ok t) new t (x ++ y) (more e old mid (Ok t) new t x y p w refl h) refl h'
-  last e f old mid (Err d) new x y p w h h' room =
-      stop e f old mid (Err d) (Err d) new d x y [] p w refl refl h (h' ∙ ap (λ (l : List Bool). Ok (x ++ l)) (sym (append-nil y)))
+      → Begun K old x mid → Writes K e mid r new → e (K.len mid) ≡ Ok y → f (K.len old) ≡ Ok (x ++ y) → IsWithin K.limit (K.len old + length (x ++ y)) → Writes K f old r new
+  last e f old mid (Ok t) new x y b w h h' room = to_ok f old (Ok t) new t (x ++ y) (Begun-more old mid new x y b (from_ok e mid (Ok t) new t y w refl h)) refl h'
+  last e f old mid (Err d) new x y b w h h' room =
+      stop_later e f old mid (Err d) (Err d) new d x y [] b w refl refl h (h' ∙ ap (λ (l : List Bool). Ok (x ++ l)) (sym (append-nil y)))
       (subst (λ (l : List Bool). IsWithin K.limit (K.len old + length (x ++ l))) (sym (append-nil y)) room)
 
   -- a call of no bits that found the sink failed, before a call of any entry
@@ -184,17 +143,45 @@ module _ {S : Type 0} (K : Sink S) where
   pub probe_passed : {V : Type 0} (f : WriteEntry) (old : S) (r' : Result V Error) (new : S) (x : List Bool) → Begun K old [] new → f (K.len old) ≡ Ok x → IsBeyond K.limit (K.len old + length x) → r' ≡ Err CounterOverflow → Writes K f old r' new
   probe_passed f old r' new x b h past q = passed_limit x b.was_sound h past q (Begun-kept old new b)
 
-  -- the word of a number that was accepted
-  pub written_unsigned : {T : Type 0} (o : Order) (size n v : ℕ) (old : S) (r : Result T Error) (new : S) (t : T) → Writes K (unsigned o size n v) old r new → r ≡ Ok t → Begun K old (word o n v) new
-  written_unsigned o size n v old r new t w q =
-      let h = written (unsigned o size n v) old r new t w q in
-      subst (λ (x : List Bool). Begun K old x new) (unsigned-accepted o size n v (K.len old) h.0 h.1) h.2
+  -- ---- a word in several parts, as a body of calls writes it
 
-  -- zeros up to a multiple of 8
-  pub written_align : {T : Type 0} (old : S) (r : Result T Error) (new : S) (t : T) (len : ℕ)
-      → Writes K align old r new → r ≡ Ok t → K.len old ≡ len → Begun K old (replicate (to_boundary len) false) new × (K.len new % 8 ≡ 0)
-  written_align old r new t len w q at =
-      let b = from_ok align old r new t (replicate (to_boundary len) false) w q (ap (λ (n : ℕ). Ok (replicate (to_boundary n) false)) at) in
-      let far : K.len new ≡ len + to_boundary len =
-      K.appends_len old new (replicate (to_boundary len) false) b.done.grown ∙ ap (λ (k : ℕ). k + length (replicate (to_boundary len) false)) at ∙ ap (λ (k : ℕ). len + k) (length-replicate (to_boundary len) false) in
-      (b, ap (λ (k : ℕ). k % 8) far ∙ padded len)
+  -- it begins with a word of no bits, which was refused
+  pub probe_stops : {T V : Type 0} (o : Order) (size v : ℕ) (f : WriteEntry) {old new : S} {d : Error} {r : Result V Error} → Writes {T = T} K (unsigned o size 0 v) old (Err d) new → IsErrAnd r (λ y. y ≡ d) → Writes K f old r new
+  probe_stops o size v f {old = old} {new = new} {d = d} {r = r} w h = probe_failed (unsigned o size 0 v) f old (Err d) r new d w refl (exit_is r h) (unsigned-none o size v (K.len old))
+
+  -- or which was written, before it is asked whether there is room for the others
+  module _ (o : Order) (size v : ℕ) {T : Type 0} {old mid : S} {t : T} (probe : Writes K (unsigned o size 0 v) old (Ok t) mid) where
+    pub probed : Begun K old [] mid
+    probed = from_ok (unsigned o size 0 v) old (Ok t) mid t [] probe refl (unsigned-none o size v (K.len old))
+
+    pub probed_len : K.len mid ≡ K.len old
+    probed_len = omega (arith, K.appends_len old mid [] probed.done.grown)
+
+    pub room_for : (n m : ℕ) → m ≡ n → IsWithin K.limit (K.len mid + n) → IsWithin K.limit (K.len old + m)
+    room_for n m same = within_less K.limit (K.len old + m) (K.len mid + n) (omega (arith, same, probed_len))
+
+    pub no_room_for : {V : Type 0} (f : WriteEntry) (x : List Bool) (n : ℕ) (room : Bool) → room ≡ false → (IsWithin K.limit (K.len mid + n) → IsTrue room) → length x ≡ n → f (K.len old) ≡ Ok x → Writes {T = V} K f old (Err CounterOverflow) mid
+    no_room_for f x n room lacks asked size is =
+        let all : K.len old + length x ≡ K.len mid + n = omega (arith, size, probed_len) in
+        probe_passed f old (Err CounterOverflow) mid x probed is (rw all (past_limit K.limit (K.len mid + n) (λ h. untold _ room lacks asked h))) refl
+
+  -- a part was refused, where there is room for n bits, which are all
+  pub part_stops : {T V : Type 0} {old mid new : S} {d : Error} {r : Result V Error} (e f : WriteEntry) (x y z : List Bool) (n : ℕ) → Begun K old x mid → Writes {T = T} K e mid (Err d) new → IsErrAnd r (λ q. q ≡ d)
+      → e (K.len mid) ≡ Ok y → (word : List Bool) → f (K.len old) ≡ Ok word → word ≡ x ++ (y ++ z) → length word ≡ n → IsWithin K.limit (K.len old + n) → Writes K f old r new
+  part_stops {old = old} {mid = mid} {new = new} {d = d} {r = r} e f x y z n b w h is word whole parts size room =
+      stop_later e f old mid (Err d) r new d x y z b w refl (exit_is r h) is (whole ∙ ap Ok parts) (subst (λ (k : ℕ). IsWithin K.limit (K.len old + k)) (sym (ap length (sym parts) ∙ size)) room)
+
+  -- ---- the same bit, so many times: the number v of k bits
+
+  module _ (bit : Bool) (o : Order) (size a k v : ℕ) (le : k ≤ size) (small : v < 2 ^ k) (same : (o : Order) → word o k v ≡ replicate k bit) {old mid new : S} (b : Begun K old (replicate a bit) mid) where
+    -- it was accepted behind others
+    pub run_more : {T : Type 0} {t : T} (n : ℕ) → a + k ≡ n → Writes K (unsigned o size k v) mid (Ok t) new → Begun K old (replicate n bit) new
+    run_more {t = t} n sum w =
+        subst (λ x. Begun K old x new) (replicate-append-replicate a k bit ∙ ap (λ (i : ℕ). replicate i bit) sum)
+        (Begun-more old mid new (replicate a bit) (replicate k bit) b (from_ok (unsigned o size k v) mid (Ok t) new t (replicate k bit) w refl (unsigned-fits o size k v (K.len mid) le small ∙ ap Ok (same o))))
+
+    -- it was refused
+    pub run_stops : {T V : Type 0} {d : Error} {r : Result V Error} (f : WriteEntry) (word rest : List Bool) (n : ℕ) → Writes {T = T} K (unsigned o size k v) mid (Err d) new → IsErrAnd r (λ q. q ≡ d) → f (K.len old) ≡ Ok word
+        → word ≡ replicate a bit ++ (replicate k bit ++ rest) → length word ≡ n → IsWithin K.limit (K.len old + n) → Writes K f old r new
+    run_stops f word rest n w h whole parts =
+        part_stops (unsigned o size k v) f (replicate a bit) (replicate k bit) rest n b w h (unsigned-fits o size k v (K.len mid) le small ∙ ap Ok (same o)) word whole parts

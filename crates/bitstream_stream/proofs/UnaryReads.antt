@@ -78,14 +78,14 @@ module _ {R : Type 0} {K : BitSource R} where
   pub unary-stops : (stop : Bool) (n : ℕ) (x : Error) (s t z : R) → n < 2 ^ 32 → Begun K s (replicate n (not stop)) t → Reads K bit_entry t (Err x) z → Reads K (unary_entry stop) s (Err x) z
   unfolding unary_entry
   unary-stops stop n x s t z few b h =
-      Reads-behind (unary_entry stop) bit_entry (replicate n (not stop)) (Err x) (Err x) s t z b (unary_behind stop n (K.state s).taken (K.state t).taken few) refl refl
+      Reads-behind (unary_entry stop) bit_entry (replicate n (not stop)) (Err x) (Err x) s t z b (unary_behind stop n (K.state s).taken (K.state t).taken few) (λ broken e. let same : x ≡ Failed = cc in ap Err same)
       (λ y e. let same : x ≡ y = cc in ap Err same) refl (λ v d. absurd (bit_answers (K.state t).taken x v d)) h
 
   -- the stop bit
   pub unary-ends : (stop : Bool) (n : ℕ) (b : Bool) (s t z : R) → n < 2 ^ 32 → beq b stop ≡ true → Begun K s (replicate n (not stop)) t → Reads K bit_entry t (Ok b) z → Reads K (unary_entry stop) s (Ok n) z
   unfolding unary_entry
   unary-ends stop n b s t z few same begun h =
-      Reads-behind (unary_entry stop) bit_entry (replicate n (not stop)) (Ok n) (Ok b) s t z begun (unary_behind stop n (K.state s).taken (K.state t).taken few) refl refl
+      Reads-behind (unary_entry stop) bit_entry (replicate n (not stop)) (Ok n) (Ok b) s t z begun (unary_behind stop n (K.state s).taken (K.state t).taken few) (λ broken e. cc)
       (λ y e. cc) refl
       (λ v d more.
       let word : unary stop n ≡ replicate n (not stop) ++ v = ap (λ l. replicate n (not stop) ++ l) (ap (λ c. c ∷ []) (sym (same_bit b stop same)) ∙ sym (bit_word (K.state t).taken b v d)) in

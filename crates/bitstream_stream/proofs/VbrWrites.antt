@@ -23,7 +23,7 @@ use Rattle.bitstream_stream.specs.WriteTable.{unsigned, vbr}
 use Rattle.bitstream_stream.proofs.BytesWritten.{appended_none}
 use Rattle.bitstream_stream.proofs.WriterLemmas.{pushes_writes}
 use Rattle.bitstream_stream.proofs.WriteLemmas.{unsigned-fits}
-use Rattle.bitstream_stream.proofs.SinkParts.{Begun, begun, Begun-more, from_ok, stop_later, last}
+use Rattle.bitstream_stream.proofs.SinkParts.{Begun, Begun-more, from_ok, stop_later, last}
 
 -- ---- the number of a group
 
@@ -140,7 +140,7 @@ module _ {S : Type 0} (K : Sink S) (field size v : ℕ) (within : field ≤ size
     groups-last final w room =
         let x = word K.order field rest in
         let all : vbr_word K.order field v ≡ b.word ++ x = sym b.parts ∙ ap (λ l. b.word ++ l) (final.whole K.order) in
-        last K (unsigned K.order size field rest) (vbr K.order field v) old mid r new b.word x (begun b.done) w
+        last K (unsigned K.order size field rest) (vbr K.order field v) old mid r new b.word x b.done w
         (unsigned-fits K.order size field rest (K.len mid) within final.fits) (ap Ok all) (subst (λ l. IsWithin K.limit (K.len old + length l)) all room)
 
 -- ---- the loop that gathers groups
@@ -200,7 +200,7 @@ module _ {S : Type 0} (K : Sink S) (field size v : ℕ) (within : field ≤ size
         let x = word o field rest in
         let nil : word o bits gathered ≡ [] = ap (λ k. word o k gathered) none ∙ word-none o gathered in
         let all : vbr_word o field v ≡ b.front ++ x = sym b.parts ∙ ap₂ (λ i j. b.front ++ (i ++ j)) nil (final.whole o) in
-        last K (unsigned o size field rest) (vbr o field v) old mid r new b.front x (begun b.done) w
+        last K (unsigned o size field rest) (vbr o field v) old mid r new b.front x b.done w
         (unsigned-fits o size field rest (K.len mid) within final.fits) (ap Ok all) (subst (λ l. IsWithin K.limit (K.len old + length l)) all limit)
 
     -- the number of the last group behind what was gathered
@@ -216,7 +216,7 @@ module _ {S : Type 0} (K : Sink S) (field size v : ℕ) (within : field ≤ size
         let joined : x ≡ word o bits gathered ++ word o n rest = ap (word o (bits + n)) put ∙ put_word o gathered bits rest n b.below (subst (λ k. rest < 2 ^ k) (sym one) final.fits) in
         let ends : vbr_word o field rest ≡ word o n rest = final.whole o ∙ ap (λ k. word o k rest) (sym one) in
         let all : vbr_word o field v ≡ b.front ++ x = sym b.parts ∙ ap (λ l. b.front ++ (word o bits gathered ++ l)) ends ∙ ap (λ l. b.front ++ l) (sym joined) in
-        last K (unsigned o size (bits + n) made) (vbr o field v) old mid r new b.front x (begun b.done) w
+        last K (unsigned o size (bits + n) made) (vbr o field v) old mid r new b.front x b.done w
         (unsigned-fits o size (bits + n) made (K.len mid) room (gathered-below n made one final put)) (ap Ok all) (subst (λ l. IsWithin K.limit (K.len old + length l)) all limit)
 
 -- ---- a group that was pushed behind a writer's queue

@@ -1,21 +1,16 @@
-use Rattle.std.proofs.Common.{zero-add, add_assoc, IsTrue, ◌≡◌, ◌≢◌, ◌<◌, ℕ, length, Option, subst, ◌-◌, ◌+◌, ◌%◌, Bool, true, false, replicate, [], ◌∷◌, Ok, Err, refl, sym, ap, ◌∙◌, arith}
-use Rattle.std.proofs.lemmas.Result.{err_from_is_err_and}
+use Rattle.std.proofs.Common.{zero-add, add_assoc, IsTrue, ◌≡◌, ◌≢◌, ◌<◌, ℕ, Option, ◌-◌, ◌+◌, ◌%◌, Bool, true, false, replicate, [], ◌∷◌, Ok, refl, sym, ap, ◌∙◌, arith}
 use Rattle.bitstream_stream.specs.Alignment.{to_boundary}
 use Rattle.bitstream_stream.specs.Sink.{IsWithin}
 use Rattle.bitstream_stream.specs.WriteTable.{align}
-use Rattle.bitstream_stream.proofs.SinkParts.{from_ok, to_ok, probe_failed, probe_passed, stop_later, Begun-more}
+use Rattle.bitstream_stream.proofs.SinkParts.{from_ok, to_ok, probe_stops, probe_passed, probed, probed_len, part_stops, Begun-more}
 use Rattle.bitstream_stream.proofs.SinkLemmas.{within_less, no_zeros, untold}
 use Rattle.std.proofs.lemmas.List.{length-replicate}
-use Rattle.bitstream_stream.proofs.WriteLemmas.{unsigned-none, replicate-split, replicate-more, to_boundary-step}
+use Rattle.bitstream_stream.proofs.WriteLemmas.{replicate-split, replicate-more, to_boundary-step}
 use Rattle.bitstream_stream.proofs.write.BitWrite.byte_align.Goals as goal
 use Rattle.bitstream_stream.proofs.write.BitWrite.byte_align.Goals.{else-not-byte_aligned-via-then-not-byte_aligned+else-not-has_room, else-not-byte_aligned-via-else-not-byte_aligned}
 
 pub returns-in_err-write_unsigned_var : goal.returns-in_err-write_unsigned_var
-returns-in_err-write_unsigned_var g c = record {
-  writes =
-      let p = err_from_is_err_and c.from_residual.result c.from_residual.ensures.1 in
-      probe_failed g.Self.BitWrite.sink _ _ _ _ _ _ _ c.in_err-write_unsigned_var.ensures.writes refl (p.1 ∙ ap Err p.2) (unsigned-none _ _ _ _);
-}
+returns-in_err-write_unsigned_var g c = record { writes = probe_stops g.Self.BitWrite.sink _ _ _ _ c.in_err-write_unsigned_var.ensures.writes c.from_residual.ensures.1 }
 
 room_aligned : (limit : Option ℕ) (a b : ℕ) → IsWithin limit a → b % 8 ≡ 0 → b ≡ a → IsWithin limit (a + to_boundary a)
 room_aligned limit a b within aligned same = within_less limit (a + to_boundary a) a (omega arith) within
@@ -26,8 +21,8 @@ room_seven limit a b within same = within_less limit (a + to_boundary a) (b + 7)
 pub loop-self-init : goal.loop-self-init
 loop-self-init g c =
     let K = g.Self.BitWrite.sink in
-    let b = from_ok K _ _ _ _ _ [] c.in_ok-write_unsigned_var.ensures.writes refl (unsigned-none _ _ _ _) in
-    let same : K.len c.write_unsigned_var.new.self ≡ K.len c.args.self.now = omega (arith, K.appends_len _ _ _ b.done.grown) in
+    let b = probed K _ _ _ c.in_ok-write_unsigned_var.ensures.writes in
+    let same = probed_len K _ _ _ c.in_ok-write_unsigned_var.ensures.writes in
     let room : IsWithin K.limit (K.len c.args.self.now + to_boundary (K.len c.args.self.now)) = elim c.else-not-byte_aligned.branch [
       | else-not-byte_aligned-via-then-not-byte_aligned+else-not-has_room w ↦ room_seven K.limit _ _ (w.has_room.ensures.room.0 w.if-not-has_room.false) same
       | else-not-byte_aligned-via-else-not-byte_aligned w ↦ room_aligned K.limit _ _ (K.within c.args.self.now) (c.byte_aligned.ensures.aligned.0 w.if-not-byte_aligned.false).1 same
@@ -43,9 +38,9 @@ pub returns-then-not-has_room : goal.returns-then-not-has_room
 returns-then-not-has_room g c = record {
   writes =
       let K = g.Self.BitWrite.sink in
-      let b = from_ok K _ _ _ _ _ [] c.in_ok-write_unsigned_var.ensures.writes refl (unsigned-none _ _ _ _) in
+      let b = probed K _ _ _ c.in_ok-write_unsigned_var.ensures.writes in
       let old = K.len c.args.self.now in
-      let same : K.len c.write_unsigned_var.new.self ≡ old = omega (arith, K.appends_len _ _ _ b.done.grown) in
+      let same = probed_len K _ _ _ c.in_ok-write_unsigned_var.ensures.writes in
       let zeros = replicate (to_boundary old) false in
       let past : IsWithin K.limit (old + 7) → ⊥ = λ h. untold _ _ c.if-not-has_room.true c.has_room.ensures.room.1 (rw same h) in
       let away : old % 8 ≢ 0 = λ h. off _ _ _ c.byte_aligned.ensures.aligned c.if-not-byte_aligned.true b.done.sound (rw same h) in
@@ -84,13 +79,11 @@ returns-in_err-write_bit g c = record {
   writes =
       let K = g.Self.BitWrite.sink in
       let k = c.loop-self.invariant.0 in
-      let p = err_from_is_err_and c.from_residual-in_err-write_bit.result c.from_residual-in_err-write_bit.ensures.1 in
       let n = to_boundary (K.len c.args.self.now) in
       let step = to_boundary-step (K.len c.loop-self.self) (off _ _ _ c.byte_aligned-in-loop-self.ensures.aligned c.loop-self-test.true c.loop-self.invariant.1.done.sound) in
       let within : k < n = sum_less k _ n (ap (λ (m : ℕ). k + m) (sym step) ∙ c.loop-self.invariant.2) in
-      stop_later K _ align _ _ _ _ _ _ (replicate k false) (false ∷ []) (replicate (n - (k + 1)) false)
-      c.loop-self.invariant.1 c.in_err-write_bit.ensures.writes refl (p.1 ∙ ap Err p.2) refl (ap Ok (replicate-split k n false within))
-      (subst (λ (m : ℕ). IsWithin K.limit (K.len c.args.self.now + m)) (sym (ap length (sym (replicate-split k n false within)) ∙ length-replicate n false)) c.loop-self.invariant.3);
+      part_stops K _ align (replicate k false) (false ∷ []) (replicate (n - (k + 1)) false) n c.loop-self.invariant.1 c.in_err-write_bit.ensures.writes c.from_residual-in_err-write_bit.ensures.1
+      refl (replicate n false) refl (replicate-split k n false within) (length-replicate n false) c.loop-self.invariant.3;
 }
 
 pub returns : goal.returns
