@@ -106,8 +106,8 @@ pub mod laws {
 pub use bytes::{ByteRead, ByteReader, ByteWrite, ByteWriter};
 pub use count::{
     BitCount, Checked, CheckedError, CheckedSigned, CheckedSignedFixed, CheckedUnsigned,
-    CheckedUnsignedFixed, Count, FixedBitCount, FixedSignedBitCount, Holds, LsbMask, SignedBitCount,
-    SignedCount,
+    CheckedUnsignedFixed, Count, FixedBitCount, FixedSignedBitCount, Holds, LsbMask,
+    SignedBitCount, SignedCount,
 };
 pub use error::Error;
 pub use integer::{Integer, VBRInteger};
