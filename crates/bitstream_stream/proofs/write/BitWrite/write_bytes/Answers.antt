@@ -1,4 +1,4 @@
-use Rattle.std.proofs.Common.{rules, arith, ◌≡◌, ◌+◌, ◌*◌, ◌<◌, ℕ, length, take, drop, get_or, take_all, Ok, refl, sym, ap, ◌∙◌}
+use Rattle.std.proofs.Common.{rules, arith, ◌≡◌, ◌+◌, ◌*◌, ◌<◌, length, take, drop, get_or, take_all, Ok, refl, sym, ap, ◌∙◌}
 use Rattle.bitstream_number.specs.Word.{word, bits}
 use Rattle.bitstream_number.proofs.WordLemmas.{length-bits}
 use Rattle.bitstream_stream.specs.WriteTable.{unsigned, buffer}
