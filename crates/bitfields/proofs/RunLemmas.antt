@@ -3,7 +3,7 @@ use Rattle.std.specs.Prelude.{Option, IfErr, OnOk, length}
 use Rattle.std.specs.Io.KnownBytes.{Appends}
 use Rattle.std.specs.IoError.{error_kind}
 use Rattle.std.specs.declared.io.Error.{Error}
-use Rattle.std.proofs.Common.{◌≡◌, ◌⊎◌, ℕ, List, Result, Ok, Err, inl, inr, sym, ap, refl, ◌∙◌}
+use Rattle.std.proofs.Common.{◌≡◌, ℕ, List, Result, Ok, Err, inl, inr, sym, ap, ◌∙◌}
 use Rattle.bitstream_io.specs.Word.{Order}
 use Rattle.bitstream_io.specs.Refusal.{MayRefuse}
 use Rattle.bitfields.specs.declared.fault.Fault.{Fault}
