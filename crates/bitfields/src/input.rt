@@ -19,7 +19,7 @@ pub trait Input: Source {
     /// # Errors
     ///
     /// The input's own, as [`Read::read_to_end`] has them: of kind `OutOfMemory` too if memory for the
-    /// bytes is refused.
+    /// bytes is refused. The bytes that came until then are lost.
     fn read_rest(&mut self, alloc: Global) -> io::Result<Vec<u8>>
         ensures bytes { IfOk result (λ bytes. ReadToEnd (Self.remaining self.old) bytes.items
             (Self.remaining self.new)) }
