@@ -31,6 +31,7 @@ abbrev pub refusal_reason : ErrorKind → Reason
 refusal_reason kinds.OutOfMemory = OutOfMemory
 refusal_reason kind = StreamFault
 
+-- how a reason is printed
 abbrev pub reason_text : Reason → List ℕ
 reason_text BadArguments = codes "bad arguments"
 reason_text TooManyFields = codes "too many fields"

@@ -25,10 +25,12 @@ field_of (letter ∷ rest) = field_after letter rest
 abbrev pub pieces : List ℕ → List (List ℕ)
 pieces text = slice_split (λ b. b == 44) text
 
+-- a list with one item more in front; an error stays
 abbrev pub one_more : {A E : Type 0} → A → Result (List A) E → Result (List A) E
 one_more x (Ok xs) = Ok (x ∷ xs)
 one_more x (Err e) = Err e
 
+-- the field number k in front of the others, or the fault that its text spells none
 abbrev pub field_and : ℕ → Option Field → Result (List Field) Fault → Result (List Field) Fault
 field_and k None others = Err (fault k BadLayout)
 field_and k (Some f) others = one_more f others

@@ -17,9 +17,11 @@ pub record OutputStream (W : Type 0) : Type 1 where
   pub refuses : W → ℕ → ErrorKind → W → Type 0
   pub flushes : W → W → Type 0
 
+-- an input, by what it tells and how it refuses
 abbrev pub input_stream : {R : Type 0} → (R → Option (List ℕ)) → (R → ℕ → ErrorKind → R → Type 0) → (R → ErrorKind → R → Type 0) → InputStream R
 input_stream remaining refuses refuses_rest = record { remaining = remaining; refuses = refuses; refuses_rest = refuses_rest }
 
+-- an output, by what it holds and how it refuses
 abbrev pub output_stream : {W : Type 0} → (W → Option (List ℕ)) → (W → ℕ → ErrorKind → W → Type 0) → (W → W → Type 0) → OutputStream W
 output_stream contents refuses flushes = record { contents = contents; refuses = refuses; flushes = flushes }
 

@@ -27,6 +27,7 @@ abbrev pub value_count : Field → ℕ
 value_count (Unsigned n) = 1
 value_count Align = 0
 
+-- the value of a kind, or why there is none
 abbrev pub some_value : {A : Type 0} → (A → FieldValue) → Result A Reason → Result (Option FieldValue) Reason
 some_value kind (Ok v) = Ok (Some (kind v))
 some_value kind (Err why) = Err why
@@ -42,6 +43,7 @@ abbrev pub value_list : Option FieldValue → List FieldValue
 value_list None = []
 value_list (Some v) = v ∷ []
 
+-- the value of field number k in front of the others, or its fault
 abbrev pub value_and : ℕ → Result (Option FieldValue) Reason → Result (List FieldValue) Fault → Result (List FieldValue) Fault
 value_and k (Err why) others = Err (fault k why)
 value_and k (Ok None) others = others

@@ -8,6 +8,7 @@ use Rattle.bitstream_count.specs.declared.checked_error.CheckedError.TheVariants
 abbrev pub HoldsUnsigned : ℕ → ℕ → ℕ → Type 0
 HoldsUnsigned size n v = (n ≤ size) × (v < 2 ^ n)
 
+-- a signed type has n bits, and x fits in them
 abbrev pub HoldsSigned : ℕ → ℕ → ℤ → Type 0
 HoldsSigned size n x = (n ≤ size) × FitsSignedBits n x
 
@@ -25,6 +26,7 @@ abbrev pub ExceedsSignedBits : ℕ → ℤ → Type 0
 ExceedsSignedBits n (pos k) = 2 ^ (n - 1) ≤ k
 ExceedsSignedBits n (negsuc k) = 2 ^ (n - 1) ≤ k
 
+-- why a signed value is not accepted in n bits
 abbrev pub RefusesSigned : ℕ → ℕ → ℤ → CheckedError → Type 0
 RefusesSigned size n x ExcessiveBits = size < n
 RefusesSigned size n x ExcessiveValue = (n ≤ size) × ExceedsSignedBits n x

@@ -42,11 +42,13 @@ abbrev pub longer : {A : Type 0} → ℕ → Front A → Front A
 longer n TooShort = TooShort
 longer n (Takes m answer) = Takes (n + m) answer
 
+-- one front, and behind it another that may depend on its answer; an error ends both
 abbrev pub front_then : {A B : Type 0} → Front A → (ℕ → A → Front B) → Front B
 front_then TooShort f = TooShort
 front_then (Takes n (Ok a)) f = longer n (f n a)
 front_then (Takes n (Err e)) f = Takes n (Err e)
 
+-- one result, and from its value another; an error stays
 abbrev pub result_then : {A B : Type 0} → Result A Error → (A → Result B Error) → Result B Error
 result_then (Ok a) f = f a
 result_then (Err e) f = Err e

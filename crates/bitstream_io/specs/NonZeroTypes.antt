@@ -14,34 +14,42 @@ use Rattle.bitstream_value.specs.contracts.integer.non_zero.NonZeroU32NonZeroInt
 use Rattle.bitstream_value.specs.contracts.integer.non_zero.NonZeroU64NonZeroInteger.TheImpl as u64s
 use Rattle.bitstream_value.specs.contracts.integer.non_zero.NonZeroU128NonZeroInteger.TheImpl as u128s
 
--- the value of n + 1
+-- the value of n + 1 as a `NonZero<u8>`
 abbrev pub non_zero_u8 : ℕ → NonZeroU8
 non_zero_u8 n = u8s.after-value.it n
 
+-- the value of n + 1 as a `NonZero<u16>`
 abbrev pub non_zero_u16 : ℕ → NonZeroU16
 non_zero_u16 n = u16s.after-value.it n
 
+-- the value of n + 1 as a `NonZero<u32>`
 abbrev pub non_zero_u32 : ℕ → NonZeroU32
 non_zero_u32 n = u32s.after-value.it n
 
+-- the value of n + 1 as a `NonZero<u64>`
 abbrev pub non_zero_u64 : ℕ → NonZeroU64
 non_zero_u64 n = u64s.after-value.it n
 
+-- the value of n + 1 as a `NonZero<u128>`
 abbrev pub non_zero_u128 : ℕ → NonZeroU128
 non_zero_u128 n = u128s.after-value.it n
 
--- the read of a value in n bits
+-- the read of a `NonZero<u8>` in n bits
 abbrev pub non_zero_u8_entry : Order → ℕ → ReadEntry NonZeroU8
 non_zero_u8_entry o n = non_zero_entry non_zero_u8 o 8 n
 
+-- the read of a `NonZero<u16>` in n bits
 abbrev pub non_zero_u16_entry : Order → ℕ → ReadEntry NonZeroU16
 non_zero_u16_entry o n = non_zero_entry non_zero_u16 o 16 n
 
+-- the read of a `NonZero<u32>` in n bits
 abbrev pub non_zero_u32_entry : Order → ℕ → ReadEntry NonZeroU32
 non_zero_u32_entry o n = non_zero_entry non_zero_u32 o 32 n
 
+-- the read of a `NonZero<u64>` in n bits
 abbrev pub non_zero_u64_entry : Order → ℕ → ReadEntry NonZeroU64
 non_zero_u64_entry o n = non_zero_entry non_zero_u64 o 64 n
 
+-- the read of a `NonZero<u128>` in n bits
 abbrev pub non_zero_u128_entry : Order → ℕ → ReadEntry NonZeroU128
 non_zero_u128_entry o n = non_zero_entry non_zero_u128 o 128 n

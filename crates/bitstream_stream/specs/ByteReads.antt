@@ -9,6 +9,7 @@ use Rattle.bitstream_number.specs.Word.{Order}
 use Rattle.bitstream_order.specs.Fault.{read_refusal_of}
 use Rattle.bitstream_order.specs.Refusal.{Refusal, IsTrueEnd}
 
+-- what a state of a reader of bytes tells
 pub record ByteReaderState : Type 0 where
   -- the bytes left in the stream, where it tells them, and how many were taken so far
   pub bytes : Option (List ℕ)

@@ -10,6 +10,7 @@ use Rattle.bitstream_number.specs.Word.{Order, bits}
 use Rattle.bitstream_order.specs.Fault.{read_refusal_of}
 use Rattle.bitstream_order.specs.Refusal.{Refusal, IsTrueEnd}
 
+-- what a state of a reader tells
 pub record ReaderState : Type 0 where
   -- the bits of the bytes fetched that were not taken, and the bytes left in the stream, where it tells
   pub held : List Bool

@@ -17,29 +17,35 @@ use Rattle.bitstream_stream.specs.declared.writer.BitWriter.{BitWriter}
 use Rattle.bitstream_stream.specs.declared.byte_reader.ByteReader.{ByteReader}
 use Rattle.bitstream_stream.specs.declared.byte_writer.ByteWriter.{ByteWriter}
 
--- the stream of each
+-- the stream of a reader
 abbrev pub reader_stream : {R E : Type 0} → BitReader R E → R
 reader_stream reader = held_stream reader.port
 
+-- the stream of a writer
 abbrev pub writer_stream : {W E : Type 0} → BitWriter W E → W
 writer_stream writer = held_stream writer.port
 
+-- the stream of a reader of bytes
 abbrev pub byte_reader_stream : {R E : Type 0} → ByteReader R E → R
 byte_reader_stream reader = held_stream reader.port
 
+-- the stream of a writer of bytes
 abbrev pub byte_writer_stream : {W E : Type 0} → ByteWriter W E → W
 byte_writer_stream writer = held_stream writer.port
 
--- each as it was, but for its stream
+-- a reader as it was, but for its stream
 abbrev pub reader_with : {R E : Type 0} → BitReader R E → R → BitReader R E
 reader_with reader stream = record reader { port = with_stream reader.port stream }
 
+-- a writer as it was, but for its stream
 abbrev pub writer_with : {W E : Type 0} → BitWriter W E → W → BitWriter W E
 writer_with writer stream = record writer { port = with_stream writer.port stream }
 
+-- a reader of bytes as it was, but for its stream
 abbrev pub byte_reader_with : {R E : Type 0} → ByteReader R E → R → ByteReader R E
 byte_reader_with reader stream = record reader { port = with_stream reader.port stream }
 
+-- a writer of bytes as it was, but for its stream
 abbrev pub byte_writer_with : {W E : Type 0} → ByteWriter W E → W → ByteWriter W E
 byte_writer_with writer stream = record writer { port = with_stream writer.port stream }
 
@@ -59,16 +65,19 @@ aligned_reader reader = record {
   empty = λ _. refl;
 }
 
--- the name of the reference through which each reaches a stream that was lent
+-- the name of the reference through which a reader reaches a stream that was lent
 abbrev pub reader_name : {R E : Type 0} → BitReader (Lent R) E → GName
 reader_name reader = (held_stream reader.port).at.ghost_name
 
+-- the name of the reference through which a writer reaches a stream that was lent
 abbrev pub writer_name : {W E : Type 0} → BitWriter (Lent W) E → GName
 writer_name writer = (held_stream writer.port).at.ghost_name
 
+-- the name of the reference through which a reader of bytes reaches a stream that was lent
 abbrev pub byte_reader_name : {R E : Type 0} → ByteReader (Lent R) E → GName
 byte_reader_name reader = (held_stream reader.port).at.ghost_name
 
+-- the name of the reference through which a writer of bytes reaches a stream that was lent
 abbrev pub byte_writer_name : {W E : Type 0} → ByteWriter (Lent W) E → GName
 byte_writer_name writer = (held_stream writer.port).at.ghost_name
 
@@ -79,10 +88,11 @@ pub record IsWriterWith {W E : Type 0} (old : BitWriter W E) (stream : W) (new :
   pub queued : new.queued ≡ old.queued
   pub failed : new.failed ≡ old.failed
 
--- what an aligned writer's stream is, and what the writer ends as where that was lent
+-- what the stream of an aligned writer is
 abbrev pub IsAlignedStream : {W E : Type 0} → Sink (BitWriter W E) → BitWriter W E → W → Type 0
 IsAlignedStream {W} {E} K old stream = (aligned : BitWriter W E) × Writes {T = Unit {0}} K align old (Ok tt) aligned × (stream ≡ writer_stream aligned)
 
+-- what an aligned writer ends as if its stream was lent
 abbrev pub EndsAligned : {W E : Type 0} → Sink (BitWriter W E) → BitWriter W E → BitWriter W E → W → Type 0
 EndsAligned {W} {E} K old new stream = (aligned : BitWriter W E) × Writes {T = Unit {0}} K align old (Ok tt) aligned × IsWriterWith aligned stream new
 

@@ -11,8 +11,10 @@ abbrev pub value_of : {T : Type 0} → (o : Option T) → is_some o ≡ true →
 value_of None there = absurd (false≢true there)
 value_of (Some x) there = x
 
+-- the nodes of a tree, as they stand in memory
 abbrev pub table : {S A : Type 0} → HuffmanTree S A → List (Node S)
 table code = code.nodes.items
 
+-- the tree that the nodes stand for
 unfoldable pub tree_of : {S A : Type 0} → HuffmanTree S A → Tree S
 tree_of code = value_of (table_tree (table code)) code.is_table

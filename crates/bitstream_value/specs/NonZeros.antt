@@ -13,6 +13,7 @@ unfoldable pub non_zero_entry : {A : Type 0} → (ℕ → A) → Order → ℕ �
 non_zero_entry after o size n =
     if nat_lt n size then chain (unsigned_entry o size n) (λ v. gives (after v)) else refuses NonZeroWidth
 
+-- the word of a number v that is not 0: that of v - 1
 unfoldable pub non_zero : Order → ℕ → ℕ → ℕ → WriteEntry
 non_zero o size n v = if nat_lt n size then unsigned o size n (v - 1) else λ _. Err NonZeroWidth
 
@@ -30,9 +31,11 @@ abbrev pub number_or_zero : {A : Type 0} → (A → ℕ) → Option A → ℕ
 number_or_zero number None = 0
 number_or_zero number (Some x) = number x
 
+-- a number that may be 0, of a type of `size` bits; `after` gives the value of v + 1, and 0 is `None`
 unfoldable pub option_entry : {A : Type 0} → (ℕ → A) → Order → ℕ → ℕ → ReadEntry (Option A)
 option_entry after o size n = chain (unsigned_entry o size n) (λ v. gives (if_any after v))
 
+-- such a number in groups of `field` bits
 unfoldable pub option_vbr_entry : {A : Type 0} → (ℕ → A) → Order → ℕ → ℕ → ReadEntry (Option A)
 option_vbr_entry after o field size = chain (vbr_entry o field size (2 ^ size)) (λ v. gives (if_any after v))
 

@@ -33,6 +33,7 @@ first_path same (leaf x) s = if same x s then Some [] else None
 first_path same (node a b) s =
     or_else (option_map (λ w. false ∷ w) (first_path same a s)) (option_map (λ w. true ∷ w) (first_path same b s))
 
+-- a list, or the empty one if there is none
 abbrev pub or_nothing : {A : Type 0} → Option (List A) → List A
 or_nothing None = []
 or_nothing (Some xs) = xs
