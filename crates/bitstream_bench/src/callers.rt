@@ -3,6 +3,7 @@ use bitstream_callers::header::{Header, version};
 use bitstream_callers::stream_info::{StreamInfo, sample_rate};
 use bitstream_callers::telemetry::{Sample, heartbeat};
 use bitstream_io::{BE, BitReader, BitWriter, Error};
+use std::alloc::Global;
 use std::test::Fail;
 
 /// The first 18 bytes of a STREAMINFO block.
@@ -11,60 +12,67 @@ const BLOCK: [u8; 18] = [
     0xa6, 0xcc,
 ];
 
-#[test]
-fn parses_a_stream_info(rt: HostRuntime) -> Result<(), Fail> {
-    let info = StreamInfo::parse(&BLOCK)?;
-    assert_eq!(rt;
-        (info.minimum_block_size, info.maximum_block_size),
-        (4096, 4096)
-    );
-    assert_eq!(rt;
-        (info.minimum_frame_size, info.maximum_frame_size),
-        (1542, 8546)
-    );
-    assert_eq!(rt; info.sample_rate, 44100);
-    assert_eq!(rt; (info.channels.get(), info.bits_per_sample.get()), (2, 16));
-    assert_eq!(rt; info.total_samples, 304844);
-    assert_eq!(rt; sample_rate(&BLOCK)?, 44100);
-    assert!(rt; matches!(StreamInfo::parse(&BLOCK[..17]), Err(Error::EndOfInput)));
-    Ok(())
+/// The fields of a block, in their order, and the samples a second once more.
+fn fields(block: &[u8]) -> Result<[u64; 9], Error> {
+    let info = StreamInfo::parse(block)?;
+    Ok([
+        u64::from(info.minimum_block_size),
+        u64::from(info.maximum_block_size),
+        u64::from(info.minimum_frame_size),
+        u64::from(info.maximum_frame_size),
+        u64::from(info.sample_rate),
+        u64::from(info.channels.get()),
+        u64::from(info.bits_per_sample.get()),
+        info.total_samples,
+        u64::from(sample_rate(block)?),
+    ])
 }
 
 #[test]
-fn packs_a_sample(rt: HostRuntime) -> Result<(), Fail> {
+fn parses_a_stream_info(rt: HostRuntime) -> Result<(), Fail> {
+    let wanted = [4096, 4096, 1542, 8546, 44100, 2, 16, 304844, 44100];
+    assert_eq!(rt; fields(&BLOCK)?, wanted);
+    assert!(rt; matches!(fields(&BLOCK[..17]), Err(Error::EndOfInput)));
+    Ok(())
+}
+
+/// Whether a sample and a heartbeat are these bytes.
+fn packs(alloc: Global, sample: Sample, packed: &[u8], beat: &[u8]) -> Result<bool, Error> {
+    let bytes = sample.pack(alloc)?;
+    let byte = heartbeat(alloc, 5, true)?;
+    Ok(bytes.as_slice() == packed && byte.as_slice() == beat)
+}
+
+/// Whether a header is these bytes, and they this header, of this version.
+fn goes_back(alloc: Global, header: Header, bytes: &[u8]) -> Result<bool, Error> {
+    let mut written = Vec::new(alloc);
+    header.write(&mut BitWriter::<_, BE>::new(&mut written))?;
+    let said = version(bytes)?;
+    let read = Header::read(&mut BitReader::<_, BE>::new(bytes))?;
+    Ok(written.as_slice() == bytes && read == header && said == header.version)
+}
+
+#[test]
+fn packs_a_sample_and_a_header(rt: HostRuntime) -> Result<(), Fail> {
     let sample = Sample {
         seconds: 0x12345,
         running: true,
         temperature: -20,
         pressure: 101325,
     };
-    let bytes = sample.pack(rt.alloc())?;
-    assert_eq!(rt;
-        bytes.as_slice(),
-        [0x12, 0x34, 0x5f, 0xb1, 0x8b, 0xcd].as_slice()
-    );
-    assert_eq!(rt;
-        heartbeat(rt.alloc(), 5, true)?.as_slice(),
-        [0x0b].as_slice()
-    );
-    Ok(())
-}
-
-#[test]
-fn reads_the_header_that_was_written(rt: HostRuntime) -> Result<(), Fail> {
     let header = Header {
         version: 5,
         acknowledge: true,
         priority: -2,
         length: 0x0203,
     };
-    let mut bytes = Vec::new(rt.alloc());
-    header.write(&mut BitWriter::<_, BE>::new(&mut bytes))?;
-    assert_eq!(rt; bytes.as_slice(), [0xbe, 0x02, 0x03].as_slice());
-    assert_eq!(rt; version(&bytes)?, 5);
-    assert_eq!(rt;
-        Header::read(&mut BitReader::<_, BE>::new(bytes.as_slice()))?,
-        header
-    );
+    let packed = packs(
+        rt.alloc(),
+        sample,
+        &[0x12, 0x34, 0x5f, 0xb1, 0x8b, 0xcd],
+        &[0x0b],
+    )?;
+    let back = goes_back(rt.alloc(), header, &[0xbe, 0x02, 0x03])?;
+    assert!(rt; packed && back);
     Ok(())
 }

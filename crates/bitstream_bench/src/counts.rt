@@ -43,21 +43,12 @@ fn checks<U: UnsignedInteger>(five: U) -> [bool; 6]
     ]
 }
 
-fn unsigned<U: UnsignedInteger>(rt: &impl Abort, five: U)
+/// Whether all of that holds of 5.
+fn unsigned<U: UnsignedInteger>(five: U) -> bool
     requires five { U.value five ≡ 5 }
     requires size { 8 ≤ U.BITS_SIZE }
 {
-    assert_eq!(rt; counts(five), [true; 6]);
-    assert_eq!(rt; checks(five), [true; 6]);
-}
-
-#[test]
-fn each_unsigned_type(rt: HostRuntime) {
-    unsigned::<u8>(&rt, 5);
-    unsigned::<u16>(&rt, 5);
-    unsigned::<u32>(&rt, 5);
-    unsigned::<u64>(&rt, 5);
-    unsigned::<u128>(&rt, 5);
+    counts(five) == [true; 6] && checks(five) == [true; 6]
 }
 
 /// Whether the constructors take 5 and -3, and the range of three bits is between these.
@@ -79,13 +70,32 @@ fn signed_counts<S: SignedInteger>(five: S, less: S) -> [bool; 7]
     ]
 }
 
+/// Whether all of that holds of 5 and -3.
+fn signed<S: SignedInteger>(five: S, less: S) -> bool
+    requires five { S.integer five ≡ pos 5 }
+    requires less { S.integer less ≡ negsuc 2 }
+    requires size { 8 ≤ S.BITS_SIZE }
+{
+    signed_counts(five, less) == [true; 7]
+}
+
 #[test]
-fn each_signed_type(rt: HostRuntime) {
-    assert_eq!(rt; signed_counts::<i8>(5, -3), [true; 7]);
-    assert_eq!(rt; signed_counts::<i16>(5, -3), [true; 7]);
-    assert_eq!(rt; signed_counts::<i32>(5, -3), [true; 7]);
-    assert_eq!(rt; signed_counts::<i64>(5, -3), [true; 7]);
-    assert_eq!(rt; signed_counts::<i128>(5, -3), [true; 7]);
+fn each_type(rt: HostRuntime) {
+    let unsigned = [
+        unsigned::<u8>(5),
+        unsigned::<u16>(5),
+        unsigned::<u32>(5),
+        unsigned::<u64>(5),
+        unsigned::<u128>(5),
+    ];
+    let signed = [
+        signed::<i8>(5, -3),
+        signed::<i16>(5, -3),
+        signed::<i32>(5, -3),
+        signed::<i64>(5, -3),
+        signed::<i128>(5, -3),
+    ];
+    assert_eq!(rt; (unsigned, signed), ([true; 5], [true; 5]));
 }
 
 /// The sum and the difference of 5 bits and so many, of at most 16 and 8 bits.
@@ -187,19 +197,25 @@ fn ends_of_signed_widths(rt: &impl Abort) {
             assert!(rt; refused(bits, value) == want, "{value} at {bits} bits");
         }
     }
-    assert_eq!(rt; refused(8, -128), None);
-    assert_eq!(rt; refused(9, 0), Some(CheckedError::ExcessiveBits));
 }
 
-/// In four bits, 5 behind a sign bit of 1 is -3.
-fn signs_of_four_bits(rt: &impl Abort) {
-    assert_eq!(rt; UnsignedInteger::as_negative(5u8, 4), -3);
-    assert_eq!(rt; SignedInteger::as_negative(-3i8, 4), 5);
+/// What the widths of all bits of the type and of one more are refused for; and that in four bits 5
+/// behind a sign bit of 1 is -3.
+fn whole_widths_and_signs(rt: &impl Abort) {
+    assert_eq!(rt;
+        (
+            refused(8, -128),
+            refused(9, 0),
+            UnsignedInteger::as_negative(5u8, 4),
+            SignedInteger::as_negative(-3i8, 4)
+        ),
+        (None, Some(CheckedError::ExcessiveBits), -3, 5)
+    );
 }
 
 #[test]
 fn r02_numbers_counts(rt: HostRuntime) {
-    signs_of_four_bits(&rt);
+    whole_widths_and_signs(&rt);
     sums_of_counts(&rt);
     ranges_of_counts(&rt);
     parts_of_numbers(&rt);

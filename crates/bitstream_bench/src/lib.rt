@@ -25,14 +25,8 @@ mod numbers;
 mod own;
 mod refuse;
 mod refuse_once;
-#[cfg(test)]
-mod runs;
 pub mod sign_code;
-#[cfg(test)]
-mod streams;
 pub mod sure;
-#[cfg(test)]
-mod variable_width;
 #[cfg(test)]
 mod whole_bytes;
 #[cfg(test)]

@@ -6,38 +6,31 @@ use bitstream_io::laws::{
     signed_shifts_round_down, unsigned_bytes_go_back,
 };
 use bitstream_io::{Bits, Numeric, Primitive, SignedInteger, UnsignedInteger};
-use std::process::Abort;
 
-/// A value's bytes in either order, and back.
-fn there_and_back<V: Primitive + Copy>(value: V) -> [V; 2] {
+/// Whether a value comes back from its bytes in either order.
+fn comes_back<V: Primitive + Copy + PartialEq>(value: V) -> bool {
     let mut buffer = V::buffer();
     let bytes = value.to_be_bytes();
     V::as_bytes_mut(&mut buffer).copy_from_slice(V::as_bytes(&bytes));
-    [
-        V::from_be_bytes(buffer),
-        V::from_le_bytes(value.to_le_bytes()),
-    ]
+    V::from_be_bytes(buffer) == value && V::from_le_bytes(value.to_le_bytes()) == value
 }
 
 #[test]
 fn bytes_go_there_and_back(rt: HostRuntime) {
-    assert_eq!(rt; there_and_back(0x12u8), [0x12; 2]);
-    assert_eq!(rt; there_and_back(0x1234u16), [0x1234; 2]);
-    assert_eq!(rt; there_and_back(0x12345678u32), [0x12345678; 2]);
-    assert_eq!(rt;
-        there_and_back(0x123456789ABCDEF0u64),
-        [0x123456789ABCDEF0; 2]
-    );
-    assert_eq!(rt; there_and_back(u128::MAX - 0x1234), [u128::MAX - 0x1234; 2]);
-    assert_eq!(rt; there_and_back(-2i8), [-2; 2]);
-    assert_eq!(rt; there_and_back(-300i16), [-300; 2]);
-    assert_eq!(rt; there_and_back(-70000i32), [-70000; 2]);
-    assert_eq!(rt; there_and_back(-5000000000i64), [-5000000000; 2]);
-    assert_eq!(rt;
-        there_and_back(-20000000000000000000i128),
-        [-20000000000000000000; 2]
-    );
-    assert_eq!(rt; there_and_back([1u8, 2, 3]), [[1, 2, 3]; 2]);
+    let back = [
+        comes_back(0x12u8),
+        comes_back(0x1234u16),
+        comes_back(0x12345678u32),
+        comes_back(0x123456789ABCDEF0u64),
+        comes_back(u128::MAX - 0x1234),
+        comes_back(-2i8),
+        comes_back(-300i16),
+        comes_back(-70000i32),
+        comes_back(-5000000000i64),
+        comes_back(-20000000000000000000i128),
+        comes_back([1u8, 2, 3]),
+    ];
+    assert_eq!(rt; back, [true; 11]);
 }
 
 /// Whether the operators give of 5 and 3 what they should.
@@ -78,27 +71,30 @@ fn assigns<N: Numeric>(five: N, three: N) -> [bool; 2]
     [joined, value == N::from_u8(2)]
 }
 
-fn numeric<N: Numeric>(rt: &impl Abort, five: N, three: N)
+/// Whether all of that holds of 5 and 3.
+fn numeric<N: Numeric>(five: N, three: N) -> bool
     requires five { N.integer five ≡ pos 5 }
     requires three { N.integer three ≡ pos 3 }
     requires size { 8 ≤ N.BITS_SIZE }
 {
-    assert_eq!(rt; operates(five, three), [true; 9]);
-    assert_eq!(rt; assigns(five, three), [true; 2]);
+    operates(five, three) == [true; 9] && assigns(five, three) == [true; 2]
 }
 
 #[test]
 fn operators_of_each_type(rt: HostRuntime) {
-    numeric::<u8>(&rt, 5, 3);
-    numeric::<u16>(&rt, 5, 3);
-    numeric::<u32>(&rt, 5, 3);
-    numeric::<u64>(&rt, 5, 3);
-    numeric::<u128>(&rt, 5, 3);
-    numeric::<i8>(&rt, 5, 3);
-    numeric::<i16>(&rt, 5, 3);
-    numeric::<i32>(&rt, 5, 3);
-    numeric::<i64>(&rt, 5, 3);
-    numeric::<i128>(&rt, 5, 3);
+    let right = [
+        numeric::<u8>(5, 3),
+        numeric::<u16>(5, 3),
+        numeric::<u32>(5, 3),
+        numeric::<u64>(5, 3),
+        numeric::<u128>(5, 3),
+        numeric::<i8>(5, 3),
+        numeric::<i16>(5, 3),
+        numeric::<i32>(5, 3),
+        numeric::<i64>(5, 3),
+        numeric::<i128>(5, 3),
+    ];
+    assert_eq!(rt; right, [true; 10]);
 }
 
 /// Whether what unsigned numbers alone have gives of 5 and 3 what it should.
@@ -119,15 +115,6 @@ fn shifts<U: UnsignedInteger>(five: U, three: U) -> [bool; 8]
     ]
 }
 
-#[test]
-fn each_unsigned_type(rt: HostRuntime) {
-    assert_eq!(rt; shifts::<u8>(5, 3), [true; 8]);
-    assert_eq!(rt; shifts::<u16>(5, 3), [true; 8]);
-    assert_eq!(rt; shifts::<u32>(5, 3), [true; 8]);
-    assert_eq!(rt; shifts::<u64>(5, 3), [true; 8]);
-    assert_eq!(rt; shifts::<u128>(5, 3), [true; 8]);
-}
-
 /// Whether 5 and -3 have the signs that they should.
 fn signs<S: SignedInteger>(five: S, less: S) -> [bool; 5]
     requires five { S.integer five ≡ pos 5 }
@@ -145,12 +132,22 @@ fn signs<S: SignedInteger>(five: S, less: S) -> [bool; 5]
 }
 
 #[test]
-fn each_signed_type(rt: HostRuntime) {
-    assert_eq!(rt; signs::<i8>(5, -3), [true; 5]);
-    assert_eq!(rt; signs::<i16>(5, -3), [true; 5]);
-    assert_eq!(rt; signs::<i32>(5, -3), [true; 5]);
-    assert_eq!(rt; signs::<i64>(5, -3), [true; 5]);
-    assert_eq!(rt; signs::<i128>(5, -3), [true; 5]);
+fn each_type(rt: HostRuntime) {
+    let shifted = [
+        shifts::<u8>(5, 3),
+        shifts::<u16>(5, 3),
+        shifts::<u32>(5, 3),
+        shifts::<u64>(5, 3),
+        shifts::<u128>(5, 3),
+    ];
+    let signed = [
+        signs::<i8>(5, -3),
+        signs::<i16>(5, -3),
+        signs::<i32>(5, -3),
+        signs::<i64>(5, -3),
+        signs::<i128>(5, -3),
+    ];
+    assert_eq!(rt; (shifted, signed), ([[true; 8]; 5], [[true; 5]; 5]));
 }
 
 /// A number above three bits and one of these.
@@ -163,10 +160,12 @@ fn joined<U: UnsignedInteger>(high: U, low: U) -> U
 
 #[test]
 fn laws_return_their_numbers(rt: HostRuntime) {
-    assert_eq!(rt; masks_are_remainders(5u8, 2), 1);
-    assert_eq!(rt; shifts_past_the_size_are_zero(5u8, 128), (0, 0));
-    assert_eq!(rt; joined(40u8, 5), 45);
-    assert_eq!(rt; unsigned_bytes_go_back(5u16), (5, 5));
-    assert_eq!(rt; signed_bytes_go_back(-3i16), (-3, -3));
-    assert_eq!(rt; signed_shifts_round_down(-3i8, 1), -2);
+    let small = (
+        masks_are_remainders(5u8, 2),
+        shifts_past_the_size_are_zero(5u8, 128),
+        joined(40u8, 5),
+        signed_shifts_round_down(-3i8, 1),
+    );
+    let bytes = (unsigned_bytes_go_back(5u16), signed_bytes_go_back(-3i16));
+    assert_eq!(rt; (small, bytes), ((1, (0, 0), 45, -2), ((5, 5), (-3, -3))));
 }

@@ -1,12 +1,13 @@
-//! Readers and a writer of a user's own, which give the required calls alone. The other calls mean
-//! what they mean for the library's.
+//! Readers, a writer and a prefix code of a user's own. The readers and the writer give the required calls
+//! alone; the other calls mean what they mean for the library's.
 ghost use Rattle.bitstream_io.specs.ByteReads.{inner_byte_source};
 ghost use Rattle.bitstream_io.specs.Reads.{inner_source};
 ghost use Rattle.bitstream_io.specs.Sink.{inner_sink};
 
+use crate::sign_code::{read_sign, write_sign};
 use bitstream_io::{
     BE, BitCount, BitRead, BitReadExt, BitReader, BitWrite, BitWriteExt, BitWriter, Bits, ByteRead,
-    ByteReader, Count, Endianness, Error, LE, Primitive, SignedCount, SignedInteger,
+    ByteReader, Count, Endianness, Error, LE, Primitive, SignedCount, SignedInteger, Slice,
     UnsignedInteger,
 };
 use std::alloc::Global;
@@ -95,65 +96,121 @@ impl<W: BitWrite> BitWrite for OwnWriter<W> {
     }
 }
 
-/// Each call that a writer of one's own inherits, once.
-fn writes_each<W: BitWrite>(writer: &mut W) -> Result<(), Error> {
-    writer.write_bit(true)?;
+/// Takes a writer by value, and writes a bit.
+fn writes_first<W: BitWrite + Drop>(mut writer: W) -> Result<(), Error> {
+    writer.write_bit(true)
+}
+
+/// Words, by the calls that a writer of one's own inherits, the first of them by a lent writer.
+fn writes_words<W: BitWrite>(writer: &mut W) -> Result<(), Error> {
+    writes_first(writer.by_ref())?;
     writer.write_unsigned::<Bits<4>, u8>(9)?;
     writer.write_signed::<Bits<5>, i16>(-7)?;
     writer.write_const::<Bits<3>, Bits<6>>()?;
     writer.write_count(BitCount::<7>::new::<5>())?;
     writer.write_var::<[bool; 2]>(1, [true, false])?;
-    writer.byte_align()?;
+    writer.byte_align()
+}
+
+/// Whole bytes, by those calls.
+fn writes_bytes<W: BitWrite>(writer: &mut W) -> Result<(), Error> {
     writer.write_bit(true)?;
     writer.write_bytes(&[0x1e, 0xd3])?;
     writer.pad(130)?;
     writer.write_as_from::<LE, u16>(0x1234)?;
-    writer.byte_align()?;
-    writer.write_unsigned_vbr::<Bits<4>, u8>(8)?;
-    writer.write_signed_vbr::<Bits<4>, i8>(-128)?;
     writer.byte_align()
 }
 
-/// What they write.
-const WRITTEN: [u8; 27] = [
-    0xce, 0x75, 0x80, 0x8f, 0x69, 0x80, 0, 0, 0, 0, 0, 0, 0, 0, 0, 0, 0, 0, 0, 0, 0, 0x06, 0x82,
-    0x40, 0x81, 0xff, 0x30,
-];
-
-#[test]
-fn inherited_writes_are_the_same(rt: HostRuntime) -> Result<(), Fail> {
-    let mut plain = Vec::new(rt.alloc());
-    writes_each(&mut BitWriter::<_, BE>::new(&mut plain))?;
-    assert_eq!(rt; plain.as_slice(), WRITTEN.as_slice());
-    let mut own = Vec::new(rt.alloc());
-    writes_each(&mut OwnWriter {
-        inner: BitWriter::<_, BE>::new(&mut own),
-    })?;
-    assert_eq!(rt; own.as_slice(), plain.as_slice());
-    Ok(())
+/// Numbers of variable width, and signs by a code of one's own.
+fn writes_codes<W: BitWrite>(writer: &mut W) -> Result<(), Error> {
+    writer.write_unsigned_vbr::<Bits<4>, u8>(8)?;
+    writer.write_signed_vbr::<Bits<4>, i8>(-128)?;
+    writer.byte_align()?;
+    writer.write_vbr::<Bits<4>, [i8; 2]>([-6, 119])?;
+    writer.byte_align()?;
+    for sign in SIGNS {
+        write_sign(writer, sign)?;
+    }
+    writer.byte_align()
 }
 
-/// Each call that a reader of one's own inherits, once.
-fn reads_each<R: BitRead>(reader: &mut R) -> Result<bool, Error> {
-    let first = reader.read_bit()?;
+/// The signs.
+const SIGNS: [Option<bool>; 3] = [Some(true), None, Some(false)];
+
+/// What the words, the bytes and the codes are.
+const WRITTEN: [u8; 31] = [
+    0xce, 0x75, 0x80, 0x8f, 0x69, 0x80, 0, 0, 0, 0, 0, 0, 0, 0, 0, 0, 0, 0, 0, 0, 0, 0x06, 0x82,
+    0x40, 0x81, 0xff, 0x30, 0xb1, 0xed, 0x30, 0xd0,
+];
+
+/// Writes numbers as runs, short and long, by each stop bit.
+fn writes_runs<W: BitWrite>(writer: &mut W) -> Result<(), Error> {
+    for value in 0..300 {
+        writer.write_unary::<Bits<0>>(value)?;
+        writer.write_unary::<Bits<1>>(value)?;
+    }
+    writer.byte_align()
+}
+
+/// Writes all of that.
+fn writes_each<W: BitWrite>(writer: &mut W) -> Result<(), Error> {
+    writes_words(writer)?;
+    writes_bytes(writer)?;
+    writes_codes(writer)?;
+    writes_runs(writer)
+}
+
+/// Takes a reader by value, and reads a bit.
+fn reads_first<R: BitRead + Drop>(mut reader: R) -> Result<bool, Error> {
+    reader.read_bit()
+}
+
+/// Reads the words, by the calls that a reader of one's own inherits, and tells whether they are the same.
+fn reads_words<R: BitRead>(reader: &mut R) -> Result<bool, Error> {
+    let first = reads_first(reader.by_ref())?;
     let unsigned = reader.read_unsigned::<Bits<4>, u8>()?;
     let signed = reader.read_signed::<Bits<5>, i16>()?;
     reader.read_const::<Bits<3>, Bits<6>, Error>(Error::Place)?;
     let count: BitCount<7> = reader.read_count()?;
-    let [yes, no] = reader.read_var::<[bool; 2]>(1)?;
+    let pair = reader.read_var::<[bool; 2]>(1)?;
     reader.byte_align();
+    let numbers = (unsigned, signed, count.bits());
+    Ok(first && numbers == (9, -7, 5) && pair == [true, false])
+}
+
+/// Reads the bytes so.
+fn reads_bytes<R: BitRead>(reader: &mut R) -> Result<bool, Error> {
     reader.skip(1)?;
     let mut bytes = [0; 1];
     reader.read_bytes(&mut bytes)?;
     let more = reader.read_to_bytes::<[u8; 1]>()?;
     reader.skip(130)?;
-    let bytes_read = bytes == [0x1e] && more == [0xd3] && reader.read_as_to::<LE, u16>()? == 0x1234;
+    let number = reader.read_as_to::<LE, u16>()?;
     reader.byte_align();
-    let groups_read = reader.read_unsigned_vbr::<Bits<4>, u8>()? == 8
-        && reader.read_signed_vbr::<Bits<4>, i8>()? == -128;
+    Ok(bytes == [0x1e] && more == [0xd3] && number == 0x1234)
+}
+
+/// Reads the numbers of variable width and the signs so.
+fn reads_codes<R: BitRead>(reader: &mut R) -> Result<bool, Error> {
+    let unsigned = reader.read_unsigned_vbr::<Bits<4>, u8>()?;
+    let signed = reader.read_signed_vbr::<Bits<4>, i8>()?;
     reader.byte_align();
-    let words_read = first && unsigned == 9 && signed == -7 && count.bits() == 5 && yes && !no;
-    Ok(groups_read && bytes_read && words_read)
+    let pair = reader.read_vbr::<Bits<4>, [i8; 2]>()?;
+    reader.byte_align();
+    let signs = [read_sign(reader)?, read_sign(reader)?, read_sign(reader)?];
+    reader.byte_align();
+    Ok((unsigned, signed) == (8, -128) && pair == [-6, 119] && signs == SIGNS)
+}
+
+/// Reads the runs so.
+fn reads_runs<R: BitRead>(reader: &mut R) -> Result<bool, Error> {
+    for value in 0..300 {
+        if reader.read_unary::<Bits<0>>()? != value || reader.read_unary::<Bits<1>>()? != value {
+            return Ok(false);
+        }
+    }
+    reader.byte_align();
+    Ok(true)
 }
 
 /// Whether a reader is at the end of its bytes, and fails there.
@@ -162,18 +219,29 @@ fn ends<R: BitRead>(reader: &mut R) -> bool {
         && matches!(reader.read_var::<bool>(2), Err(Error::Failed))
 }
 
-/// Whether a reader and one of one's own read each call the same.
-fn inherits_reads(bytes: &[u8]) -> Result<bool, Error> {
-    let mut own = OwnReader {
-        inner: BitReader::<_, BE>::new(bytes),
-    };
-    Ok(reads_each(&mut BitReader::<_, BE>::new(bytes))? && reads_each(&mut own)? && ends(&mut own))
+/// Reads all of that, and tells whether it is the same.
+fn reads_each<R: BitRead>(reader: &mut R) -> Result<bool, Error> {
+    let words = reads_words(reader)?;
+    let bytes = reads_bytes(reader)?;
+    let codes = reads_codes(reader)?;
+    let runs = reads_runs(reader)?;
+    Ok(words && bytes && codes && runs && ends(reader))
 }
 
-#[test]
-fn inherited_reads_are_the_same(rt: HostRuntime) -> Result<(), Fail> {
-    assert!(rt; inherits_reads(&WRITTEN)?);
-    Ok(())
+/// Whether a reader and a writer of one's own do what the library's do.
+fn inherits(alloc: Global) -> Result<bool, Error> {
+    let mut plain = Vec::new(alloc);
+    writes_each(&mut BitWriter::<_, BE>::new(&mut plain))?;
+    let mut own = Vec::new(alloc);
+    writes_each(&mut OwnWriter {
+        inner: BitWriter::<_, BE>::new(&mut own),
+    })?;
+    let written = plain.as_slice().starts_with(&WRITTEN) && own.as_slice() == plain.as_slice();
+    let read = reads_each(&mut BitReader::<_, BE>::new(plain.as_slice()))?;
+    let inherited = reads_each(&mut OwnReader {
+        inner: BitReader::<_, BE>::new(plain.as_slice()),
+    })?;
+    Ok(written && read && inherited)
 }
 
 /// A reader of bytes before another, to which it hands each required call.
@@ -198,62 +266,30 @@ impl<R: ByteRead> ByteRead for OwnBytes<R> {
     }
 }
 
-#[test]
-fn inherited_reads_of_bytes_are_the_same(rt: HostRuntime) -> Result<(), Fail> {
-    let mut own = OwnBytes {
-        inner: ByteReader::<_, BE>::new(&WRITTEN[..]),
-    };
+/// Each call that a reader of bytes of one's own inherits, once, and the end.
+fn reads_each_byte<R: ByteRead>(alloc: Global, reader: &mut R) -> Result<bool, Error> {
     let mut two = [0; 2];
-    own.read_bytes(&mut two)?;
-    assert_eq!(rt; two, [0xce, 0x75]);
-    assert_eq!(rt; own.read_to_bytes::<[u8; 3]>()?, [0x80, 0x8f, 0x69]);
-    assert_eq!(rt;
-        own.read_to_vec(rt.alloc(), 2)?.as_slice(),
-        [0x80, 0].as_slice()
-    );
-    let rest = own.read_to_vec(rt.alloc(), usize::MAX);
-    assert!(rt; matches!(rest, Err(Error::EndOfInput)));
-    Ok(())
+    reader.read_bytes(&mut two)?;
+    let three = reader.read_to_bytes::<[u8; 3]>()?;
+    let vector = reader.read_to_vec(alloc, 2)?;
+    let rest = reader.read_to_vec(alloc, usize::MAX);
+    let bytes_read = two == [0xce, 0x75] && three == [0x80, 0x8f, 0x69];
+    let ended = matches!(rest, Err(Error::EndOfInput));
+    Ok(bytes_read && ended && vector.as_slice() == [0x80, 0].as_slice())
 }
 
-/// Writes numbers as runs, short and long, by each stop bit.
-fn writes_runs<W: BitWrite>(writer: &mut W) -> Result<(), Error> {
-    for value in 0..300 {
-        writer.write_unary::<Bits<0>>(value)?;
-        writer.write_unary::<Bits<1>>(value)?;
-    }
-    writer.byte_align()
-}
-
-/// Reads them, and tells whether they are the same.
-fn reads_runs<R: BitRead>(reader: &mut R) -> Result<bool, Error> {
-    for value in 0..300 {
-        if reader.read_unary::<Bits<0>>()? != value || reader.read_unary::<Bits<1>>()? != value {
-            return Ok(false);
-        }
-    }
-    Ok(true)
-}
-
-/// Whether runs are the same bytes and the same numbers by what a reader and a writer inherit.
-fn inherits_runs<E: Endianness + Drop>(alloc: Global) -> Result<bool, Error> {
-    let mut plain = Vec::new(alloc);
-    writes_runs(&mut BitWriter::<_, E>::new(&mut plain))?;
-    let mut own = Vec::new(alloc);
-    writes_runs(&mut OwnWriter {
-        inner: BitWriter::<_, E>::new(&mut own),
-    })?;
-    let same = own.as_slice() == plain.as_slice();
-    let read = reads_runs(&mut BitReader::<_, E>::new(plain.as_slice()))?;
-    let inherited = reads_runs(&mut OwnReader {
-        inner: BitReader::<_, E>::new(plain.as_slice()),
-    })?;
-    Ok(same && read && inherited)
+/// Whether a reader of bytes of one's own reads them.
+fn inherits_bytes(alloc: Global, bytes: &[u8]) -> Result<bool, Error> {
+    let mut own = OwnBytes {
+        inner: ByteReader::<_, BE>::new(Slice::new(bytes)),
+    };
+    reads_each_byte(alloc, &mut own)
 }
 
 #[test]
-fn inherited_runs_are_the_same(rt: HostRuntime) -> Result<(), Fail> {
-    assert!(rt; inherits_runs::<BE>(rt.alloc())?);
-    assert!(rt; inherits_runs::<LE>(rt.alloc())?);
+fn inherited_calls_are_the_same(rt: HostRuntime) -> Result<(), Fail> {
+    let same = inherits(rt.alloc())?;
+    let same_bytes = inherits_bytes(rt.alloc(), &WRITTEN)?;
+    assert!(rt; same && same_bytes);
     Ok(())
 }

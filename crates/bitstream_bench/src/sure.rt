@@ -58,9 +58,10 @@ mod tests {
 
     #[test]
     fn reads_what_is_there(rt: HostRuntime) -> Result<(), Fail> {
-        assert_eq!(rt; first_word(&[0xb1, 0xed])?, 0xb1e);
-        assert_eq!(rt; first_track(&[0x2b])?.get(), 12);
-        assert_eq!(rt; first_words(&[0x80, 0xc0, 0x60, 0x20])?, [257, 257, 257]);
+        let word = first_word(&[0xb1, 0xed])?;
+        let track = first_track(&[0x2b])?.get();
+        let words = first_words(&[0x80, 0xc0, 0x60, 0x20])?;
+        assert_eq!(rt; (word, track, words), (0xb1e, 12, [257, 257, 257]));
         Ok(())
     }
 }

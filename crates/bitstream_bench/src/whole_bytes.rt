@@ -1,5 +1,5 @@
-//! Whole bytes: long vectors, skips and pads, how many requests they make, lengths that the stream does
-//! not have, and memory that is refused.
+//! Whole bytes: how many requests primitives and long vectors make, lengths that the stream does not
+//! have, and memory that is refused. Long skips and pads are worked rows of `bitstream_vectors`.
 use crate::{Count, Endless, RefuseMemory};
 use bitstream_io::{
     BE, BitRead, BitReader, BitWrite, BitWriter, ByteRead, ByteReader, Endianness, Error, LE,
@@ -19,194 +19,105 @@ fn pattern(alloc: Global, len: usize) -> Result<Vec<u8>, AllocError> {
     Ok(bytes)
 }
 
-/// What is written by so many bits and then bytes.
-fn written<E: Endianness>(alloc: Global, place: u32, bytes: &[u8]) -> Result<Vec<u8>, Error> {
-    let mut out = Vec::new(alloc);
-    let mut writer = BitWriter::<_, E>::new(&mut out);
+/// Writes so many bits and then bytes.
+fn writes_behind<W: BitWrite>(writer: &mut W, place: u32, bytes: &[u8]) -> Result<(), Error> {
     writer.write_unsigned_var(place, 1u8)?;
     writer.write_bytes(bytes)?;
-    writer.byte_align()?;
-    let _ = writer;
-    Ok(out)
+    writer.byte_align()
 }
 
-/// A stream whose requests are counted.
-fn counting<S>(inner: S) -> Count<S> {
-    Count {
-        inner,
-        requests: 0,
-        refused: 0,
-    }
-}
-
-/// How many requests 20 bytes make behind so many bits, with none for no bytes.
-fn requests(place: u32) -> Result<u64, Error> {
-    let mut count = counting([1u8; 32].as_slice());
-    let mut reader = BitReader::<_, BE>::new(&mut count);
-    let _: u8 = reader.read_unsigned_var(place)?;
-    let _: [u8; 20] = reader.read_to()?;
-    reader.read_bytes(&mut [])?;
-    let _ = reader;
-    Ok(count.requests)
-}
-
-#[test]
-fn requests_of_a_primitive(rt: HostRuntime) -> Result<(), Fail> {
-    assert_eq!(rt; requests(0)?, 1);
-    assert_eq!(rt; requests(1)?, 1 + 3);
-    Ok(())
-}
-
-/// How many requests a vector makes behind so many bits, where its bytes are these.
-fn vector<E: Endianness>(alloc: Global, place: u32, bytes: &[u8]) -> Result<Option<u64>, Error> {
-    let whole = written::<E>(alloc, place, bytes)?;
-    let mut count = counting(whole.as_slice());
-    let mut reader = BitReader::<_, E>::new(&mut count);
-    let _: u8 = reader.read_unsigned_var(place)?;
-    let read = reader.read_to_vec(alloc, bytes.len())?;
-    let _ = reader;
-    Ok((read.as_slice() == bytes).then_some(count.requests))
-}
-
-#[test]
-fn long_vectors_go_in_pieces(rt: HostRuntime) -> Result<(), Fail> {
-    let bytes = pattern(rt.alloc(), 9000)?;
-    for (place, requests) in [(0, 3), (3, 1 + 4 + 4 + 1)] {
-        let high = vector::<BE>(rt.alloc(), place, bytes.as_slice())?;
-        let low = vector::<LE>(rt.alloc(), place, bytes.as_slice())?;
-        assert_eq!(rt;
-            (high, low),
-            (Some(requests), Some(requests)),
-            "behind {place} bits"
-        );
-    }
-    Ok(())
-}
-
-/// The byte behind so many bits and others that are skipped, in one call or bit by bit, and how many
-/// requests were made.
-fn skipped<E: Endianness>(
-    bytes: &[u8],
+/// Reads so many bits and then bytes, and tells whether they are these: 20 of them as a primitive, with
+/// none behind it, and any other number as a vector.
+fn reads_behind<R: BitRead>(
+    alloc: Global,
+    reader: &mut R,
     place: u32,
-    bits: u32,
-    at_once: bool,
-) -> Result<(u8, u64), Error> {
-    let mut count = counting(bytes);
-    let mut reader = BitReader::<_, E>::new(&mut count);
+    bytes: &[u8],
+) -> Result<bool, Error> {
     let _: u8 = reader.read_unsigned_var(place)?;
-    if at_once {
-        reader.skip(bits)?;
-    } else {
-        for _ in 0..bits {
-            reader.read_bit()?;
-        }
+    if bytes.len() != 20 {
+        let read = reader.read_to_vec(alloc, bytes.len())?;
+        return Ok(read.as_slice() == bytes);
     }
-    let next = reader.read_unsigned_var(8)?;
-    let _ = reader;
-    Ok((next, count.requests))
+    let read: [u8; 20] = reader.read_to()?;
+    reader.read_bytes(&mut [])?;
+    Ok(read.as_slice() == bytes)
 }
 
-#[test]
-fn long_skips_go_in_pieces(rt: HostRuntime) -> Result<(), Fail> {
-    let bytes = pattern(rt.alloc(), 1100)?;
-    for (place, bits, requests) in [
-        (3, 131, 1 + 1 + 1 + 1),
-        (3, 8207, 1 + 2 + 1 + 1),
-        (0, 8192, 1 + 1),
-    ] {
-        let high = skipped::<BE>(bytes.as_slice(), place, bits, true)?;
-        let low = skipped::<LE>(bytes.as_slice(), place, bits, true)?;
-        assert_eq!(rt;
-            (high.1, low.1),
-            (requests, requests),
-            "{bits} bits behind {place}"
-        );
-        let each_high = skipped::<BE>(bytes.as_slice(), place, bits, false)?;
-        let each_low = skipped::<LE>(bytes.as_slice(), place, bits, false)?;
-        assert_eq!(rt;
-            (high.0, low.0),
-            (each_high.0, each_low.0),
-            "{bits} bits behind {place}"
-        );
-    }
-    Ok(())
-}
-
-/// What is written by so many ones, zeros, in one call or bit by bit, and a one, and how many requests
-/// were made.
-fn padded<E: Endianness>(
+/// Whether so many bits and these bytes behind them are read as they were written, by so many requests.
+fn goes_in<E: Endianness>(
     alloc: Global,
     place: u32,
-    bits: u32,
-    at_once: bool,
-) -> Result<(Vec<u8>, u64), Error> {
-    let mut count = counting(Vec::new(alloc));
-    let mut writer = BitWriter::<_, E>::new(&mut count);
-    for _ in 0..place {
-        writer.write_bit(true)?;
-    }
-    if at_once {
-        writer.pad(bits)?;
-    } else {
-        for _ in 0..bits {
-            writer.write_bit(false)?;
-        }
-    }
-    writer.write_bit(true)?;
-    writer.byte_align()?;
-    let _ = writer;
-    Ok((count.inner, count.requests))
+    bytes: &[u8],
+    requests: u64,
+) -> Result<bool, Error> {
+    let mut whole = Vec::new(alloc);
+    writes_behind(&mut BitWriter::<_, E>::new(&mut whole), place, bytes)?;
+    let mut count = Count {
+        inner: whole.as_slice(),
+        requests: 0,
+        refused: 0,
+    };
+    let same = reads_behind(alloc, &mut BitReader::<_, E>::new(&mut count), place, bytes)?;
+    Ok(same && count.requests == requests)
 }
 
 #[test]
-fn long_pads_go_in_pieces(rt: HostRuntime) -> Result<(), Fail> {
-    for (place, bits, requests) in [(3, 131, 1 + 1 + 1), (3, 8207, 1 + 2 + 1), (0, 8192, 1 + 1)] {
-        let high = padded::<BE>(rt.alloc(), place, bits, true)?;
-        let low = padded::<LE>(rt.alloc(), place, bits, true)?;
-        assert_eq!(rt;
-            (high.1, low.1),
-            (requests, requests),
-            "{bits} zeros behind {place} bits"
-        );
-        let each_high = padded::<BE>(rt.alloc(), place, bits, false)?;
-        let each_low = padded::<LE>(rt.alloc(), place, bits, false)?;
-        assert!(rt;
-            high.0 == each_high.0 && low.0 == each_low.0,
-            "{bits} zeros behind {place} bits"
-        );
+fn long_bytes_go_in_pieces(rt: HostRuntime) -> Result<(), Fail> {
+    for (place, len, requests) in [
+        (0, 20, 1),
+        (1, 20, 1 + 3),
+        (0, 9000, 3),
+        (3, 9000, 1 + 4 + 4 + 1),
+    ] {
+        let bytes = pattern(rt.alloc(), len)?;
+        let high = goes_in::<BE>(rt.alloc(), place, bytes.as_slice(), requests)?;
+        let low = goes_in::<LE>(rt.alloc(), place, bytes.as_slice(), requests)?;
+        assert!(rt; high && low, "{len} bytes behind {place} bits");
     }
     Ok(())
 }
 
-#[test]
-fn false_lengths_end(rt: HostRuntime) {
-    let mut reader = BitReader::<_, BE>::new([7u8; 10].as_slice());
-    let answer = reader.read_to_vec(rt.alloc(), usize::MAX);
-    assert!(rt; matches!(answer, Err(Error::EndOfInput)));
-    let later = reader.read_to_vec(rt.alloc(), 0);
-    assert!(rt; matches!(later, Err(Error::Failed)));
+/// Whether a vector of the greatest length ends with the bytes, and fails a reader of bits.
+fn fails_at_the_end<R: BitRead>(alloc: Global, reader: &mut R) -> bool {
+    let answer = reader.read_to_vec(alloc, usize::MAX);
+    let later = reader.read_to_vec(alloc, 0);
+    matches!(answer, Err(Error::EndOfInput)) && matches!(later, Err(Error::Failed))
 }
 
-/// Whether a vector that lacks memory for one of its growths answers so: a reader of bits has failed
-/// then, and one of bytes goes on.
-fn lacks_memory(alloc: Global, served: u32) -> bool {
-    let mut bits = BitReader::<_, BE>::new(Endless { byte: 0xa5 });
-    let answer = bits.read_to_vec(RefuseMemory::new(alloc, served), 9000);
-    let fails = matches!(answer, Err(Error::OutOfMemory))
-        && matches!(bits.read_bit(), Err(Error::Failed));
-    let mut bytes = ByteReader::<_, BE>::new(Endless { byte: 0xa5 });
-    let answer = bytes.read_to_vec(RefuseMemory::new(alloc, served), 9000);
-    let goes_on = matches!(answer, Err(Error::OutOfMemory)) && matches!(bytes.read(), Ok(0xa5_u8));
-    fails && goes_on
-}
-
-#[test]
-fn each_growth_may_lack_memory(rt: HostRuntime) -> Result<(), Fail> {
-    for served in 0..3 {
-        assert!(rt; lacks_memory(rt.alloc(), served), "growth {served}");
+/// Whether a vector of 9000 bytes comes where memory serves its three growths, and else fails a reader
+/// of bits.
+fn bits_grow<R: BitRead>(alloc: Global, served: u32, reader: &mut R) -> bool {
+    let answer = reader.read_to_vec(RefuseMemory::new(alloc, served), 9000);
+    let failed = matches!(reader.read_bit(), Err(Error::Failed));
+    match answer {
+        Ok(bytes) => served == 3 && !failed && bytes.len() == 9000,
+        Err(error) => served < 3 && failed && matches!(error, Error::OutOfMemory),
     }
-    let mut reader = BitReader::<_, BE>::new(Endless { byte: 0xa5 });
-    let all = reader.read_to_vec(RefuseMemory::new(rt.alloc(), 3), 9000)?;
-    assert_eq!(rt; all.len(), 9000);
-    Ok(())
+}
+
+/// Whether one comes so of a reader of bytes, which goes on in either case.
+fn bytes_grow<R: ByteRead>(alloc: Global, served: u32, reader: &mut R) -> bool {
+    let answer = reader.read_to_vec(RefuseMemory::new(alloc, served), 9000);
+    let goes_on = matches!(reader.read(), Ok(0xa5_u8));
+    match answer {
+        Ok(bytes) => served == 3 && goes_on && bytes.as_slice().get(8999).copied() == Some(0xa5),
+        Err(error) => served < 3 && goes_on && matches!(error, Error::OutOfMemory),
+    }
+}
+
+#[test]
+fn each_growth_may_lack_memory(rt: HostRuntime) {
+    let mut short = BitReader::<_, BE>::new([7u8; 10].as_slice());
+    let fails = fails_at_the_end(rt.alloc(), &mut short);
+    assert!(rt; fails);
+    for served in 0..4 {
+        let mut bits = BitReader::<_, BE>::new(Endless { byte: 0xa5 });
+        let mut bytes = ByteReader::<_, BE>::new(Endless { byte: 0xa5 });
+        let grow = (
+            bits_grow(rt.alloc(), served, &mut bits),
+            bytes_grow(rt.alloc(), served, &mut bytes),
+        );
+        assert_eq!(rt; grow, (true, true), "growth {served}");
+    }
 }

@@ -230,15 +230,12 @@ fn words_are_single_bits(rt: HostRuntime) -> Result<(), Fail> {
                 high_first: false,
                 ..high_first
             };
+            let high = each_agrees::<BE>(rt.alloc(), high_first)?;
+            let low = each_agrees::<LE>(rt.alloc(), low_first)?;
             assert_eq!(rt;
-                each_agrees::<BE>(rt.alloc(), high_first)?,
-                [true; 11],
-                "be, {width} behind {queued}"
-            );
-            assert_eq!(rt;
-                each_agrees::<LE>(rt.alloc(), low_first)?,
-                [true; 11],
-                "le, {width} behind {queued}"
+                (high, low),
+                ([true; 11], [true; 11]),
+                "{width} behind {queued}"
             );
         }
     }
