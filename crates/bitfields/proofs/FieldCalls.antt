@@ -10,7 +10,7 @@ use Rattle.bitstream_io.specs.Word.{Order, word, number}
 use Rattle.bitstream_io.proofs.WordLemmas.{length-word, number-word}
 use Rattle.bitstream_io.specs.Error.{Error}
 use Rattle.bitstream_io.specs.Error.TheVariants as errors
-use Rattle.bitstream_io.specs.Entry.{WriteEntry, TooShort, Takes, gives, word_front}
+use Rattle.bitstream_io.specs.Entry.{WriteEntry, TooFew, Takes, gives, word_front}
 use Rattle.bitstream_io.specs.Alignment.{to_boundary}
 use Rattle.bitstream_io.specs.ReadTable.{align_entry}
 use Rattle.bitstream_io.specs.Run.{accepted, write_run, write_refusals}
@@ -57,7 +57,7 @@ pub unpacked-refused : (o : Order) (k : ℕ) (f : Field) (fs : List Field) (at n
 unpacked-refused o k f fs at n b errors.RunTooLong e = rw e refl
 unpacked-refused o k f fs at n b x e = rw e refl
 
-pub unpacked-short : (o : Order) (k : ℕ) (f : Field) (fs : List Field) (at : ℕ) (b : List Bool) → (field_read o f).reads at b ≡ TooShort → unpacked o k (f ∷ fs) at b ≡ Stops (fault k BitsEnded)
+pub unpacked-short : (o : Order) (k : ℕ) (f : Field) (fs : List Field) (at : ℕ) (b : List Bool) → (field_read o f).reads at b ≡ TooFew → unpacked o k (f ∷ fs) at b ≡ Stops (fault k BitsEnded)
 unpacked-short o k f fs at b e = rw e refl
 
 -- a word that the first field takes, and what follows it

@@ -48,7 +48,7 @@ IsField-of_letter false true rest f e =
 IsField-of_letter false false rest f e = absurd (cc)
 
 -- a field that is spelt has its numbers in their ranges
-pub field_of-IsField : (piece : List ℕ) (f : Field) → field_of piece ≡ Some f → IsField f
+pub field_of-IsField : (segment : List ℕ) (f : Field) → field_of segment ≡ Some f → IsField f
 field_of-IsField [] f e = absurd (cc)
 field_of-IsField (letter ∷ rest) f e = IsField-of_letter (letter == 117) (letter == 97 && (length rest == 0)) rest f e
 

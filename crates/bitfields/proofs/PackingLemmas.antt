@@ -14,11 +14,11 @@ use Rattle.bitstream_io.specs.Refusal.{Refusal}
 use Rattle.bitstream_io.proofs.TakeLemmas.{word-none}
 use Rattle.bitstream_io.specs.Alignment.{to_boundary}
 use Rattle.bitstream_io.specs.Run.{accepted, refusal_if_any, write_run, write_refusals}
-use Rattle.bitstream_io.specs.Sink.{Sink, IsBeyond, Appended, WriteFault, Writes, WritesAll, was_failed, was_refused, passed_limit, had_fault, did_write}
+use Rattle.bitstream_io.specs.Sink.{Sink, IsPastLimit, Appended, WriteRefused, Writes, WritesAll, had_failed, was_rejected, past_limit, was_refused, was_done}
 use Rattle.bitstream_io.specs.WriteTable.{align}
 use Rattle.bitstream_io.specs.Carries.{WriterState, Carries, Fills}
-use Rattle.bitstream_io.specs.Writer.{fresh_writer}
-use Rattle.bitstream_io.proofs.SinkParts.{WriteFault-behind, WriteFault-longer}
+use Rattle.bitstream_io.specs.Writer.{new_writer_state}
+use Rattle.bitstream_io.proofs.SinkParts.{WriteRefused-behind, WriteRefused-longer}
 use Rattle.bitstream_io.proofs.WriteParts.{all_none, all_err, all_more}
 use Rattle.bitfields.specs.declared.fault.Fault.{Fault}
 use Rattle.bitfields.specs.declared.fault.Reason.TheVariants.{OutOfMemory}
@@ -28,7 +28,7 @@ use Rattle.bitfields.specs.declared.field_value.FieldValue.{FieldValue}
 use Rattle.bitfields.specs.declared.field_value.FieldValue.TheVariants as Value
 use Rattle.bitfields.specs.Fault.{fault}
 use Rattle.bitfields.specs.Layout.{IsField, IsLayout}
-use Rattle.bitfields.specs.Packing.{WritesBits, PackedBytes, RefusedBytes, Packs, write_reason, field_write, field_writes, packed}
+use Rattle.bitfields.specs.Packing.{WritesBits, PackedBytes, PackingRefused, Packs, write_reason, field_write, field_writes, packed}
 use Rattle.bitfields.specs.Value.{value_count, FitsField, Fit}
 use Rattle.bitfields.proofs.FieldCalls.{refusals-none, write_run-append}
 
@@ -36,13 +36,13 @@ use Rattle.bitfields.proofs.FieldCalls.{refusals-none, write_run-append}
 
 -- a call whose word is x adds it to a sink that has not failed and has no limit, or a request is refused
 WritesBits-from : {S : Type 0} (K : Sink S) (entry : WriteEntry) (x : List Bool) (old : S) (r : Result (Unit {0}) Error) (new : S) → K.failed old ≡ false → K.limit ≡ None → entry (K.len old) ≡ Ok x → Writes K entry old r new → WritesBits K x old r new
-WritesBits-from K entry x old r new sound unlimited is (was_failed p q k) = absurd (cc)
-WritesBits-from K entry x old r new sound unlimited is (was_refused error p q e k) = absurd (cc)
-WritesBits-from K entry x old r new sound unlimited is (passed_limit w p q beyond e k) = absurd (subst (λ (m : Option ℕ). IsBeyond m (K.len old + length w)) unlimited beyond)
-WritesBits-from K entry x old r new sound unlimited is (had_fault w error p q within e f) =
+WritesBits-from K entry x old r new sound unlimited is (had_failed p q k) = absurd (cc)
+WritesBits-from K entry x old r new sound unlimited is (was_rejected error p q e k) = absurd (cc)
+WritesBits-from K entry x old r new sound unlimited is (past_limit w p q beyond e k) = absurd (subst (λ (m : Option ℕ). IsPastLimit m (K.len old + length w)) unlimited beyond)
+WritesBits-from K entry x old r new sound unlimited is (was_refused w error p q within e f) =
     let same : w ≡ x = cc in
-    subst (λ (a : Result (Unit {0}) Error). WritesBits K x old a new) (sym e) (subst (λ (y : List Bool). WriteFault K old y error new) same f)
-WritesBits-from K entry x old r new sound unlimited is (did_write w done p q within e a) =
+    subst (λ (a : Result (Unit {0}) Error). WritesBits K x old a new) (sym e) (subst (λ (y : List Bool). WriteRefused K old y error new) same f)
+WritesBits-from K entry x old r new sound unlimited is (was_done w done p q within e a) =
     let same : w ≡ x = cc in
     subst (λ (b : Result (Unit {0}) Error). WritesBits K x old b new) (sym e) (subst (λ (y : List Bool). Appended K old y new) same a)
 
@@ -60,12 +60,12 @@ Appended-trans K s t z x y h k = record {
 -- what follows bits that were added
 WritesBits-later : {S : Type 0} (K : Sink S) (x y : List Bool) (old mid : S) (r : Result (Unit {0}) Error) (new : S) → Appended K old x mid → WritesBits K y mid r new → WritesBits K (x ++ y) old r new
 WritesBits-later K x y old mid (Ok done) new h k = Appended-trans K old mid new x y h k
-WritesBits-later K x y old mid (Err e) new h k = WriteFault-behind K old mid new e x y h k
+WritesBits-later K x y old mid (Err e) new h k = WriteRefused-behind K old mid new e x y h k
 
 -- a refusal of the first bits is one of all
 WritesBits-first : {S : Type 0} (K : Sink S) (x y : List Bool) (old : S) (r : Result (Unit {0}) Error) (new : S) → IsErr r → WritesBits K x old r new → WritesBits K (x ++ y) old r new
 WritesBits-first K x y old (Ok done) new h k = absurd (cc)
-WritesBits-first K x y old (Err e) new h k = WriteFault-longer K old new e x y k
+WritesBits-first K x y old (Err e) new h k = WriteRefused-longer K old new e x y k
 
 accepted-word : (r : Result (List Bool) Error) → refusal_if_any r ≡ None → r ≡ Ok (accepted r)
 accepted-word (Ok w) h = refl
@@ -171,10 +171,10 @@ length-packed o fields vs =
     omega (arith, parts, rest)
 
 -- the bytes of the packed values were handed on
-pub PackedBytes-from : (o : Order) (fields : List Field) (vs : List FieldValue) (held : Option (List ℕ)) (reference_names : List GName) (s t : WriterState) → t.queued < 8 → s ≡ fresh_writer held reference_names
+pub PackedBytes-from : (o : Order) (fields : List Field) (vs : List FieldValue) (held : Option (List ℕ)) (reference_names : List GName) (s t : WriterState) → t.queued < 8 → s ≡ new_writer_state held reference_names
     → Carries o s (packed o fields vs (8 * s.port.sent + s.queued)) t → PackedBytes o fields vs held t.port.bytes
 PackedBytes-from o fields vs held reference_names s t few fresh was =
-    let c : Carries o (fresh_writer held reference_names) (packed o fields vs 0) t = subst (λ (u : WriterState). Carries o u (packed o fields vs (8 * u.port.sent + u.queued)) t) fresh was in
+    let c : Carries o (new_writer_state held reference_names) (packed o fields vs 0) t = subst (λ (u : WriterState). Carries o u (packed o fields vs (8 * u.port.sent + u.queued)) t) fresh was in
     let x = packed o fields vs 0 in
     let whole : x ≡ bits o c.bytes ++ word o t.queued t.queue = ap (λ (u : List Bool). u ++ x) (sym (word-none o 0)) ∙ c.word in
     let rest : t.queued ≡ 0 = omega (arith, few, length-packed o fields vs, ap length whole, length-append (bits o c.bytes) (word o t.queued t.queue), length-bits o c.bytes, length-word o t.queued t.queue) in
@@ -196,17 +196,17 @@ Packs-refused contents may o fields (Err x) output (Err e) f h (inl memory) = (r
 Packs-refused contents may o fields (Err x) output (Err e) f h (inr is) = (let same : x ≡ f = cc in (refl, inl (h ∙ sym same)))
 
 -- the bytes that bits filled, of a new writer
-pub filled : (o : Order) (held : Option (List ℕ)) (reference_names : List GName) (s : WriterState) → s ≡ fresh_writer held reference_names → (x : List Bool) (known : Option (List ℕ)) → Fills o s x known
+pub filled : (o : Order) (held : Option (List ℕ)) (reference_names : List GName) (s : WriterState) → s ≡ new_writer_state held reference_names → (x : List Bool) (known : Option (List ℕ)) → Fills o s x known
     → (bytes : List ℕ) × Appends held known bytes × (rest : List Bool) × (x ≡ bits o bytes ++ rest)
 filled o held reference_names s fresh x known h =
-    let f : Fills o (fresh_writer held reference_names) x known = subst (λ (u : WriterState). Fills o u x known) fresh h in
+    let f : Fills o (new_writer_state held reference_names) x known = subst (λ (u : WriterState). Fills o u x known) fresh h in
     (f.bytes, f.grows, f.rest, ap (λ (u : List Bool). u ++ x) (sym (word-none o 0)) ∙ f.word)
 
 -- a refused request of a writer, as one of its stream
-pub RefusedBytes-from : {S : Type 0} (K : Sink S) (may : Refusal → Type 0) (fields : List Field) (vs : List FieldValue) (held : Option (List ℕ)) (old new : S) (error : Error) (f : Fault) → ((x : Refusal) → K.may x → may x) → K.len old ≡ 0
+pub PackingRefused-from : {S : Type 0} (K : Sink S) (may : Refusal → Type 0) (fields : List Field) (vs : List FieldValue) (held : Option (List ℕ)) (old new : S) (error : Error) (f : Fault) → ((x : Refusal) → K.may x → may x) → K.len old ≡ 0
     → ((x : List Bool) (known : Option (List ℕ)) → K.fills old x known → (bytes : List ℕ) × Appends held known bytes × (rest : List Bool) × (x ≡ bits K.order bytes ++ rest))
-    → WriteFault K old (packed K.order fields vs (K.len old)) error new → f ≡ fault 0 (write_reason error) → RefusedBytes may K.order fields vs held f (K.contents new)
-RefusedBytes-from K may fields vs held old new error f is none fills h why =
+    → WriteRefused K old (packed K.order fields vs (K.len old)) error new → f ≡ fault 0 (write_reason error) → PackingRefused may K.order fields vs held f (K.contents new)
+PackingRefused-from K may fields vs held old new error f is none fills h why =
     let whole : packed K.order fields vs (K.len old) ≡ packed K.order fields vs 0 = ap (packed K.order fields vs) none in
     let went = fills h.front h.refusal.before h.before in
     record {

@@ -16,11 +16,11 @@ use Rattle.bitfields.specs.declared.fault.Fault.{Fault}
 use Rattle.bitfields.specs.declared.field.Field.{Field}
 use Rattle.bitfields.specs.declared.field_value.FieldValue.{FieldValue}
 use Rattle.bitfields.specs.Fault.{fault}
-use Rattle.bitfields.specs.Unpacking.{Unpacks, Stops, unpacked, read_reason, in_lines, ReadsLines, TakesBits, UnpacksBytes, IsSaid}
+use Rattle.bitfields.specs.Unpacking.{Unpacks, Stops, unpacked, read_reason, in_lines, ReadsLines, TakesLeastBytes, UnpacksBytes, IsSaid}
 use Rattle.bitfields.proofs.UnpackingLemmas.{ComesTo, ComesTo-calls, ComesTo-reference_names}
 
 -- a new reader fetched the bytes that the bits taken reach into
-bytes_taken : (known : Option (List ℕ)) (reference_names : List GName) (n : ℕ) (gone : List ℕ) (t : ReaderState) → Demands t → Consumes known t.bytes gone → t.fetched ≡ 0 + length gone → t.taken ≡ 0 + n → TakesBits known gone t.taken t.bytes
+bytes_taken : (known : Option (List ℕ)) (reference_names : List GName) (n : ℕ) (gone : List ℕ) (t : ReaderState) → Demands t → Consumes known t.bytes gone → t.fetched ≡ 0 + length gone → t.taken ≡ 0 + n → TakesLeastBytes known gone t.taken t.bytes
 bytes_taken known reference_names n gone t demands loses fetched taken = record {
   loses = loses;
   least = (omega (arith, demands, fetched), omega (arith, demands, fetched));
@@ -46,7 +46,7 @@ UnpacksKnown-from o may allowed fields known reference_names (Ok vs) t is demand
   len = t.taken;
   taken = bytes_taken known reference_names (length h.word) h.took.gone t demands h.took.loses h.took.fetched h.took.taken;
   values = vs;
-  says = told_whatever o (unpacked o 1 fields 0) h.took.gone h.word t.held (Unpacks vs t.taken) h.took.parts h.says;
+  says = told_whatever o (unpacked o 1 fields 0) h.took.gone h.word t.queue (Unpacks vs t.taken) h.took.parts h.says;
   prints = refl;
 }
 UnpacksKnown-from o may allowed fields known reference_names (Err f) t is demands (inl h) = inl (record {
@@ -66,9 +66,9 @@ UnpacksKnown-from o may allowed fields known reference_names (Err f) t is demand
   taken = bytes_taken known reference_names (length h.word) h.took.gone t demands h.took.loses h.took.fetched h.took.taken;
   values = h.values;
   at = h.at;
-  before = told_by o (unpacked o 1 h.front 0) h.took.gone h.word t.held (Unpacks h.values h.at) h.took.parts h.before;
+  before = told_by o (unpacked o 1 h.front 0) h.took.gone h.word t.queue (Unpacks h.values h.at) h.took.parts h.before;
   value = h.value;
-  says = told_by o (unpacked o 1 (h.front ++ h.here ∷ []) 0) h.took.gone h.word t.held (Unpacks (h.values ++ h.value ∷ []) t.taken) h.took.parts h.says;
+  says = told_by o (unpacked o 1 (h.front ++ h.here ∷ []) 0) h.took.gone h.word t.queue (Unpacks (h.values ++ h.value ∷ []) t.taken) h.took.parts h.says;
 }))
 UnpacksKnown-from o may allowed fields known reference_names (Err f) t is demands (inr (inr h)) = inr (inr (record {
   field = h.field;

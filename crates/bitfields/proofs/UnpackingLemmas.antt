@@ -11,7 +11,7 @@ use Rattle.bitstream_io.specs.Error.{Error}
 use Rattle.bitstream_io.specs.Entry.{ReadEntry}
 use Rattle.bitstream_io.specs.Fault.{read_refusal_of}
 use Rattle.bitstream_io.specs.Refusal.{Refusal, IsTrueEnd}
-use Rattle.bitstream_io.specs.Reads.{ReaderState, BitSource, Reads, TakesFront, ReadFault, stays_failed, takes_front, meets_fault, lacks_memory}
+use Rattle.bitstream_io.specs.Reads.{ReaderState, BitSource, Reads, ReadDone, ReadRefused, had_failed, was_done, was_refused, memory_refused}
 use Rattle.bitstream_io.proofs.ReadsLemmas.{Took, Took-nil, Took-trans, Took-left, took}
 use Rattle.bitfields.specs.declared.fault.Fault.{Fault}
 use Rattle.bitfields.specs.declared.fault.Reason.TheVariants.{BitsEnded, OutOfMemory}
@@ -86,10 +86,10 @@ some_of : (v : Option FieldValue) → IsSome v → (u : FieldValue) × (v ≡ So
 some_of (Some u) h = (u, refl)
 some_of None h = absurd (cc)
 
-pub Unpacking-starved : {R : Type 0} (K : BitSource R) (fields : List Field) (i : ℕ) (d : Field) (old now new : R) (text : List ℕ) (v : Option FieldValue) (f : Fault) → i < length fields → Unpacking K fields i old text now
+pub Unpacking-memory_refused : {R : Type 0} (K : BitSource R) (fields : List Field) (i : ℕ) (d : Field) (old now new : R) (text : List ℕ) (v : Option FieldValue) (f : Fault) → i < length fields → Unpacking K fields i old text now
     → Reads K (field_read K.order (get_or fields i d)) now (Ok v) new → IsSome v → f ≡ fault (i + 1) OutOfMemory → ReadsLines K fields old (Err f) new
 unfolding ReadsFields
-Unpacking-starved K fields i d old now new text v f h known reads some is =
+Unpacking-memory_refused K fields i d old now new text v f h known reads some is =
     let u = some_of v some in
     record {
       answer = Err f;
@@ -108,8 +108,8 @@ held_parts : (o : Order) (a b u : List Bool) (g h : List ℕ) → a ++ bits o g 
 held_parts o a b u g h p =
     ap (λ (w : List Bool). a ++ w) (bits-append o g h) ∙ sym (append_assoc a (bits o g) (bits o h)) ∙ ap (λ (w : List Bool). w ++ bits o h) p ∙ append_assoc u b (bits o h)
 
-first_parts : {A : Type 0} (o : Order) (e : ReadEntry A) (v : A) (s t : ReaderState) (h : TakesFront o e s (Ok v) t) → s.held ++ bits o h.gone ≡ h.word ++ t.held
-first_parts o e v s t h = h.parts ∙ ap (λ (w : List Bool). h.word ++ w) (sym h.held)
+first_parts : {A : Type 0} (o : Order) (e : ReadEntry A) (v : A) (s t : ReaderState) (h : ReadDone o e s (Ok v) t) → s.queue ++ bits o h.gone ≡ h.word ++ t.queue
+first_parts o e v s t h = h.parts ∙ ap (λ (w : List Bool). h.word ++ w) (sym h.queue)
 
 -- the calls of all fields answered, and took this word
 pub record TookFields (o : Order) (k : ℕ) (fields : List Field) (old : ReaderState) (vs : List FieldValue) (new : ReaderState) : Type 0 where
@@ -123,14 +123,14 @@ pub record ToldFields (o : Order) (k : ℕ) (fields : List Field) (old : ReaderS
   pub gone : List ℕ
   pub loses : Consumes old.bytes new.bytes gone
   pub rest : List Bool
-  pub parts : old.held ++ bits o gone ≡ word ++ rest
+  pub parts : old.queue ++ bits o gone ≡ word ++ rest
   pub fetched : new.fetched ≡ old.fetched + length gone
   pub taken : new.taken ≡ old.taken + length word
   pub reference_names : new.reference_names ≡ old.reference_names
   pub says : (more : List Bool) → unpacked o k fields old.taken (word ++ more) ≡ Stops f
 
 -- the calls of the first fields answered, and no memory was left for the line of the last of them
-pub record StarvedFields (o : Order) (k : ℕ) (fields : List Field) (old : ReaderState) (f : Fault) (new : ReaderState) : Type 0 where
+pub record MemoryRefusedFields (o : Order) (k : ℕ) (fields : List Field) (old : ReaderState) (f : Fault) (new : ReaderState) : Type 0 where
   pub front : List Field
   pub here : Field
   pub back : List Field
@@ -145,7 +145,7 @@ pub record StarvedFields (o : Order) (k : ℕ) (fields : List Field) (old : Read
   pub says : (more : List Bool) → unpacked o k (front ++ here ∷ []) old.taken (word ++ more) ≡ Unpacks (values ++ value ∷ []) new.taken
 
 -- a request was refused for a field
-pub record StoppedFields (o : Order) (may : Refusal → Type 0) (k : ℕ) (fields : List Field) (old : ReaderState) (f : Fault) (new : ReaderState) : Type 0 where
+pub record UnpackingRefusedFields (o : Order) (may : Refusal → Type 0) (k : ℕ) (fields : List Field) (old : ReaderState) (f : Fault) (new : ReaderState) : Type 0 where
   pub field : ℕ
   pub refusal : Refusal
   pub allowed : may refusal
@@ -155,12 +155,12 @@ pub record StoppedFields (o : Order) (may : Refusal → Type 0) (k : ℕ) (field
   pub after : new.bytes ≡ refusal.after
   pub fetched : new.fetched ≡ old.fetched + length gone
   pub reference_names : new.reference_names ≡ old.reference_names
-  pub stops : unpacked o k fields old.taken (old.held ++ bits o gone) ≡ Stops (fault field BitsEnded)
-  pub ended : IsTrueEnd refusal → (xs : List ℕ) → old.bytes ≡ Some xs → unpacked o k fields old.taken (old.held ++ bits o xs) ≡ Stops (fault field BitsEnded)
+  pub stops : unpacked o k fields old.taken (old.queue ++ bits o gone) ≡ Stops (fault field BitsEnded)
+  pub ended : IsTrueEnd refusal → (xs : List ℕ) → old.bytes ≡ Some xs → unpacked o k fields old.taken (old.queue ++ bits o xs) ≡ Stops (fault field BitsEnded)
 
 abbrev pub ComesTo : Order → (Refusal → Type 0) → ℕ → List Field → ReaderState → Result (List FieldValue) Fault → ReaderState → Type 0
 ComesTo o may k fields old (Ok vs) new = TookFields o k fields old vs new
-ComesTo o may k fields old (Err f) new = ToldFields o k fields old f new ⊎ StarvedFields o k fields old f new ⊎ StoppedFields o may k fields old f new
+ComesTo o may k fields old (Err f) new = ToldFields o k fields old f new ⊎ MemoryRefusedFields o k fields old f new ⊎ UnpackingRefusedFields o may k fields old f new
 
 pub ComesTo-reference_names : (o : Order) (may : Refusal → Type 0) (k : ℕ) (fields : List Field) (old : ReaderState) (r : Result (List FieldValue) Fault) (new : ReaderState) → ComesTo o may k fields old r new → new.reference_names ≡ old.reference_names
 ComesTo-reference_names o may k fields old (Ok vs) new h = h.took.reference_names
@@ -169,33 +169,33 @@ ComesTo-reference_names o may k fields old (Err f) new (inr (inl h)) = h.took.re
 ComesTo-reference_names o may k fields old (Err f) new (inr (inr h)) = h.reference_names
 
 -- the first field's word, and what follows it
-first_then : (o : Order) (k : ℕ) (f : Field) (fs : List Field) (v : Option FieldValue) (s t : ReaderState) (h : TakesFront o (field_read o f) s (Ok v) t) (more : List Bool)
+first_then : (o : Order) (k : ℕ) (f : Field) (fs : List Field) (v : Option FieldValue) (s t : ReaderState) (h : ReadDone o (field_read o f) s (Ok v) t) (more : List Bool)
     → unpacked o k (f ∷ fs) s.taken (h.word ++ more) ≡ values_and (value_list v) (unpacked o (k + 1) fs t.taken more)
 first_then o k f fs v s t h more =
     unpacked-first o k f fs s.taken h.word more v (h.decides more) ∙ ap (λ (p : ℕ). values_and (value_list v) (unpacked o (k + 1) fs p more)) (sym h.taken)
 
 -- and what follows behind another word
-word_then : (o : Order) (k : ℕ) (f : Field) (fs : List Field) (v : Option FieldValue) (s t : ReaderState) (h : TakesFront o (field_read o f) s (Ok v) t) (w : List Bool) (r : Unpacked)
+word_then : (o : Order) (k : ℕ) (f : Field) (fs : List Field) (v : Option FieldValue) (s t : ReaderState) (h : ReadDone o (field_read o f) s (Ok v) t) (w : List Bool) (r : Unpacked)
     → ((more : List Bool) → unpacked o (k + 1) fs t.taken (w ++ more) ≡ r) → (more : List Bool) → unpacked o k (f ∷ fs) s.taken ((h.word ++ w) ++ more) ≡ values_and (value_list v) r
 word_then o k f fs v s t h w r says more =
     ap (unpacked o k (f ∷ fs) s.taken) (append_assoc h.word w more) ∙ first_then o k f fs v s t h (w ++ more) ∙ ap (values_and (value_list v)) (says more)
 
-ToldFields-later : (o : Order) (k : ℕ) (f : Field) (fs : List Field) (v : Option FieldValue) (why : Fault) (s t z : ReaderState) → TakesFront o (field_read o f) s (Ok v) t → ToldFields o (k + 1) fs t why z → ToldFields o k (f ∷ fs) s why z
+ToldFields-later : (o : Order) (k : ℕ) (f : Field) (fs : List Field) (v : Option FieldValue) (why : Fault) (s t z : ReaderState) → ReadDone o (field_read o f) s (Ok v) t → ToldFields o (k + 1) fs t why z → ToldFields o k (f ∷ fs) s why z
 ToldFields-later o k f fs v why s t z h x =
     record {
       word = h.word ++ x.word;
       gone = h.gone ++ x.gone;
       loses = Consumes-trans s.bytes t.bytes z.bytes h.gone x.gone h.loses x.loses;
       rest = x.rest;
-      parts = held_parts o s.held t.held h.word h.gone x.gone (first_parts o (field_read o f) v s t h) ∙ ap (λ (w : List Bool). h.word ++ w) x.parts ∙ sym (append_assoc h.word x.word x.rest);
+      parts = held_parts o s.queue t.queue h.word h.gone x.gone (first_parts o (field_read o f) v s t h) ∙ ap (λ (w : List Bool). h.word ++ w) x.parts ∙ sym (append_assoc h.word x.word x.rest);
       fetched = omega (arith, h.fetched, x.fetched, length-append h.gone x.gone);
       taken = omega (arith, h.taken, x.taken, length-append h.word x.word);
       reference_names = x.reference_names ∙ h.reference_names;
       says = word_then o k f fs v s t h x.word (Stops why) x.says;
     }
 
-StarvedFields-later : (o : Order) (k : ℕ) (f : Field) (fs : List Field) (v : Option FieldValue) (why : Fault) (s t z : ReaderState) → TakesFront o (field_read o f) s (Ok v) t → StarvedFields o (k + 1) fs t why z → StarvedFields o k (f ∷ fs) s why z
-StarvedFields-later o k f fs v why s t z h x =
+MemoryRefusedFields-later : (o : Order) (k : ℕ) (f : Field) (fs : List Field) (v : Option FieldValue) (why : Fault) (s t z : ReaderState) → ReadDone o (field_read o f) s (Ok v) t → MemoryRefusedFields o (k + 1) fs t why z → MemoryRefusedFields o k (f ∷ fs) s why z
+MemoryRefusedFields-later o k f fs v why s t z h x =
     let place : k + 1 + length x.front ≡ k + length (f ∷ x.front) = omega arith in
     record {
       front = f ∷ x.front;
@@ -214,11 +214,11 @@ StarvedFields-later o k f fs v why s t z h x =
           ∙ ap (λ (us : List FieldValue). Unpacks us z.taken) (sym (append_assoc (value_list v) x.values (x.value ∷ [])));
     }
 
-StoppedFields-later : (o : Order) (may : Refusal → Type 0) (k : ℕ) (f : Field) (fs : List Field) (v : Option FieldValue) (why : Fault) (s t z : ReaderState) → TakesFront o (field_read o f) s (Ok v) t
-    → StoppedFields o may (k + 1) fs t why z → StoppedFields o may k (f ∷ fs) s why z
-StoppedFields-later o may k f fs v why s t z h x =
+UnpackingRefusedFields-later : (o : Order) (may : Refusal → Type 0) (k : ℕ) (f : Field) (fs : List Field) (v : Option FieldValue) (why : Fault) (s t z : ReaderState) → ReadDone o (field_read o f) s (Ok v) t
+    → UnpackingRefusedFields o may (k + 1) fs t why z → UnpackingRefusedFields o may k (f ∷ fs) s why z
+UnpackingRefusedFields-later o may k f fs v why s t z h x =
     let first = took o (field_read o f) v s t h in
-    let whole = held_parts o s.held t.held h.word h.gone x.gone (first_parts o (field_read o f) v s t h) in
+    let whole = held_parts o s.queue t.queue h.word h.gone x.gone (first_parts o (field_read o f) v s t h) in
     record {
       field = x.field;
       refusal = x.refusal;
@@ -229,14 +229,14 @@ StoppedFields-later o may k f fs v why s t z h x =
       after = x.after;
       fetched = omega (arith, h.fetched, x.fetched, length-append h.gone x.gone);
       reference_names = x.reference_names ∙ h.reference_names;
-      stops = ap (unpacked o k (f ∷ fs) s.taken) whole ∙ first_then o k f fs v s t h (t.held ++ bits o x.gone) ∙ ap (values_and (value_list v)) x.stops;
+      stops = ap (unpacked o k (f ∷ fs) s.taken) whole ∙ first_then o k f fs v s t h (t.queue ++ bits o x.gone) ∙ ap (values_and (value_list v)) x.stops;
       ended = λ end xs known.
           let left = Took-left o h.word s t first xs known in
-          ap (unpacked o k (f ∷ fs) s.taken) left.2 ∙ first_then o k f fs v s t h (t.held ++ bits o left.0) ∙ ap (values_and (value_list v)) (x.ended end left.0 left.1);
+          ap (unpacked o k (f ∷ fs) s.taken) left.2 ∙ first_then o k f fs v s t h (t.queue ++ bits o left.0) ∙ ap (values_and (value_list v)) (x.ended end left.0 left.1);
     }
 
 -- what follows a field that answered
-ComesTo-later : (o : Order) (may : Refusal → Type 0) (k : ℕ) (f : Field) (fs : List Field) (v : Option FieldValue) (r : Result (List FieldValue) Fault) (s t z : ReaderState) → TakesFront o (field_read o f) s (Ok v) t
+ComesTo-later : (o : Order) (may : Refusal → Type 0) (k : ℕ) (f : Field) (fs : List Field) (v : Option FieldValue) (r : Result (List FieldValue) Fault) (s t z : ReaderState) → ReadDone o (field_read o f) s (Ok v) t
     → ComesTo o may (k + 1) fs t r z → ComesTo o may k (f ∷ fs) s (behind (value_list v) r) z
 ComesTo-later o may k f fs v (Ok ws) s t z h x = record {
   word = h.word ++ x.word;
@@ -244,11 +244,11 @@ ComesTo-later o may k f fs v (Ok ws) s t z h x = record {
   says = word_then o k f fs v s t h x.word (Unpacks ws z.taken) x.says;
 }
 ComesTo-later o may k f fs v (Err why) s t z h (inl x) = inl (ToldFields-later o k f fs v why s t z h x)
-ComesTo-later o may k f fs v (Err why) s t z h (inr (inl x)) = inr (inl (StarvedFields-later o k f fs v why s t z h x))
-ComesTo-later o may k f fs v (Err why) s t z h (inr (inr x)) = inr (inr (StoppedFields-later o may k f fs v why s t z h x))
+ComesTo-later o may k f fs v (Err why) s t z h (inr (inl x)) = inr (inl (MemoryRefusedFields-later o k f fs v why s t z h x))
+ComesTo-later o may k f fs v (Err why) s t z h (inr (inr x)) = inr (inr (UnpackingRefusedFields-later o may k f fs v why s t z h x))
 
 -- a field answered an error
-ToldFields-here : (o : Order) (k : ℕ) (f : Field) (fs : List Field) (x : Error) (s t : ReaderState) → TakesFront o (field_read o f) s (Err x) t → ToldFields o k (f ∷ fs) s (fault k (read_reason x)) t
+ToldFields-here : (o : Order) (k : ℕ) (f : Field) (fs : List Field) (x : Error) (s t : ReaderState) → ReadDone o (field_read o f) s (Err x) t → ToldFields o k (f ∷ fs) s (fault k (read_reason x)) t
 ToldFields-here o k f fs x s t h = record {
   word = h.word;
   gone = h.gone;
@@ -262,8 +262,8 @@ ToldFields-here o k f fs x s t h = record {
 }
 
 -- a field's call faulted
-StoppedFields-here : (o : Order) (may : Refusal → Type 0) (k : ℕ) (f : Field) (fs : List Field) (x : Error) (s t : ReaderState) → ReadFault o may (field_read o f) s (Err x) t → StoppedFields o may k (f ∷ fs) s (fault k (read_reason x)) t
-StoppedFields-here o may k f fs x s t h =
+UnpackingRefusedFields-here : (o : Order) (may : Refusal → Type 0) (k : ℕ) (f : Field) (fs : List Field) (x : Error) (s t : ReaderState) → ReadRefused o may (field_read o f) s (Err x) t → UnpackingRefusedFields o may k (f ∷ fs) s (fault k (read_reason x)) t
+UnpackingRefusedFields-here o may k f fs x s t h =
     let same : x ≡ read_refusal_of h.refusal.kind = (let a = h.answer in cc) in
     record {
       field = k;
@@ -275,13 +275,13 @@ StoppedFields-here o may k f fs x s t h =
       after = h.after;
       fetched = h.fetched;
       reference_names = h.reference_names;
-      stops = unpacked-short o k f fs s.taken (s.held ++ bits o h.gone) h.few;
-      ended = λ end xs known. unpacked-short o k f fs s.taken (s.held ++ bits o xs) (h.ended end xs known);
+      stops = unpacked-short o k f fs s.taken (s.queue ++ bits o h.gone) h.few;
+      ended = λ end xs known. unpacked-short o k f fs s.taken (s.queue ++ bits o xs) (h.ended end xs known);
     }
 
 -- no memory was left for a field's line
-StarvedFields-here : (o : Order) (k : ℕ) (f : Field) (fs : List Field) (v : FieldValue) (s t : ReaderState) → TakesFront o (field_read o f) s (Ok (Some v)) t → StarvedFields o k (f ∷ fs) s (fault k OutOfMemory) t
-StarvedFields-here o k f fs v s t h =
+MemoryRefusedFields-here : (o : Order) (k : ℕ) (f : Field) (fs : List Field) (v : FieldValue) (s t : ReaderState) → ReadDone o (field_read o f) s (Ok (Some v)) t → MemoryRefusedFields o k (f ∷ fs) s (fault k OutOfMemory) t
+MemoryRefusedFields-here o k f fs v s t h =
     let place : k ≡ k + 0 = omega arith in
     record {
       front = [];
@@ -302,27 +302,27 @@ ComesTo-none : (o : Order) (may : Refusal → Type 0) (k : ℕ) (s : ReaderState
 ComesTo-none o may k s fine = record { word = []; took = Took-nil o s fine; says = λ more. refl }
 
 -- one call, and what the others come to
-starved_here : {R : Type 0} (K : BitSource R) (k : ℕ) (f : Field) (fs : List Field) (v : FieldValue) (old new : R) → (K.state old).failed ≡ false → Reads K (field_read K.order f) old (Ok (Some v)) new
+memory_refused_here : {R : Type 0} (K : BitSource R) (k : ℕ) (f : Field) (fs : List Field) (v : FieldValue) (old new : R) → (K.state old).failed ≡ false → Reads K (field_read K.order f) old (Ok (Some v)) new
     → ComesTo K.order K.may k (f ∷ fs) (K.state old) (Err (fault k OutOfMemory)) (K.state new)
-starved_here K k f fs v old new fine (stays_failed x) = absurd (let failed = x.failed in cc)
-starved_here K k f fs v old new fine (takes_front x) = inr (inl (StarvedFields-here K.order k f fs v (K.state old) (K.state new) x))
-starved_here K k f fs v old new fine (meets_fault x) = absurd (let a = x.answer in cc)
-starved_here K k f fs v old new fine (lacks_memory grows x) = absurd (cc)
+memory_refused_here K k f fs v old new fine (had_failed x) = absurd (let failed = x.failed in cc)
+memory_refused_here K k f fs v old new fine (was_done x) = inr (inl (MemoryRefusedFields-here K.order k f fs v (K.state old) (K.state new) x))
+memory_refused_here K k f fs v old new fine (was_refused x) = absurd (let a = x.answer in cc)
+memory_refused_here K k f fs v old new fine (memory_refused grows x) = absurd (cc)
 
 refused_here : {R : Type 0} (K : BitSource R) (k : ℕ) (f : Field) (fs : List Field) (e : Error) (old new : R) → (K.state old).failed ≡ false → Reads K (field_read K.order f) old (Err e) new
     → ComesTo K.order K.may k (f ∷ fs) (K.state old) (Err (fault k (read_reason e))) (K.state new)
-refused_here K k f fs e old new fine (stays_failed x) = absurd (let failed = x.failed in cc)
-refused_here K k f fs e old new fine (takes_front x) = inl (ToldFields-here K.order k f fs e (K.state old) (K.state new) x)
-refused_here K k f fs e old new fine (meets_fault x) = inr (inr (StoppedFields-here K.order K.may k f fs e (K.state old) (K.state new) x))
-refused_here K k f fs e old new fine (lacks_memory grows x) = absurd (cc)
+refused_here K k f fs e old new fine (had_failed x) = absurd (let failed = x.failed in cc)
+refused_here K k f fs e old new fine (was_done x) = inl (ToldFields-here K.order k f fs e (K.state old) (K.state new) x)
+refused_here K k f fs e old new fine (was_refused x) = inr (inr (UnpackingRefusedFields-here K.order K.may k f fs e (K.state old) (K.state new) x))
+refused_here K k f fs e old new fine (memory_refused grows x) = absurd (cc)
 
 answered_here : {R : Type 0} (K : BitSource R) (k : ℕ) (f : Field) (fs : List Field) (v : Option FieldValue) (rest : Result (List FieldValue) Fault) (old mid new : R) → (K.state old).failed ≡ false
     → Reads K (field_read K.order f) old (Ok v) mid → ((K.state mid).failed ≡ false → ComesTo K.order K.may (k + 1) fs (K.state mid) rest (K.state new))
     → ComesTo K.order K.may k (f ∷ fs) (K.state old) (behind (value_list v) rest) (K.state new)
-answered_here K k f fs v rest old mid new fine (stays_failed x) others = absurd (let failed = x.failed in cc)
-answered_here K k f fs v rest old mid new fine (takes_front x) others = ComesTo-later K.order K.may k f fs v rest (K.state old) (K.state mid) (K.state new) x (others x.failed)
-answered_here K k f fs v rest old mid new fine (meets_fault x) others = absurd (let a = x.answer in cc)
-answered_here K k f fs v rest old mid new fine (lacks_memory grows x) others = absurd (cc)
+answered_here K k f fs v rest old mid new fine (had_failed x) others = absurd (let failed = x.failed in cc)
+answered_here K k f fs v rest old mid new fine (was_done x) others = ComesTo-later K.order K.may k f fs v rest (K.state old) (K.state mid) (K.state new) x (others x.failed)
+answered_here K k f fs v rest old mid new fine (was_refused x) others = absurd (let a = x.answer in cc)
+answered_here K k f fs v rest old mid new fine (memory_refused grows x) others = absurd (cc)
 
 -- what the calls of fields come to, made by a reader that has not failed
 pub ComesTo-calls : {R : Type 0} (K : BitSource R) (k : ℕ) (fields : List Field) (old : R) (r : Result (List FieldValue) Fault) (new : R) → (K.state old).failed ≡ false → ReadsFields K k fields old r new
@@ -332,7 +332,7 @@ ComesTo-calls {R} K k [] old r new fine h =
     subst (λ (x : Result (List FieldValue) Fault). ComesTo K.order K.may k [] (K.state old) x (K.state new)) (sym h.0)
     (subst (λ (z : R). ComesTo K.order K.may k [] (K.state old) (Ok []) (K.state z)) (sym h.1) (ComesTo-none K.order K.may k (K.state old) fine))
 ComesTo-calls K k (f ∷ fs) old r new fine (inl h) =
-    subst (λ (x : Result (List FieldValue) Fault). ComesTo K.order K.may k (f ∷ fs) (K.state old) x (K.state new)) (sym h.answer) (starved_here K k f fs h.value old new fine h.reads)
+    subst (λ (x : Result (List FieldValue) Fault). ComesTo K.order K.may k (f ∷ fs) (K.state old) x (K.state new)) (sym h.answer) (memory_refused_here K k f fs h.value old new fine h.reads)
 ComesTo-calls K k (f ∷ fs) old r new fine (inr (inl h)) =
     subst (λ (x : Result (List FieldValue) Fault). ComesTo K.order K.may k (f ∷ fs) (K.state old) x (K.state new)) (sym h.answer) (refused_here K k f fs h.error old new fine h.reads)
 ComesTo-calls K k (f ∷ fs) old r new fine (inr (inr (v, mid, rest, reads, others, is))) =

@@ -16,14 +16,14 @@ field_after letter rest =
     else if (letter == 97 && (length rest == 0)) then Some Align
     else None
 
--- the field that a piece of a layout spells
+-- the field that a segment of a layout spells
 abbrev pub field_of : List ℕ → Option Field
 field_of [] = None
 field_of (letter ∷ rest) = field_after letter rest
 
--- the pieces between commas
-abbrev pub pieces : List ℕ → List (List ℕ)
-pieces text = slice_split (λ b. b == 44) text
+-- the segments between commas
+abbrev pub segments : List ℕ → List (List ℕ)
+segments text = slice_split (λ b. b == 44) text
 
 -- a list with one item more in front; an error stays
 abbrev pub one_more : {A E : Type 0} → A → Result (List A) E → Result (List A) E
@@ -35,15 +35,15 @@ abbrev pub field_and : ℕ → Option Field → Result (List Field) Fault → Re
 field_and k None others = Err (fault k BadLayout)
 field_and k (Some f) others = one_more f others
 
--- the fields that pieces spell, numbered from k on, or the first piece that spells none
+-- the fields that segments spell, numbered from k on, or the first segment that spells none
 abbrev pub fields_of : ℕ → List (List ℕ) → Result (List Field) Fault
 fields_of k [] = Ok []
-fields_of k (piece ∷ others) = field_and k (field_of piece) (fields_of (k + 1) others)
+fields_of k (segment ∷ others) = field_and k (field_of segment) (fields_of (k + 1) others)
 
 -- the fields that a text spells, or the fault in it
 abbrev pub layout_of : List ℕ → Result (List Field) Fault
 layout_of text =
-    if nat_lt 256 (length (pieces text)) then Err (fault 0 TooManyFields) else fields_of 1 (pieces text)
+    if nat_lt 256 (length (segments text)) then Err (fault 0 TooManyFields) else fields_of 1 (segments text)
 
 -- memory was refused, or the answer is this one
 abbrev pub IsUnlessMemory : {A : Type 0} → Result A Fault → Result A Fault → Type 0

@@ -8,7 +8,7 @@ use Rattle.bitstream_io.specs.Entry.{WriteEntry}
 use Rattle.bitstream_io.specs.Fault.{refusal_of}
 use Rattle.bitstream_io.specs.Refusal.{Refusal}
 use Rattle.bitstream_io.specs.Run.{write_run}
-use Rattle.bitstream_io.specs.Sink.{Sink, Appended, WriteFault}
+use Rattle.bitstream_io.specs.Sink.{Sink, Appended, WriteRefused}
 use Rattle.bitstream_io.specs.WriteTable.{plain, unsigned, align}
 use Rattle.bitfields.specs.declared.fault.Reason.{Reason}
 use Rattle.bitfields.specs.declared.fault.Reason.TheVariants.{OutOfMemory, StreamFault}
@@ -45,7 +45,7 @@ write_reason error = StreamFault
 -- these bits were written, or a request was refused and the sink has failed
 abbrev pub WritesBits : {S : Type 0} → Sink S → List Bool → S → Result (Unit {0}) Error → S → Type 0
 WritesBits K x old (Ok done) new = Appended K old x new
-WritesBits K x old (Err error) new = WriteFault K old x error new
+WritesBits K x old (Err error) new = WriteRefused K old x error new
 
 -- a stream took the bytes whose bits are the packed values
 pub record PackedBytes (o : Order) (fields : List Field) (vs : List FieldValue) (old new : Option (List ℕ)) : Type 0 where
@@ -55,7 +55,7 @@ pub record PackedBytes (o : Order) (fields : List Field) (vs : List FieldValue) 
 
 -- The stream refused a request to hand on bytes, as it may refuse, and there were bytes to hand on. Those that it took before are the
 -- first of them, and it is as the refusal left it.
-pub record RefusedBytes (may : Refusal → Type 0) (o : Order) (fields : List Field) (vs : List FieldValue) (old : Option (List ℕ)) (f : Fault) (new : Option (List ℕ)) : Type 0 where
+pub record PackingRefused (may : Refusal → Type 0) (o : Order) (fields : List Field) (vs : List FieldValue) (old : Option (List ℕ)) (f : Fault) (new : Option (List ℕ)) : Type 0 where
   pub refusal : Refusal
   pub allowed : may refusal
   pub reason : f ≡ fault 0 (write_reason (refusal_of refusal.kind))
@@ -70,6 +70,6 @@ pub record RefusedBytes (may : Refusal → Type 0) (o : Order) (fields : List Fi
 -- stream left as it was, or the stream refused a request.
 abbrev pub Packs : {W : Type 0} → (W → Option (List ℕ)) → (Refusal → Type 0) → Order → List Field → Result (List FieldValue) Fault → W → Result (Unit {0}) Fault → W → Type 0
 Packs contents may o fields (Ok vs) old (Ok done) new = PackedBytes o fields vs (contents old) (contents new)
-Packs contents may o fields (Ok vs) old (Err f) new = ((f ≡ fault 0 OutOfMemory) × (new ≡ old)) ⊎ RefusedBytes may o fields vs (contents old) f (contents new)
+Packs contents may o fields (Ok vs) old (Err f) new = ((f ≡ fault 0 OutOfMemory) × (new ≡ old)) ⊎ PackingRefused may o fields vs (contents old) f (contents new)
 Packs contents may o fields (Err f) old (Ok done) new = ⊥
 Packs contents may o fields (Err f) old (Err g) new = (new ≡ old) × ((g ≡ f) ⊎ (g ≡ fault 0 OutOfMemory))

@@ -13,7 +13,7 @@ use Rattle.bitfields.specs.declared.run.Command.TheVariants.{Pack, Unpack}
 use Rattle.bitfields.specs.Call.{Request}
 use Rattle.bitfields.specs.Fault.{fault, fault_line}
 use Rattle.bitfields.specs.Layout.{IsUnlessMemory, layout_of}
-use Rattle.bitfields.specs.Packing.{PackedBytes, RefusedBytes}
+use Rattle.bitfields.specs.Packing.{PackedBytes, PackingRefused}
 use Rattle.bitfields.specs.Streams.{InputStream, OutputStream, ReadToEnd, RefusedInput, RefusedOutput, Flushed}
 use Rattle.bitfields.specs.Unpacking.{UnpackedBytes, UnpacksBytes}
 use Rattle.bitfields.specs.Value.{lines, values}
@@ -46,7 +46,7 @@ pub data PackingFault {R W : Type 0} (I : InputStream R) (O : OutputStream W) (o
   refused_input : RefusedInput I input f input_after → output_after ≡ output → PackingFault I O o fields input output f input_after output_after
   misspelt_input : SpelledInput fields (I.remaining input) (Err f) (I.remaining input_after) → output_after ≡ output → PackingFault I O o fields input output f input_after output_after
   refused_memory : (bytes : List ℕ) → ReadToEnd (I.remaining input) bytes (I.remaining input_after) → f ≡ fault 0 OutOfMemory → output_after ≡ output → PackingFault I O o fields input output f input_after output_after
-  refused_bytes : (vs : List FieldValue) → SpelledInput fields (I.remaining input) (Ok vs) (I.remaining input_after) → RefusedBytes (MayRefuse O.contents O.refuses) o fields vs (O.contents output) f (O.contents output_after) → PackingFault I O o fields input output f input_after output_after
+  refused_bytes : (vs : List FieldValue) → SpelledInput fields (I.remaining input) (Ok vs) (I.remaining input_after) → PackingRefused (MayRefuse O.contents O.refuses) o fields vs (O.contents output) f (O.contents output_after) → PackingFault I O o fields input output f input_after output_after
   unflushed_bytes : (vs : List FieldValue) → SpelledInput fields (I.remaining input) (Ok vs) (I.remaining input_after) → UnflushedBytes O o fields vs output f output_after → PackingFault I O o fields input output f input_after output_after
 
 -- packing an input
@@ -90,14 +90,14 @@ Performs I O Pack = PacksInput I O
 Performs I O Unpack = UnpacksInput I O
 
 -- memory was refused before a stream was touched
-abbrev pub IsStarved : {R W : Type 0} → R → W → Result (Unit {0}) Fault → R → W → Type 0
-IsStarved input output result input_after output_after = (result ≡ Err (fault 0 OutOfMemory)) × (input_after ≡ input) × (output_after ≡ output)
+abbrev pub IsMemoryRefused : {R W : Type 0} → R → W → Result (Unit {0}) Fault → R → W → Type 0
+IsMemoryRefused input output result input_after output_after = (result ≡ Err (fault 0 OutOfMemory)) × (input_after ≡ input) × (output_after ≡ output)
 
 -- The fields of a layout are packed or unpacked; or the layout's fault is answered, and no stream touched. Want of memory aside, which is
 -- answered before a stream is touched.
 abbrev pub Follows : {R W : Type 0} → InputStream R → OutputStream W → Command → Order → Result (List Field) Fault → R → W → Result (Unit {0}) Fault → R → W → Type 0
 Follows I O command o (Ok fields) input output result input_after output_after =
-    IsStarved input output result input_after output_after ⊎ Performs I O command o fields input output result input_after output_after
+    IsMemoryRefused input output result input_after output_after ⊎ Performs I O command o fields input output result input_after output_after
 Follows I O command o (Err f) input output result input_after output_after =
     IsUnlessMemory (Err f) result × (input_after ≡ input) × (output_after ≡ output)
 

@@ -60,7 +60,7 @@ behind vs (Ok ws) = Ok (vs ++ ws)
 behind vs (Err f) = Err f
 
 -- A field's value was read, and no memory was left for its line.
-pub record Starved {R : Type 0} (K : BitSource R) (k : ℕ) (field : Field) (old : R) (result : Result (List FieldValue) Fault) (new : R) : Type 0 where
+pub record MemoryRefused {R : Type 0} (K : BitSource R) (k : ℕ) (field : Field) (old : R) (result : Result (List FieldValue) Fault) (new : R) : Type 0 where
   pub value : FieldValue
   pub reads : Reads K (field_read K.order field) old (Ok (Some value)) new
   pub answer : result ≡ Err (fault k OutOfMemory)
@@ -76,7 +76,7 @@ pub record AnswersError {R : Type 0} (K : BitSource R) (k : ℕ) (field : Field)
 unfoldable pub ReadsFields : {R : Type 0} → BitSource R → ℕ → List Field → R → Result (List FieldValue) Fault → R → Type 0
 ReadsFields K k [] old result new = (result ≡ Ok []) × (new ≡ old)
 ReadsFields {R} K k (field ∷ fields) old result new =
-    Starved K k field old result new ⊎ AnswersError K k field old result new
+    MemoryRefused K k field old result new ⊎ AnswersError K k field old result new
     ⊎ ((v : Option FieldValue) × (mid : R) × (rest : Result (List FieldValue) Fault) × Reads K (field_read K.order field) old (Ok v) mid × ReadsFields K (k + 1) fields mid rest new × (result ≡ behind (value_list v) rest))
 
 -- the lines of values, or the fault
@@ -93,7 +93,7 @@ pub record ReadsLines {R : Type 0} (K : BitSource R) (fields : List Field) (old 
 -- ---- from a stream
 
 -- these bytes were taken from a stream, of which a number of bits reaches into the last
-pub record TakesBits (known : Option (List ℕ)) (gone : List ℕ) (len : ℕ) (after : Option (List ℕ)) : Type 0 where
+pub record TakesLeastBytes (known : Option (List ℕ)) (gone : List ℕ) (len : ℕ) (after : Option (List ℕ)) : Type 0 where
   pub loses : Consumes known after gone
   pub least : (8 * length gone < len + 8) × (len ≤ 8 * length gone)
 
@@ -101,7 +101,7 @@ pub record TakesBits (known : Option (List ℕ)) (gone : List ℕ) (len : ℕ) (
 pub record UnpackedBytes (o : Order) (fields : List Field) (old : Option (List ℕ)) (text : List ℕ) (new : Option (List ℕ)) : Type 0 where
   pub gone : List ℕ
   pub len : ℕ
-  pub taken : TakesBits old gone len new
+  pub taken : TakesLeastBytes old gone len new
   pub values : List FieldValue
   pub says : (more : List Bool) → unpacked o 1 fields 0 (bits o gone ++ more) ≡ Unpacks values len
   pub prints : text ≡ printed_lines values
@@ -110,11 +110,11 @@ pub record UnpackedBytes (o : Order) (fields : List Field) (old : Option (List �
 pub record ToldBytes (o : Order) (fields : List Field) (old : Option (List ℕ)) (f : Fault) (new : Option (List ℕ)) : Type 0 where
   pub gone : List ℕ
   pub len : ℕ
-  pub taken : TakesBits old gone len new
+  pub taken : TakesLeastBytes old gone len new
   pub says : (more : List Bool) → unpacked o 1 fields 0 (bits o gone ++ more) ≡ Stops f
 
 -- No memory was left for the line of a field. The bytes taken hold that field's bits and those of the fields before it, and no more.
-pub record StarvedBytes (o : Order) (fields : List Field) (old : Option (List ℕ)) (f : Fault) (new : Option (List ℕ)) : Type 0 where
+pub record MemoryRefusedBytes (o : Order) (fields : List Field) (old : Option (List ℕ)) (f : Fault) (new : Option (List ℕ)) : Type 0 where
   pub front : List Field
   pub here : Field
   pub back : List Field
@@ -122,7 +122,7 @@ pub record StarvedBytes (o : Order) (fields : List Field) (old : Option (List �
   pub reason : f ≡ fault (1 + length front) OutOfMemory
   pub gone : List ℕ
   pub len : ℕ
-  pub taken : TakesBits old gone len new
+  pub taken : TakesLeastBytes old gone len new
   pub values : List FieldValue
   pub at : ℕ
   pub before : unpacked o 1 front 0 (bits o gone) ≡ Unpacks values at
@@ -131,7 +131,7 @@ pub record StarvedBytes (o : Order) (fields : List Field) (old : Option (List �
 
 -- The stream refused a request for a field, as it may refuse. The bytes taken until then end within that field, and the stream is as
 -- the refusal left it; where that was a true end, all bytes of the stream end so.
-pub record StoppedBytes (may : Refusal → Type 0) (o : Order) (fields : List Field) (old : Option (List ℕ)) (f : Fault) (new : Option (List ℕ)) : Type 0 where
+pub record UnpackingRefused (may : Refusal → Type 0) (o : Order) (fields : List Field) (old : Option (List ℕ)) (f : Fault) (new : Option (List ℕ)) : Type 0 where
   pub field : ℕ
   pub refusal : Refusal
   pub allowed : may refusal
@@ -146,7 +146,7 @@ pub record StoppedBytes (may : Refusal → Type 0) (o : Order) (fields : List Fi
 abbrev pub UnpacksBytes : {R : Type 0} → (R → Option (List ℕ)) → (Refusal → Type 0) → Order → List Field → R → Result (List ℕ) Fault → R → Type 0
 UnpacksBytes known may o fields old (Ok text) new = UnpackedBytes o fields (known old) text (known new)
 UnpacksBytes known may o fields old (Err f) new =
-    ToldBytes o fields (known old) f (known new) ⊎ StarvedBytes o fields (known old) f (known new) ⊎ StoppedBytes may o fields (known old) f (known new)
+    ToldBytes o fields (known old) f (known new) ⊎ MemoryRefusedBytes o fields (known old) f (known new) ⊎ UnpackingRefused may o fields (known old) f (known new)
 
 -- all bytes of a stream say the values whose lines are printed
 pub record SaidBytes (o : Order) (fields : List Field) (xs text : List ℕ) : Type 0 where

@@ -13,9 +13,9 @@ use std::io::ErrorKind;
 pub enum Reason {
     /// There are not three arguments, or they name no command or no order of bits.
     BadArguments,
-    /// A layout has more than 256 pieces between commas.
+    /// A layout has more than 256 segments between commas.
     TooManyFields,
-    /// A piece of a layout spells no field.
+    /// A segment of a layout spells no field.
     BadLayout,
     /// The input has no line for a value.
     ValueMissing,

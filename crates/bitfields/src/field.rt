@@ -1,4 +1,4 @@
-//! The fields of a layout, and the pieces of text that spell them.
+//! The fields of a layout, and the segments of text that spell them.
 
 ghost use Rattle.std.specs.Prelude.{◌≡◌};
 ghost use Rattle.bitfields.specs.Layout.{field_of};
@@ -14,11 +14,11 @@ pub enum Field {
     Align,
 }
 
-/// Returns the field that a piece of a layout spells, if it spells one.
-pub fn parse_field(piece: &[u8]) -> Option<Field>
-    ensures { result ≡ field_of piece.now }
+/// Returns the field that a segment of a layout spells, if it spells one.
+pub fn parse_field(segment: &[u8]) -> Option<Field>
+    ensures { result ≡ field_of segment.now }
 {
-    let (letter, rest) = piece.split_first()?;
+    let (letter, rest) = segment.split_first()?;
     match *letter {
         b'u' => decimal_between(1, 128, rest).map(Field::Unsigned),
         b'a' if rest.is_empty() => Some(Field::Align),

@@ -1,7 +1,7 @@
 //! Layouts: lists of fields.
 
 ghost use Rattle.std.specs.Prelude.{◌≡◌, ◌≤◌, length, map, IfOk};
-ghost use Rattle.bitfields.specs.Layout.{layout_of, fields_of, pieces as pieces_of, IsLayout, IsUnlessMemory};
+ghost use Rattle.bitfields.specs.Layout.{layout_of, fields_of, segments as segments_of, IsLayout, IsUnlessMemory};
 
 use crate::fault::{Fault, Reason};
 use crate::field::{Field, parse_field};
@@ -33,27 +33,27 @@ const MOST_FIELDS: usize = 256;
 ///
 /// # Errors
 ///
-/// `TooManyFields` (field 0) where there are more than 256 pieces between commas, `BadLayout` at the
-/// first piece that is no field, and `OutOfMemory` (field 0).
+/// `TooManyFields` (field 0) where there are more than 256 segments between commas, `BadLayout` at the
+/// first segment that is no field, and `OutOfMemory` (field 0).
 pub fn parse_layout(alloc: Global, text: &str) -> Result<Layout, Fault>
     ensures { IsUnlessMemory (layout_of text.now) result }
 {
-    let parts = pieces(alloc, text)?;
+    let parts = segments(alloc, text)?;
     if parts.len() > MOST_FIELDS {
         return Err(Fault::new(0, Reason::TooManyFields));
     }
     parse_fields(alloc, &parts)
 }
 
-/// The layout of these pieces.
+/// The layout of these segments.
 fn parse_fields(alloc: Global, parts: &[&str]) -> Result<Layout, Fault>
     requires some { 1 ≤ length parts.now }
     requires few { length parts.now ≤ 256 }
     ensures { IsUnlessMemory (fields_of 1 (map (λ x. x.now) parts.now)) result }
 {
     let mut fields = Vec::new(alloc);
-    for (index, piece) in parts.iter().enumerate() {
-        let Some(field) = parse_field(piece.as_bytes()) else {
+    for (index, segment) in parts.iter().enumerate() {
+        let Some(field) = parse_field(segment.as_bytes()) else {
             return Err(Fault::new(index + 1, Reason::BadLayout));
         };
         fields.push(field)?;
@@ -61,9 +61,9 @@ fn parse_fields(alloc: Global, parts: &[&str]) -> Result<Layout, Fault>
     Ok(Layout { fields })
 }
 
-/// The pieces between commas.
-fn pieces(alloc: Global, text: &str) -> Result<Vec<&str>, AllocError>
-    ensures pieces { IfOk result (λ v. map (λ x. x.now) v.items ≡ pieces_of text.now) }
+/// The segments between commas.
+fn segments(alloc: Global, text: &str) -> Result<Vec<&str>, AllocError>
+    ensures segments { IfOk result (λ v. map (λ x. x.now) v.items ≡ segments_of text.now) }
     ensures some { IfOk result (λ v. 1 ≤ length v.items) }
 {
     text.split(',').collect(alloc)

@@ -12,7 +12,7 @@ use Rattle.bitstream_number.proofs.WordLemmas.{half, length-word, number-word, w
 use Rattle.bitstream_number.proofs.SignedLemmas.{zig-zag}
 use Rattle.bitstream_count.specs.declared.error.Error.{Error}
 use Rattle.bitstream_count.specs.declared.error.Error.TheVariants.{VariableWidthOverflow}
-use Rattle.bitstream_count.specs.Entry.{Front, TooShort, Takes}
+use Rattle.bitstream_count.specs.Entry.{Front, TooFew, Takes}
 use Rattle.bitstream_count.specs.Vbr.{IsGroups, IsAccepted, groups, vbr_word, before, groups_at, below, read_vbr}
 
 -- the parts of two lists that are cut at one place
@@ -198,13 +198,13 @@ module _ (o : Order) (field : ℕ) (some : 0 < field) where
             omega (arith, parts, ap (λ n. n * (field - 1)) same)
       ]
 
-  not_short : (b : Bool) (x : Front ℕ) (n v : ℕ) → cond b TooShort x ≡ found n v → (b ≡ false) × (x ≡ found n v)
+  not_short : (b : Bool) (x : Front ℕ) (n v : ℕ) → cond b TooFew x ≡ found n v → (b ≡ false) × (x ≡ found n v)
   not_short true x n v e = absurd cc
   not_short false x n v e = (refl, e)
 
   before_found : (low : ℕ) (others : Front ℕ) (n v : ℕ) → before field low others ≡ found n v
       → (k : ℕ) × (high : ℕ) × (others ≡ found k high) × (n ≡ field + k) × (v ≡ low + 2 ^ (field - 1) * high)
-  before_found low TooShort n v e = absurd cc
+  before_found low TooFew n v e = absurd cc
   before_found low (Takes k (Ok high)) n v e = (k, high, refl, cc, cc)
   before_found low (Takes k (Err d)) n v e = absurd cc
 
@@ -246,7 +246,7 @@ module _ (o : Order) (field : ℕ) (some : 0 < field) where
       ]
 
   below_found : (limit : ℕ) (front : Front ℕ) (n v : ℕ) → below limit front ≡ found n v → (front ≡ found n v) × (v < limit)
-  below_found limit TooShort n v e = absurd cc
+  below_found limit TooFew n v e = absurd cc
   below_found limit (Takes k (Err d)) n v e = absurd cc
   below_found limit (Takes k (Ok x)) n v e =
       let fits = ok_below (ltb x limit) x v cc in

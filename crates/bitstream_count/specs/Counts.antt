@@ -2,8 +2,8 @@
 use Rattle.std.specs.Prelude.{ℕ, ◌<◌, ◌⊎◌, ◌&&◌, nat_le, if◌then◌else◌, Option, Some, None}
 
 -- n is below `least`, or above `most`
-abbrev pub IsOutside : ℕ → ℕ → ℕ → Type 0
-IsOutside least most n = (n < least) ⊎ (most < n)
+abbrev pub IsOutOfRange : ℕ → ℕ → ℕ → Type 0
+IsOutOfRange least most n = (n < least) ⊎ (most < n)
 
 -- a number that lies from `least` to `most`, and no other
 abbrev pub in_range : ℕ → ℕ → Option ℕ → Option ℕ

@@ -5,7 +5,7 @@ use Rattle.bitstream_count.specs.declared.error.Error.TheVariants.{Failed}
 
 -- what a call finds at the front of the bits to read: they are too few, or it takes n of them and answers
 pub data Front (A : Type 0) : Type 0 where
-  TooShort : Front A
+  TooFew : Front A
   Takes : (n : ℕ) → (answer : Result A Error) → Front A
 
 -- a read call: its front of the bits to read, behind so many bits taken before; and its answer on a failed reader
@@ -19,7 +19,7 @@ WriteEntry = ℕ → Result (List Bool) Error
 
 -- n bits, whose answer is g of them
 abbrev pub word_front : {A : Type 0} → ℕ → (List Bool → Result A Error) → List Bool → Front A
-word_front n g bits = if nat_le n (length bits) then Takes n (g (take n bits)) else TooShort
+word_front n g bits = if nat_le n (length bits) then Takes n (g (take n bits)) else TooFew
 
 -- a call, which answers Failed on a failed reader
 abbrev pub call : {A : Type 0} → (ℕ → List Bool → Front A) → ReadEntry A
@@ -39,12 +39,12 @@ gives a = record { reads = λ _ _. Takes 0 (Ok a); on_failed = Ok a }
 
 -- a front behind n bits
 abbrev pub longer : {A : Type 0} → ℕ → Front A → Front A
-longer n TooShort = TooShort
+longer n TooFew = TooFew
 longer n (Takes m answer) = Takes (n + m) answer
 
 -- one front, and behind it another that may depend on its answer; an error ends both
 abbrev pub front_then : {A B : Type 0} → Front A → (ℕ → A → Front B) → Front B
-front_then TooShort f = TooShort
+front_then TooFew f = TooFew
 front_then (Takes n (Ok a)) f = longer n (f n a)
 front_then (Takes n (Err e)) f = Takes n (Err e)
 

@@ -2,21 +2,21 @@
 use Rattle.std.specs.Prelude.{ℕ, suc, ◌+◌, ◌^◌, Bool, not, List, [], ◌∷◌, ◌++◌, length, replicate, Ok, Err, nat_lt, if◌then◌else◌}
 use mathlib.Core.Bool.{beq}
 use Rattle.bitstream_count.specs.declared.error.Error.TheVariants.{RunTooLong}
-use Rattle.bitstream_count.specs.Entry.{Front, TooShort, Takes}
+use Rattle.bitstream_count.specs.Entry.{Front, TooFew, Takes}
 
 -- k digits that are not the stop digit, and then that
 abbrev pub unary : Bool → ℕ → List Bool
 unary stop k = replicate k (not stop) ++ stop ∷ []
 
 -- how many digits stand before the first stop digit, or in all
-abbrev pub run : Bool → List Bool → ℕ
-run stop [] = 0
-run stop (b ∷ bits) = if beq b stop then 0 else suc (run stop bits)
+abbrev pub lead : Bool → List Bool → ℕ
+lead stop [] = 0
+lead stop (b ∷ bits) = if beq b stop then 0 else suc (lead stop bits)
 
 -- the number whose word the bits begin with. A run of 2^32 digits or more is too long: it takes just these.
 abbrev pub read_unary : Bool → List Bool → Front ℕ
 read_unary stop bits =
-    let k = run stop bits in
+    let k = lead stop bits in
     if nat_lt k (2 ^ 32)
-    then (if nat_lt k (length bits) then Takes (k + 1) (Ok k) else TooShort)
+    then (if nat_lt k (length bits) then Takes (k + 1) (Ok k) else TooFew)
     else Takes (2 ^ 32) (Err RunTooLong)

@@ -3,7 +3,7 @@ use Rattle.std.specs.Prelude.{◌≡◌, ℕ, zero, suc, ◌+◌, ◌-◌, ◌*�
 use Rattle.std.specs.Int.{div_ceil}
 use Rattle.bitstream_number.specs.Word.{Order, word, number}
 use Rattle.bitstream_count.specs.declared.error.Error.TheVariants.{VariableWidthOverflow}
-use Rattle.bitstream_count.specs.Entry.{Front, TooShort, Takes}
+use Rattle.bitstream_count.specs.Entry.{Front, TooFew, Takes}
 
 -- The word is a group of `field` bits and `more` further groups. A group is a digit that says whether another
 -- follows, and below it `field - 1` digits of v, the lowest digits of v in the first group.
@@ -42,7 +42,7 @@ vbr_word o field v = groups v o field v
 
 -- a group whose digits are low, before others
 abbrev pub before : ℕ → ℕ → Front ℕ → Front ℕ
-before field low TooShort = TooShort
+before field low TooFew = TooFew
 before field low (Takes n (Ok high)) = Takes (field + n) (Ok (low + 2 ^ (field - 1) * high))
 before field low (Takes n (Err e)) = Takes (field + n) (Err e)
 
@@ -52,12 +52,12 @@ groups_at zero o field bits = Takes 0 (Err VariableWidthOverflow)
 groups_at (suc room) o field bits =
     let first = number o (take field bits) in
     let all = before field (first - 2 ^ (field - 1)) (groups_at room o field (drop field bits)) in
-    if nat_lt (length bits) field then TooShort
+    if nat_lt (length bits) field then TooFew
     else if nat_lt first (2 ^ (field - 1)) then Takes field (Ok first) else all
 
 -- a number below the limit
 abbrev pub below : ℕ → Front ℕ → Front ℕ
-below limit TooShort = TooShort
+below limit TooFew = TooFew
 below limit (Takes n (Ok v)) = Takes n (if nat_lt v limit then Ok v else Err VariableWidthOverflow)
 below limit (Takes n (Err e)) = Takes n (Err e)
 

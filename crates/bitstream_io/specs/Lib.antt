@@ -11,7 +11,7 @@ pub use Rattle.bitstream_count.specs.Kind
 pub use Rattle.bitstream_count.specs.Unary
 pub use Rattle.bitstream_count.specs.Vbr
 pub use Rattle.bitstream_order.specs.TakeBits
-pub use Rattle.bitstream_order.specs.TakeRun
+pub use Rattle.bitstream_order.specs.TakeUnary
 pub use Rattle.bitstream_order.specs.Fault
 pub use Rattle.bitstream_order.specs.Parts
 pub use Rattle.bitstream_order.specs.Pieces

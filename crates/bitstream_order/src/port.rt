@@ -5,7 +5,7 @@ ghost use Rattle.std.specs.Io.Seek.{SeekMoves};
 ghost use Rattle.std.specs.IoError.{error_kind};
 ghost use Rattle.bitstream_order.specs.Fault.{read_refusal_of, refusal_of};
 ghost use Rattle.bitstream_order.specs.Refusal.{Refusal, MayRefuse};
-ghost use Rattle.bitstream_order.specs.Port.{port_state, fetched_count, held_stream, with_stream, Fetches, Sends, Seeks};
+ghost use Rattle.bitstream_order.specs.Port.{port_state, fetched_count, port_stream, with_stream, Fetches, Sends, Seeks};
 
 use crate::refusals::Refusals;
 use crate::seek::SeekSource;
@@ -111,7 +111,7 @@ impl<S> Port<S> {
 
     /// Lends the stream. What is done to it there is not counted.
     pub fn lend(&mut self) -> &mut S
-        ensures value { result.now ≡ held_stream self.old }
+        ensures value { result.now ≡ port_stream self.old }
         ensures* writes_back { sem 𝓛
             (Lends (the_row S.row) S.row self.entry result (with_stream self.old)) }
     {
@@ -129,7 +129,7 @@ impl<S> Port<S> {
 
     /// Gives the stream up.
     pub fn into_inner(self) -> S
-        ensures { result ≡ held_stream self }
+        ensures { result ≡ port_stream self }
     {
         self.stream
     }
@@ -211,9 +211,9 @@ impl<S: Target> Port<S> {
         ensures sends { Sends (MayRefuse S.contents S.refuses)
             (port_state S.contents S.reference_names self.old) [] result
             (port_state S.contents S.reference_names self.new) }
-        ensures bytes { Keeps (S.contents (held_stream self.old))
-            (S.contents (held_stream self.new)) }
-        ensures flushed { OnOk result (S.flushes (held_stream self.old) (held_stream self.new)) }
+        ensures bytes { Keeps (S.contents (port_stream self.old))
+            (S.contents (port_stream self.new)) }
+        ensures flushed { OnOk result (S.flushes (port_stream self.old) (port_stream self.new)) }
     {
         let before = Snapshot::of(&self.stream);
         self.requests.add(1);
@@ -239,9 +239,9 @@ impl<S: SeekSource> Port<S> {
         ensures seeks { Seeks (MayRefuse S.remaining S.refuses)
             (port_state S.remaining S.reference_names self.old) result
             (port_state S.remaining S.reference_names self.new) }
-        ensures moves { SeekMoves (S.position (held_stream self.old))
-            (S.position (held_stream self.new)) (S.bytes (held_stream self.old)) to result }
-        ensures bytes { Keeps (S.bytes (held_stream self.old)) (S.bytes (held_stream self.new)) }
+        ensures moves { SeekMoves (S.position (port_stream self.old))
+            (S.position (port_stream self.new)) (S.bytes (port_stream self.old)) to result }
+        ensures bytes { Keeps (S.bytes (port_stream self.old)) (S.bytes (port_stream self.new)) }
     {
         let before = Snapshot::of(&self.stream);
         self.requests.add(1);

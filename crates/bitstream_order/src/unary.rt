@@ -4,7 +4,7 @@ ghost use Rattle.bitstream_number.specs.Word.{word};
 ghost use Rattle.bitstream_order.specs.Parts.{first_part};
 ghost use Rattle.bitstream_order.specs.Refusal.{MayRefuse};
 ghost use Rattle.bitstream_order.specs.Port.{port_state, fetched_count, requests_count};
-ghost use Rattle.bitstream_order.specs.TakeRun.{FetchesByte, TakesRun};
+ghost use Rattle.bitstream_order.specs.TakeUnary.{FetchesByte, TakesUnary};
 
 use crate::order::Endianness;
 use crate::port::Port;
@@ -30,7 +30,7 @@ fn fetch_byte<S: Source>(port: &mut Port<S>) -> Result<u8, Error>
 
 /// A run of bits before a stop bit, and what is left of the byte that holds the stop bit.
 #[derive(Clone, Copy, Drop)]
-pub struct Run {
+pub struct TakenUnary {
     /// How many bits came before the stop bit.
     pub count: u32,
     /// A byte whose first bits are those left.
@@ -47,15 +47,15 @@ pub struct Run {
 ///
 /// As [`Port::fetch`]: the bits of the bytes that were fetched until then are taken.
 #[inline(always)]
-pub fn take_run<S: Source, E: Endianness>(
+pub fn take_unary<S: Source, E: Endianness>(
     port: &mut Port<S>,
     turns: &mut Tally,
     queue: u8,
     queued: u32,
     stop: bool,
-) -> Result<Option<Run>, Error>
+) -> Result<Option<TakenUnary>, Error>
     requires { queued < 8 }
-    ensures takes { TakesRun (MayRefuse S.remaining S.refuses) E.order stop
+    ensures takes { TakesUnary (MayRefuse S.remaining S.refuses) E.order stop
         (word E.order queued (first_part E.order queue 8 queued))
         (port_state S.remaining S.reference_names port.old) result
         (port_state S.remaining S.reference_names port.new) }
@@ -64,9 +64,9 @@ pub fn take_run<S: Source, E: Endianness>(
         ≡ turns.old.count + (fetched_count port.new - fetched_count port.old) + 1) }
 {
     turns.add(1);
-    let first = E::run(queue, stop);
+    let first = E::lead(queue, stop);
     if first < queued {
-        return Ok(Some(Run {
+        return Ok(Some(TakenUnary {
             count: first,
             left: E::rest(E::rest(queue, first), 1),
             waiting: queued - first - 1,
@@ -76,15 +76,15 @@ pub fn take_run<S: Source, E: Endianness>(
     loop {
         let byte = fetch_byte(port)?;
         turns.add(1);
-        let run = E::run(byte, stop);
-        let Some(more) = count.checked_add(run) else {
+        let lead = E::lead(byte, stop);
+        let Some(more) = count.checked_add(lead) else {
             return Ok(None);
         };
-        if run < 8 {
-            return Ok(Some(Run {
+        if lead < 8 {
+            return Ok(Some(TakenUnary {
                 count: more,
-                left: E::rest(E::rest(byte, run), 1),
-                waiting: 7 - run,
+                left: E::rest(E::rest(byte, lead), 1),
+                waiting: 7 - lead,
             }));
         }
         count = more;

@@ -1,38 +1,27 @@
 -- How reads of whole bytes compose.
-use Rattle.std.proofs.Common.{◌≡◌, ℕ, ◌+◌, ◌<◌, ◌≤◌, inl, inr, Bool, List, [], ◌∷◌, ◌++◌, length, take, set, Result, Ok, Err, refl, sym, ap, ap₂, ◌∙◌, subst, append-nil, length-append, arith}
+use Rattle.std.proofs.Common.{◌≡◌, ℕ, false, ◌+◌, ◌<◌, ◌≤◌, inl, inr, Bool, List, [], ◌∷◌, ◌++◌, length, take, set, Result, Ok, Err, refl, sym, ap, ap₂, ◌∙◌, subst, append-nil, length-append, arith}
 use Rattle.std.specs.Io.KnownBytes.{Consumes}
 use Rattle.std.proofs.KnownBytes.{Consumes-nil, Consumes-trans}
-use Rattle.std.proofs.Math.Seq.{take-append_seam, take-length}
+use Rattle.std.proofs.Math.Seq.{take-length}
 use Rattle.std.proofs.lemmas.Grind.{take-set_at}
 use Rattle.std.specs.Prelude.{slice_index_or}
-use Rattle.std.proofs.lemmas.Bool.{le-leb, lt-leb, cases_lt}
-use Rattle.std.specs.Borrow.{GName, MutBor}
+use Rattle.std.proofs.lemmas.Bool.{le-leb, cases_lt}
 use Rattle.std.specs.Result.{IsErrAnd}
 use Rattle.bitstream_count.specs.declared.error.Error.{Error}
 use Rattle.bitstream_count.specs.declared.error.Error.TheVariants.{OutOfMemory}
-use Rattle.bitstream_count.specs.Entry.{Front, TooShort, Takes}
+use Rattle.bitstream_count.specs.Entry.{Front, TooFew, Takes}
 use Rattle.bitstream_number.specs.Word.{Order, High, Low}
 use Rattle.bitstream_order.specs.Parts.{value_bytes}
-use Rattle.bitstream_order.specs.Port.{PortState, Fetched, FetchRefused, Fetches}
-use Rattle.bitstream_order.specs.Refusal.{Refusal}
+use Rattle.bitstream_order.specs.Port.{PortState, Fetches}
 use Rattle.bitstream_order.specs.TakeBits.{seen}
 use Rattle.bitstream_order.proofs.FaultLemmas.{end_few}
 use Rattle.bitstream_stream.specs.ByteReader.{byte_reader_state}
-use Rattle.bitstream_stream.specs.ByteReads.{ByteReaderState, ByteSource, byte_front, given_bytes, skipped_bytes, TookBytes, TakesByteFront, ByteReadFault, ByteReadOutcome, takes_bytes, meets_refusal, wants_memory, ByteReads, ByteReadsGrowing, lent_bytes, lent_byte_source}
+use Rattle.bitstream_stream.specs.ByteReads.{ByteReaderState, ByteSource, byte_front, given_bytes, skipped_bytes, BytesTaken, ByteReadDone, ByteReadOutcome, was_done, was_refused, memory_refused, ByteReads, ByteReadsGrowing}
+use Rattle.bitstream_stream.proofs.EntryLemmas.{word_front-some as byte_front-some, word_front-none as byte_front-none, word_needs}
 use Rattle.bitstream_stream.proofs.ReadsLemmas.{Consumes-known}
+use Rattle.bitstream_stream.proofs.SinkLemmas.{exit_is}
 
 -- ---- fronts of n bytes
-
-byte_front-seam : {A : Type 0} (g : List ℕ → Result A Error) (w more : List ℕ) → byte_front (length w) g (w ++ more) ≡ Takes (length w) (g w)
-byte_front-seam g w more =
-    let yes = le-leb (length w) (length (w ++ more)) (omega (arith, length-append w more)) in
-    rw (yes, take-append_seam w more) refl
-
-pub byte_front-some : {A : Type 0} (n : ℕ) (g : List ℕ → Result A Error) (w more : List ℕ) → length w ≡ n → byte_front n g (w ++ more) ≡ Takes n (g w)
-byte_front-some n g w more h = subst (λ k. byte_front k g (w ++ more) ≡ Takes k (g w)) h (byte_front-seam g w more)
-
-pub byte_front-none : {A : Type 0} (n : ℕ) (g : List ℕ → Result A Error) (w : List ℕ) → length w < n → byte_front n g w ≡ TooShort
-byte_front-none n g w h = rw (lt-leb n (length w) h) refl
 
 byte_front-all : {A : Type 0} (n : ℕ) (g : List ℕ → Result A Error) (w : List ℕ) → n ≤ length w → byte_front n g w ≡ Takes n (g (take n w))
 byte_front-all n g w h = rw (le-leb n (length w) h) refl
@@ -49,63 +38,47 @@ decided n g w r h = elim (cases_lt (length w) n) [
 ]
 
 -- bytes that are too few
-too_few : {A : Type 0} (n : ℕ) (g : List ℕ → Result A Error) (w : List ℕ) → byte_front n g w ≡ TooShort → length w < n
+too_few : {A : Type 0} (n : ℕ) (g : List ℕ → Result A Error) (w : List ℕ) → byte_front n g w ≡ TooFew → length w < n
 too_few n g w h = elim (cases_lt (length w) n) [
   | inl short ↦ short
   | inr long ↦ let some = byte_front-all n g w long in cc
 ]
 
--- a shorter beginning of bytes has fewer
-shorter : (w front back : List ℕ) (b : ℕ) → w ≡ front ++ b ∷ back → length front < length w
-shorter w front back b is =
-    let size : length w ≡ length front + (length back + 1) = ap (λ l. length l) is ∙ length-append front (b ∷ back) ∙ ap (λ k. length front + k) (omega arith) in
-    omega arith
-
 -- ---- bytes that were taken
 
-pub TookBytes-nil : (s : ByteReaderState) → TookBytes s [] s
-TookBytes-nil s = record { loses = Consumes-nil s.bytes; taken = omega arith; refusals = refl; reference_names = refl }
+BytesTaken-trans : (x y : List ℕ) (s t u : ByteReaderState) → BytesTaken s x t → BytesTaken t y u → BytesTaken s (x ++ y) u
+BytesTaken-trans x y s t u h k =
+    let taken : u.taken ≡ s.taken + length (x ++ y) = omega (arith, h.taken, k.taken, length-append x y) in
+    record { loses = Consumes-trans s.bytes t.bytes u.bytes x y h.loses k.loses; taken = taken; refusals = k.refusals ∙ h.refusals; reference_names = k.reference_names ∙ h.reference_names }
 
-TookBytes-trans : (x y : List ℕ) (s t u : ByteReaderState) → TookBytes s x t → TookBytes t y u → TookBytes s (x ++ y) u
-TookBytes-trans x y s t u h k = record {
-  loses = Consumes-trans s.bytes t.bytes u.bytes x y h.loses k.loses;
-  taken = let a = h.taken in let b = k.taken in let l = length-append x y in omega arith;
-  refusals = k.refusals ∙ h.refusals;
-  reference_names = k.reference_names ∙ h.reference_names;
-}
-
-took_front : {A : Type 0} (n : ℕ) (g : List ℕ → Result A Error) (w : List ℕ) (s t : ByteReaderState) → length w ≡ n → TookBytes s w t → TakesByteFront (byte_front n g) s (g w) t
-took_front n g w s t len h = record {
-  bytes = w;
-  decides = λ more. byte_front-some n g w more len ∙ ap (λ k. Takes k (g w)) (sym len);
-  needs = λ front b back is. let few = shorter w front back b is in byte_front-none n g front (omega arith);
-  took = h;
-}
+took_front : {A : Type 0} (n : ℕ) (g : List ℕ → Result A Error) (w : List ℕ) (s t : ByteReaderState) → length w ≡ n → BytesTaken s w t → ByteReadDone (byte_front n g) s (g w) t
+took_front n g w s t len h =
+    record { bytes = w; decides = λ more. byte_front-some n g w more len ∙ ap (λ k. Takes k (g w)) (sym len); needs = word_needs n g w len; took = h }
 
 -- a front of n took n bytes and has their answer
-front_took : {A : Type 0} (n : ℕ) (g : List ℕ → Result A Error) (r : Result A Error) (s t : ByteReaderState) (h : TakesByteFront (byte_front n g) s r t) → (length h.bytes ≡ n) × (r ≡ g h.bytes)
+front_took : {A : Type 0} (n : ℕ) (g : List ℕ → Result A Error) (r : Result A Error) (s t : ByteReaderState) (h : ByteReadDone (byte_front n g) s r t) → (length h.bytes ≡ n) × (r ≡ g h.bytes)
 front_took n g r s t h = decided n g h.bytes r (ap (byte_front n g) (sym (append-nil h.bytes)) ∙ h.decides [])
 
 -- ---- calls one after another
 
 -- what a call that answered took
-pub bytes_took : {R : Type 0} {K : ByteSource R} {grows : Bool} (n : ℕ) (x : List ℕ) (s t : R) → ByteReadOutcome K grows (given_bytes n) s (Ok x) t → TookBytes (K.state s) x (K.state t) × (length x ≡ n)
+pub bytes_took : {R : Type 0} {K : ByteSource R} {grows : Bool} (n : ℕ) (x : List ℕ) (s t : R) → ByteReadOutcome K grows (given_bytes n) s (Ok x) t → BytesTaken (K.state s) x (K.state t) × (length x ≡ n)
 unfolding given_bytes
-bytes_took {K = K} n x s t (takes_bytes h) =
+bytes_took {K = K} n x s t (was_done h) =
     let e = front_took n (λ w. Ok w) (Ok x) (K.state s) (K.state t) h in
     let answer : Ok x ≡ Ok h.bytes = e.1 in
     let same : x ≡ h.bytes = cc in
-    (subst (λ w. TookBytes (K.state s) w (K.state t)) (sym same) h.took, ap (λ l. length l) same ∙ e.0)
-bytes_took n x s t (meets_refusal h) = let p = h.answer in cc
-bytes_took n x s t (wants_memory g h) = let p = h.answer in cc
+    (subst (λ w. BytesTaken (K.state s) w (K.state t)) (sym same) h.took, ap (λ l. length l) same ∙ e.0)
+bytes_took n x s t (was_refused h) = let p = h.answer in cc
+bytes_took n x s t (memory_refused g h) = let p = h.answer in cc
 
-pub bytes_taken : {R : Type 0} {K : ByteSource R} {grows : Bool} (n : ℕ) (x : List ℕ) (s t : R) → length x ≡ n → TookBytes (K.state s) x (K.state t) → ByteReadOutcome K grows (given_bytes n) s (Ok x) t
+pub bytes_taken : {R : Type 0} {K : ByteSource R} {grows : Bool} (n : ℕ) (x : List ℕ) (s t : R) → length x ≡ n → BytesTaken (K.state s) x (K.state t) → ByteReadOutcome K grows (given_bytes n) s (Ok x) t
 unfolding given_bytes
-bytes_taken {K = K} n x s t len h = takes_bytes (took_front n (λ w. Ok w) x (K.state s) (K.state t) len h)
+bytes_taken {K = K} n x s t len h = was_done (took_front n (λ w. Ok w) x (K.state s) (K.state t) len h)
 
 -- no bytes
 pub bytes_none : {R : Type 0} {K : ByteSource R} {grows : Bool} (s : R) → ByteReadOutcome K grows (given_bytes 0) s (Ok []) s
-bytes_none {K = K} s = bytes_taken 0 [] s s refl (TookBytes-nil (K.state s))
+bytes_none {K = K} s = bytes_taken 0 [] s s refl (record { loses = Consumes-nil (K.state s).bytes; taken = omega arith; refusals = refl; reference_names = refl })
 
 -- some bytes and then more
 pub bytes_more : {R : Type 0} {K : ByteSource R} {grows : Bool} (a b : ℕ) (x y : List ℕ) (s t u : R) → ByteReadOutcome K grows (given_bytes a) s (Ok x) t → ByteReads K (given_bytes b) t (Ok y) u
@@ -113,23 +86,23 @@ pub bytes_more : {R : Type 0} {K : ByteSource R} {grows : Bool} (a b : ℕ) (x y
 bytes_more {K = K} a b x y s t u h k =
     let p = bytes_took a x s t h in
     let q = bytes_took b y t u k in
-    bytes_taken (a + b) (x ++ y) s u (length-append x y ∙ ap₂ (λ i j. i + j) p.1 q.1) (TookBytes-trans x y (K.state s) (K.state t) (K.state u) p.0 q.0)
+    bytes_taken (a + b) (x ++ y) s u (length-append x y ∙ ap₂ (λ i j. i + j) p.1 q.1) (BytesTaken-trans x y (K.state s) (K.state t) (K.state u) p.0 q.0)
 
 -- the same, by all bytes
 pub bytes_then : {R : Type 0} {K : ByteSource R} {grows : Bool} (a b n : ℕ) (x y z : List ℕ) (s t u : R) → a + b ≡ n → z ≡ x ++ y → ByteReadOutcome K grows (given_bytes a) s (Ok x) t → ByteReads K (given_bytes b) t (Ok y) u
     → ByteReadOutcome K grows (given_bytes n) s (Ok z) u
 bytes_then {K = K} {grows = grows} a b n x y z s t u sum is h k = rw (is, ← sum) (bytes_more a b x y s t u h k)
 
--- some bytes of n, and then a call that was refused
-pub bytes_stop : {R : Type 0} {K : ByteSource R} {grows : Bool} (a b n : ℕ) (x : List ℕ) (e : Error) (s t u : R) → a + b ≤ n → ByteReadOutcome K grows (given_bytes a) s (Ok x) t → ByteReads K (given_bytes b) t (Err e) u
-    → ByteReadOutcome K grows (given_bytes n) s (Err e) u
+-- some bytes of n, and then a call that was refused, of a call that makes an answer of the n bytes
+stop_front : {R A : Type 0} {K : ByteSource R} {grows : Bool} (g : List ℕ → Result A Error) (a b n : ℕ) (x : List ℕ) (e : Error) (s t u : R) → a + b ≤ n → ByteReadOutcome K grows (given_bytes a) s (Ok x) t
+    → ByteReads K (given_bytes b) t (Err e) u → ByteReadOutcome K grows (byte_front n g) s (Err e) u
 unfolding given_bytes
-bytes_stop {K = K} a b n x e s t u le h (takes_bytes k) = let p = (front_took b (λ w. Ok w) (Err e) (K.state t) (K.state u) k).1 in cc
-bytes_stop {K = K} a b n x e s t u le h (meets_refusal k) =
+stop_front {K = K} g a b n x e s t u le h (was_done k) = let p = (front_took b (λ w. Ok w) (Err e) (K.state t) (K.state u) k).1 in cc
+stop_front {K = K} g a b n x e s t u le h (was_refused k) =
     let p = bytes_took a x s t h in
     let took = p.0 in
     let len = p.1 in
-    meets_refusal (record {
+    was_refused (record {
       refusal = k.refusal;
       allowed = k.allowed;
       answer = let answer = k.answer in cc;
@@ -137,61 +110,44 @@ bytes_stop {K = K} a b n x e s t u le h (meets_refusal k) =
       loses = Consumes-trans (K.state s).bytes (K.state t).bytes k.refusal.before x k.gone took.loses k.loses;
       after = k.after;
       taken = let i = took.taken in let j = k.taken in let l = length-append x k.gone in omega arith;
-      few =
-          let few = too_few b (λ w. Ok w) k.gone k.few in
-          let l = length-append x k.gone in
-          byte_front-none n (λ w. Ok w) (x ++ k.gone) (omega arith);
+      few = let few = too_few b (λ w. Ok w) k.gone k.few in byte_front-none n g (x ++ k.gone) (omega (arith, length-append x k.gone));
       ended = λ end xs known.
           let left = Consumes-known (K.state s).bytes (K.state t).bytes x xs took.loses known in
           let few = too_few b (λ w. Ok w) left.0 (k.ended end left.0 left.1) in
           let all : length xs ≡ length x + length left.0 = ap (λ l. length l) left.2 ∙ length-append x left.0 in
-          byte_front-none n (λ w. Ok w) xs (omega arith);
+          byte_front-none n g xs (omega arith);
       refusals = k.refusals ∙ ap (λ l. k.refusal ∷ l) took.refusals;
       reference_names = k.reference_names ∙ took.reference_names;
     })
-bytes_stop a b n x e s t u le h (wants_memory g k) = cc
+stop_front g a b n x e s t u le h (memory_refused m k) = cc
+
+pub bytes_stop : {R : Type 0} {K : ByteSource R} {grows : Bool} (a b n : ℕ) (x : List ℕ) (e : Error) (s t u : R) → a + b ≤ n → ByteReadOutcome K grows (given_bytes a) s (Ok x) t → ByteReads K (given_bytes b) t (Err e) u
+    → ByteReadOutcome K grows (given_bytes n) s (Err e) u
+unfolding given_bytes
+bytes_stop a b n x e s t u le h k = stop_front (λ w. Ok w) a b n x e s t u le h k
 
 -- fewer than n bytes, and then memory was refused
 pub bytes_starved : {R : Type 0} {K : ByteSource R} (a n : ℕ) (x : List ℕ) (s t : R) → a < n → ByteReadsGrowing K (given_bytes a) s (Ok x) t → ByteReadsGrowing K (given_bytes n) s (Err OutOfMemory) t
 unfolding given_bytes
-bytes_starved {K = K} a n x s t less h =
+bytes_starved a n x s t less h =
     let p = bytes_took a x s t h in
-    let len = p.1 in
-    wants_memory refl (record {
-      answer = refl;
-      bytes = x;
-      few = byte_front-none n (λ w. Ok w) x (omega arith);
-      took = p.0;
-    })
+    memory_refused refl (record { answer = refl; bytes = x; few = byte_front-none n (λ w. Ok w) x (omega (arith, p.1)); took = p.0 })
 
 -- n bytes, whatever they are
 pub bytes_skipped : {R : Type 0} {K : ByteSource R} (n : ℕ) (r : Result (List ℕ) Error) (s t : R) → ByteReads K (given_bytes n) s r t → ByteReads K (skipped_bytes n) s (seen (λ _. tt) r) t
 unfolding given_bytes skipped_bytes
-bytes_skipped {K = K} n (Ok x) s t h = let p = bytes_took n x s t h in takes_bytes (took_front n (λ _. Ok tt) x (K.state s) (K.state t) p.1 p.0)
-bytes_skipped {K = K} n (Err e) s t (takes_bytes h) = let p = (front_took n (λ w. Ok w) (Err e) (K.state s) (K.state t) h).1 in cc
-bytes_skipped n (Err e) s t (meets_refusal h) = meets_refusal (record {
-  refusal = h.refusal;
-  allowed = h.allowed;
-  answer = let answer = h.answer in cc;
-  gone = h.gone;
-  loses = h.loses;
-  after = h.after;
-  taken = h.taken;
-  few = byte_front-none n (λ _. Ok tt) h.gone (too_few n (λ w. Ok w) h.gone h.few);
-  ended = λ end xs known. byte_front-none n (λ _. Ok tt) xs (too_few n (λ w. Ok w) xs (h.ended end xs known));
-  refusals = h.refusals;
-  reference_names = h.reference_names;
-})
-bytes_skipped n (Err e) s t (wants_memory g h) = cc
+bytes_skipped {K = K} n (Ok x) s t h = let p = bytes_took n x s t h in was_done (took_front n (λ _. Ok tt) x (K.state s) (K.state t) p.1 p.0)
+bytes_skipped {K = K} n (Err e) s t h = stop_front (λ _. Ok tt) 0 n n [] e s s t (omega arith) (bytes_none {K = K} {grows = false} s) h
 
 -- ---- one request
 
-fetched_bytes : (n : ℕ) (bytes : List ℕ) (old new : PortState) → length bytes ≡ n → Fetched old bytes new → TookBytes (byte_reader_state old) bytes (byte_reader_state new)
-fetched_bytes n bytes old new len h = record { loses = h.loses; taken = h.fetched; refusals = h.refusals; reference_names = h.reference_names }
-
-refused_bytes : (may : Refusal → Type 0) (error : Error) (n : ℕ) (old new : PortState) → 0 < n → FetchRefused may error old n new
-    → ByteReadFault may (byte_front n (λ w. Ok w)) (byte_reader_state old) (Err error) (byte_reader_state new)
-refused_bytes may error n old new some h = record {
+-- a request for some bytes is a read of them
+pub bytes_fetched : {R : Type 0} {K : ByteSource R} (n : ℕ) (bytes : List ℕ) (answer : Result (Unit {0}) Error) (old new : PortState) (s t : R) → K.state s ≡ byte_reader_state old → K.state t ≡ byte_reader_state new → length bytes ≡ n → 0 < n
+    → Fetches K.may old bytes answer new → ByteReads K (given_bytes n) s (seen (λ _. bytes) answer) t
+unfolding given_bytes
+bytes_fetched {K = K} n bytes (Ok done) old new s t before after len some h =
+    bytes_taken n bytes s t len (rw (before, after) (record { loses = h.loses; taken = h.fetched; refusals = h.refusals; reference_names = h.reference_names }))
+bytes_fetched {K = K} n bytes (Err error) old new s t before after len some h = was_refused (rw (before, after) (record {
   refusal = h.refusal;
   allowed = h.allowed;
   answer = ap Err h.answer;
@@ -200,51 +156,10 @@ refused_bytes may error n old new some h = record {
   after = h.after;
   taken = let same = h.fetched in omega arith;
   few = byte_front-none n (λ w. Ok w) [] some;
-  ended = λ end xs known. byte_front-none n (λ w. Ok w) xs (end_few may error old new n xs h end known);
+  ended = λ end xs known. byte_front-none n (λ w. Ok w) xs (subst (λ k. length xs < k) len (end_few K.may error old new (length bytes) xs h end known));
   refusals = h.refusals;
   reference_names = h.reference_names;
-}
-
--- a request for some bytes is a read of them
-pub bytes_fetched : {R : Type 0} {K : ByteSource R} (n : ℕ) (bytes : List ℕ) (answer : Result (Unit {0}) Error) (old new : PortState) (s t : R) → K.state s ≡ byte_reader_state old → K.state t ≡ byte_reader_state new → length bytes ≡ n → 0 < n
-    → Fetches K.may old bytes answer new → ByteReads K (given_bytes n) s (seen (λ _. bytes) answer) t
-unfolding given_bytes
-bytes_fetched {K = K} n bytes (Ok done) old new s t before after len some h =
-    bytes_taken n bytes s t len (rw (before, after) (fetched_bytes n bytes old new len h))
-bytes_fetched {K = K} n bytes (Err error) old new s t before after len some h =
-    meets_refusal (rw (before, after) (refused_bytes K.may error n old new some (subst (λ k. FetchRefused K.may error old k new) len h)))
-
--- ---- a reader that is seen through a reference
-
-TookBytes-named : (n m : GName) (x : List ℕ) (s t : ByteReaderState) → m ≡ n → TookBytes s x t → TookBytes (lent_bytes n s) x (lent_bytes m t)
-TookBytes-named n m x s t same h = record { loses = h.loses; taken = h.taken; refusals = h.refusals; reference_names = ap₂ (λ i l. i ∷ l) same h.reference_names }
-
-pub bytes_lent : {R A : Type 0} {K : ByteSource R} {grows : Bool} {e : List ℕ → Front A} {r : Result A Error} (s t : MutBor R) → t.ghost_name ≡ s.ghost_name → ByteReadOutcome K grows e s.now r t.now → ByteReadOutcome (lent_byte_source K) grows e s r t
-bytes_lent {K = K} s t same (takes_bytes h) = takes_bytes (record {
-  bytes = h.bytes;
-  decides = h.decides;
-  needs = h.needs;
-  took = TookBytes-named s.ghost_name t.ghost_name h.bytes (K.state s.now) (K.state t.now) same h.took;
-})
-bytes_lent {K = K} s t same (meets_refusal h) = meets_refusal (record {
-  refusal = h.refusal;
-  allowed = h.allowed;
-  answer = h.answer;
-  gone = h.gone;
-  loses = h.loses;
-  after = h.after;
-  taken = h.taken;
-  few = h.few;
-  ended = h.ended;
-  refusals = h.refusals;
-  reference_names = ap₂ (λ i l. i ∷ l) same h.reference_names;
-})
-bytes_lent {K = K} s t same (wants_memory g h) = wants_memory g (record {
-  answer = h.answer;
-  bytes = h.bytes;
-  few = h.few;
-  took = TookBytes-named s.ghost_name t.ghost_name h.bytes (K.state s.now) (K.state t.now) same h.took;
-})
+}))
 
 -- ---- a buffer that is filled byte by byte
 
@@ -270,5 +185,4 @@ byte_put {K = K} i buf x s t u fits h k =
 -- ---- what the exit of a `?` returns
 
 pub left_by : {R A : Type 0} {K : ByteSource R} {grows : Bool} {e : List ℕ → Front A} {x : Error} {s t : R} (r : Result A Error) → IsErrAnd r (λ y. y ≡ x) → ByteReadOutcome K grows e s (Err x) t → ByteReadOutcome K grows e s r t
-left_by (Ok a) h k = absurd h
-left_by {K = K} {grows = grows} {e = e} {s = s} {t = t} (Err y) h k = subst (λ z. ByteReadOutcome K grows e s (Err z) t) (sym h) k
+left_by {K = K} {grows = grows} {e = e} {s = s} {t = t} r h k = subst (λ z. ByteReadOutcome K grows e s z t) (sym (exit_is r h)) k

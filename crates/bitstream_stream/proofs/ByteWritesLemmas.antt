@@ -9,8 +9,8 @@ use Rattle.bitstream_count.specs.declared.error.Error.{Error}
 use Rattle.bitstream_number.specs.Word.{Order}
 use Rattle.bitstream_order.specs.Port.{Sends}
 use Rattle.bitstream_order.specs.Refusal.{MayRefuse}
-use Rattle.bitstream_stream.specs.Sink.{IsBeyond}
-use Rattle.bitstream_stream.specs.ByteSink.{ByteSink, BytesAppended, ByteWriteFault, ByteWrites, past_limit, met_refusal, wrote_bytes, lent_byte_sink}
+use Rattle.bitstream_stream.specs.Sink.{IsPastLimit}
+use Rattle.bitstream_stream.specs.ByteSink.{ByteSink, BytesAppended, ByteWriteRefused, ByteWrites, past_limit, was_refused, was_done, lent_byte_sink}
 use Rattle.bitstream_stream.specs.ByteWriter.{byte_writer_state, byte_writer_sink}
 use Rattle.bitstream_stream.specs.declared.byte_writer.ByteWriter.{ByteWriter}
 
@@ -19,24 +19,20 @@ module _ {S : Type 0} (K : ByteSink S) where
   none_appended s = record { grown = K.appends_nil s; refusals = refl; reference_names = refl }
 
   pub more_appended : (x y : List ℕ) (s t u : S) → BytesAppended K s x t → BytesAppended K t y u → BytesAppended K s (x ++ y) u
-  more_appended x y s t u h k = record {
-    grown = K.appends_trans s t u x y h.grown k.grown;
-    refusals = k.refusals ∙ h.refusals;
-    reference_names = k.reference_names ∙ h.reference_names;
-  }
+  more_appended x y s t u h k = record { grown = K.appends_trans s t u x y h.grown k.grown; refusals = k.refusals ∙ h.refusals; reference_names = k.reference_names ∙ h.reference_names }
 
   pub was_written : {T : Type 0} (x : List ℕ) (s : S) (done : T) (t : S) → ByteWrites K x s (Ok done) t → BytesAppended K s x t
   was_written x s done t (past_limit b r h) = cc
-  was_written x s done t (met_refusal e w r h) = cc
-  was_written x s done t (wrote_bytes d w r h) = h
+  was_written x s done t (was_refused e w r h) = cc
+  was_written x s done t (was_done d w r h) = h
 
-  pub was_stopped : {T : Type 0} (x : List ℕ) (s : S) (e : Error) (t : S) → K.limit ≡ None → ByteWrites {T = T} K x s (Err e) t → ByteWriteFault K s x e t
-  was_stopped x s e t none (past_limit b r h) = absurd (subst (λ l. IsBeyond l (K.len s + length x)) none b)
-  was_stopped {T = T} x s e t none (met_refusal d w r h) = let same : d ≡ e = cc in subst (λ y. ByteWriteFault K s x y t) same h
-  was_stopped x s e t none (wrote_bytes d w r h) = cc
+  pub was_stopped : {T : Type 0} (x : List ℕ) (s : S) (e : Error) (t : S) → K.limit ≡ None → ByteWrites {T = T} K x s (Err e) t → ByteWriteRefused K s x e t
+  was_stopped x s e t none (past_limit b r h) = absurd (subst (λ l. IsPastLimit l (K.len s + length x)) none b)
+  was_stopped {T = T} x s e t none (was_refused d w r h) = let same : d ≡ e = cc in subst (λ y. ByteWriteRefused K s x y t) same h
+  was_stopped x s e t none (was_done d w r h) = cc
 
   -- bytes that went before, with others behind them
-  pub stopped_behind : (x y z : List ℕ) (e : Error) (s t u : S) → BytesAppended K s x t → ByteWriteFault K t y e u → ByteWriteFault K s (x ++ (y ++ z)) e u
+  pub stopped_behind : (x y z : List ℕ) (e : Error) (s t u : S) → BytesAppended K s x t → ByteWriteRefused K t y e u → ByteWriteRefused K s (x ++ (y ++ z)) e u
   stopped_behind x y z e s t u h k =
       record {
         refusal = k.refusal;
@@ -60,24 +56,21 @@ module _ {S : Type 0} (K : ByteSink S) where
       subst (λ x. BytesAppended K s x u) (replicate-append-replicate k n 0) (more_appended (replicate k 0) (replicate n 0) s t u h zeros)
 
   pub zeros_stopped : {T : Type 0} (k n size all : ℕ) (e : Error) (s t u : S) → n ≤ size → k + n ≤ all → K.limit ≡ None → BytesAppended K s (replicate k 0) t → ByteWrites {T = T} K (take n (replicate size 0)) t (Err e) u
-      → ByteWriteFault K s (replicate all 0) e u
+      → ByteWriteRefused K s (replicate all 0) e u
   zeros_stopped k n size all e s t u le room none h r =
-      let few : ByteWriteFault K t (replicate n 0) e u = subst (λ x. ByteWriteFault K t x e u) (take-replicate n size 0 le) (was_stopped (take n (replicate size 0)) t e u none r) in
+      let few : ByteWriteRefused K t (replicate n 0) e u = subst (λ x. ByteWriteRefused K t x e u) (take-replicate n size 0 le) (was_stopped (take n (replicate size 0)) t e u none r) in
       let m = all - (k + n) in
       let sum : k + (n + m) ≡ all = omega arith in
       let zeros : replicate {A = ℕ} k 0 ++ (replicate n 0 ++ replicate m 0) ≡ replicate all 0 =
       ap (λ (l : List ℕ). replicate k 0 ++ l) (replicate-append-replicate n m 0) ∙ replicate-append-replicate k (n + m) 0 ∙ ap (λ (i : ℕ). replicate i 0) sum in
-      subst (λ x. ByteWriteFault K s x e u) zeros (stopped_behind (replicate k 0) (replicate n 0) (replicate m 0) e s t u h few)
+      subst (λ x. ByteWriteRefused K s x e u) zeros (stopped_behind (replicate k 0) (replicate n 0) (replicate m 0) e s t u h few)
 
 -- a request to send some bytes is a write of them
 pub bytes_sent : {W E : Type 0} (contents : W → Option (List ℕ)) (refuses : W → ℕ → ErrorKind → W → Type 0) (reference_names : W → List GName) (o : Order) (x : List ℕ) (a b : ByteWriter W E) (r : Result (Unit {0}) Error) → 0 < length x
     → Sends (MayRefuse contents refuses) (byte_writer_state contents reference_names a) x r (byte_writer_state contents reference_names b) → ByteWrites (byte_writer_sink contents refuses reference_names o) x a r b
-bytes_sent contents refuses reference_names o x a b (Ok done) some h = wrote_bytes done tt refl (record {
-  grown = record { grows = h.grows; sent = h.sent };
-  refusals = h.refusals;
-  reference_names = h.reference_names;
-})
-bytes_sent contents refuses reference_names o x a b (Err e) some h = met_refusal e tt refl (record {
+bytes_sent contents refuses reference_names o x a b (Ok done) some h =
+    was_done done tt refl (record { grown = record { grows = h.grows; sent = h.sent }; refusals = h.refusals; reference_names = h.reference_names })
+bytes_sent contents refuses reference_names o x a b (Err e) some h = was_refused e tt refl (record {
   refusal = h.refusal;
   allowed = h.allowed;
   answer = h.answer;
@@ -99,7 +92,7 @@ module _ {S : Type 0} (K : ByteSink S) (a b : MutBor S) (same : b.ghost_name ≡
 
   pub writes_lent : {T : Type 0} (x : List ℕ) (r : Result T Error) → ByteWrites K x a.now r b.now → ByteWrites (lent_byte_sink K) x a r b
   writes_lent x r (past_limit p q h) = past_limit p q (appended_lent [] h)
-  writes_lent x r (met_refusal e w q h) = met_refusal e w q (record {
+  writes_lent x r (was_refused e w q h) = was_refused e w q (record {
     refusal = h.refusal;
     allowed = h.allowed;
     answer = h.answer;
@@ -113,4 +106,4 @@ module _ {S : Type 0} (K : ByteSink S) (a b : MutBor S) (same : b.ghost_name ≡
     refusals = h.refusals;
     reference_names = ap₂ (λ (n : GName) l. n ∷ l) same h.reference_names;
   })
-  writes_lent x r (wrote_bytes d w q h) = wrote_bytes d w q (appended_lent x h)
+  writes_lent x r (was_done d w q h) = was_done d w q (appended_lent x h)

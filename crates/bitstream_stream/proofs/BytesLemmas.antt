@@ -15,16 +15,17 @@ use Rattle.bitstream_number.proofs.WordLemmas.{bits-bytes, length-bits, word-num
 use Rattle.std.proofs.lemmas.List.{nil_from_length, length-replicate}
 use Rattle.bitstream_count.specs.declared.error.Error.{Error}
 use Rattle.bitstream_count.specs.declared.error.Error.TheVariants.{Failed, OutOfMemory}
-use Rattle.bitstream_count.specs.Entry.{ReadEntry, TooShort, chain, gives, takes}
+use Rattle.bitstream_count.specs.Entry.{ReadEntry, TooFew, chain, gives, takes}
 use Rattle.bitstream_order.specs.Port.{PortState, Fetched}
 use Rattle.bitstream_order.specs.Shift.{Shifts}
 use Rattle.bitstream_order.specs.Pieces.{pieces}
 use Rattle.bitstream_order.specs.TakeBits.{TakesWord, seen}
-use Rattle.bitstream_stream.specs.Reads.{BitSource, ReadOutcome, failing, stays_failed}
+use Rattle.bitstream_stream.specs.Reads.{BitSource, ReadOutcome, failed_reader, had_failed}
 use Rattle.bitstream_stream.specs.ReadTable.{unsigned_entry, bytes_entry, skip_entry}
-use Rattle.bitstream_stream.proofs.EntryLemmas.{Same, Same-trans, chain-none, word_front-some, word_front-none, chain_takes, map_takes}
+use Rattle.bitstream_stream.proofs.EntryLemmas.{Same, Same-trans, word_front-some, word_front-none, chain_takes, map_takes}
 use Rattle.bitstream_stream.proofs.LawLemmas.{Same-chain}
-use Rattle.bitstream_stream.proofs.ReadsLemmas.{Reads-same, Reads-chain-ok, Reads-chain-err, Reads-gives, Reads-nothing, Reads-lacks_memory, seen_err}
+use Rattle.bitstream_stream.proofs.SinkLemmas.{exit_is}
+use Rattle.bitstream_stream.proofs.ReadsLemmas.{Reads-same, Reads-chain-ok, Reads-chain-err, Reads-gives, Reads-nothing, Reads-memory_refused, ok_front, seen_err}
 use Rattle.bitstream_stream.proofs.TableLemmas.{unsigned-takes}
 
 -- ---- entries
@@ -72,7 +73,7 @@ unfolding bytes_entry
 bytes-on_failed o n = refl
 
 -- some bytes need bits
-bytes-some : (o : Order) (n p : ℕ) → 0 < n → (bytes_entry o n).reads p [] ≡ TooShort
+bytes-some : (o : Order) (n p : ℕ) → 0 < n → (bytes_entry o n).reads p [] ≡ TooFew
 unfolding bytes_entry
 bytes-some o n p some = word_front-none (8 * n) (λ w. Ok (bytes_of o n w)) [] (omega arith)
 
@@ -102,7 +103,7 @@ buffer-number o n v len small = ap Ok (bits-bytes o n v) ∙ sym (unsigned-fits 
 module _ {R : Type 0} {K : BitSource R} {grows : Bool} where
   pub bytes-failed : (o : Order) (n : ℕ) (s : R) → (K.state s).failed ≡ true → ReadOutcome K grows (bytes_entry o n) s (Err Failed) s
   unfolding bytes_entry
-  bytes-failed o n s h = stays_failed (record { failed = h; answer = refl; same = refl })
+  bytes-failed o n s h = had_failed (record { failed = h; answer = refl; same = refl })
 
   -- no bytes, of a reader that has not failed
   pub bytes-nothing : (o : Order) (bs : List ℕ) (s : R) → (K.state s).failed ≡ false → length bs ≡ 0 → ReadOutcome K grows (bytes_entry o (length bs)) s (Ok bs) s
@@ -155,7 +156,7 @@ module _ {R : Type 0} {K : BitSource R} {grows : Bool} where
 
   pub skips-failed : (n : ℕ) (s : R) → (K.state s).failed ≡ true → ReadOutcome K grows (skip_entry n) s (Err Failed) s
   unfolding skip_entry
-  skips-failed n s h = stays_failed (record { failed = h; answer = refl; same = refl })
+  skips-failed n s h = had_failed (record { failed = h; answer = refl; same = refl })
 
   pub skips-none : (s : R) → (K.state s).failed ≡ false → ReadOutcome K grows (skip_entry 0) s (Ok tt) s
   unfolding skip_entry
@@ -183,19 +184,17 @@ module _ {R : Type 0} {K : BitSource R} {grows : Bool} where
   skips-bytes-stop o a b n x s t z le h k = skips-front (8 * (a + b)) (8 * n) x s z (omega arith) (skips-more (8 * a) (8 * b) (8 * (a + b)) (Err x) s t z (twice a b) h (Reads-same (bytes-skip o b) (Reads-chain-err _ (λ _. gives tt) k)))
 
 -- memory was refused behind bytes that were read and before others, and the reader was made to fail
-pub lacks-more : {R : Type 0} {K : BitSource R} (o : Order) (a n : ℕ) (xs : List ℕ) (s t z : R) → a < n → ReadOutcome K true (bytes_entry o a) s (Ok xs) t → K.state z ≡ failing (K.state t) → ReadOutcome K true (bytes_entry o n) s (Err OutOfMemory) z
+pub lacks-more : {R : Type 0} {K : BitSource R} (o : Order) (a n : ℕ) (xs : List ℕ) (s t z : R) → a < n → ReadOutcome K true (bytes_entry o a) s (Ok xs) t → K.state z ≡ failed_reader (K.state t) → ReadOutcome K true (bytes_entry o n) s (Err OutOfMemory) z
 lacks-more {K = K} o a n xs s t z less h broken =
-    let sum : a + (n - a) ≡ n = omega arith in
-    let some = bytes-some o (n - a) (K.state t).taken (omega arith) in
-    subst (λ m. ReadOutcome K true (bytes_entry o m) s (Err OutOfMemory) z) sum
-    (Reads-same (bytes-split o a (n - a)) (Reads-lacks_memory (bytes_entry o a) (λ us. chain (bytes_entry o (n - a)) (λ vs. gives (us ++ vs))) xs s t z (bytes-on_failed o a)
-    (chain-none (bytes_entry o (n - a)) (λ vs. gives (xs ++ vs)) (K.state t).taken [] some) h broken))
+    let first = ok_front (bytes-on_failed o a) h in
+    let starved = Reads-memory_refused (bytes_entry o (n - a)) t z first.failed (bytes-some o (n - a) (K.state t).taken (omega arith)) broken in
+    stops-more o a (n - a) n xs OutOfMemory s t z (omega arith) h starved
 
 -- ---- what a reader took from its port
 
 -- the bytes that were fetched, behind a queue, as one word
-pub takes_bytes : (o : Order) (queued queue left n : ℕ) (bs made : List ℕ) (old new : PortState) → length made ≡ n → Fetched old bs new → Shifts o queued queue (bits o bs) (bits o made) left → TakesWord o queued queue old (8 * n) (number o (bits o made)) queued left new
-takes_bytes o queued queue left n bs made old new len h shifted =
+pub word_of_bytes : (o : Order) (queued queue left n : ℕ) (bs made : List ℕ) (old new : PortState) → length made ≡ n → Fetched old bs new → Shifts o queued queue (bits o bs) (bits o made) left → TakesWord o queued queue old (8 * n) (number o (bits o made)) queued left new
+word_of_bytes o queued queue left n bs made old new len h shifted =
     let size : length (bits o made) ≡ 8 * n = length-bits o made ∙ ap (λ k. 8 * k) len in
     record {
       bytes = bs;
@@ -209,15 +208,9 @@ takes_bytes o queued queue left n bs made old new len h shifted =
 
 -- the bits that are left, by another number of the same word
 pub takes_left : (o : Order) (queued queue n v l q r : ℕ) (old new : PortState) → word o l q ≡ word o l r → TakesWord o queued queue old n v l q new → TakesWord o queued queue old n v l r new
-takes_left o queued queue n v l q r old new same h = record {
-  bytes = h.bytes;
-  loses = h.loses;
-  fetched = h.fetched;
-  refusals = h.refusals;
-  reference_names = h.reference_names;
-  word = h.word ∙ ap (λ w. word o n v ++ w) same;
-  below = h.below;
-}
+takes_left o queued queue n v l q r old new same h =
+    let all = h.word ∙ ap (λ w. word o n v ++ w) same in
+    record { bytes = h.bytes; loses = h.loses; fetched = h.fetched; refusals = h.refusals; reference_names = h.reference_names; word = all; below = h.below }
 
 -- ---- pieces
 
@@ -228,26 +221,21 @@ Reaches most k at len = (at < len → at ≡ k * most) × (at ≤ k * most) × (
 reach-step : (most m n at len end : ℕ) → 1 ≤ most → n ≡ m + most → (at < len → at ≡ m) → at < len → end ≡ at + min most (len - at) → (end < len → end ≡ n) × (end ≤ n) × (n < end + most)
 reach-step most m n at len end some is so less e = let here = so less in (λ h. omega arith, omega arith, omega arith)
 
-next : (k most : ℕ) → (k + 1) * most ≡ k * most + most
-next k most = grind arith
-
 pub reaches-none : (most len : ℕ) → 1 ≤ most → Reaches most 0 0 len
 reaches-none most len some = (λ _. omega arith, omega arith, omega arith)
 
 pub reaches-more : (most k at len end : ℕ) → 1 ≤ most → at < len → end ≡ at + min most (len - at) → Reaches most k at len → Reaches most (k + 1) end len
-reaches-more most k at len end some less e h = reach-step most (k * most) ((k + 1) * most) at len end some (next k most) h.0 less e
+reaches-more most k at len end some less e h = reach-step most (k * most) ((k + 1) * most) at len end some (grind arith) h.0 less e
 
 split_sum : (m k len most : ℕ) → m ≡ k * most → len ≤ m → m < len + most → (q : ℕ) × (q < most) × (len + (most - 1) ≡ k * most + q)
 split_sum m k len most is low high = (len + (most - 1) - m, omega arith, omega arith)
 
-pub reaches-all : (most k len : ℕ) → Reaches most k len len → (len + (most - 1)) / most ≡ k
-reaches-all most k len h =
-    let q = split_sum (k * most) k len most refl h.1 h.2 in
-    ap (λ n. n / most) q.2 ∙ div-mul-add k most q.0 q.1
-
 pub pieces-all : (most queued k len at : ℕ) → (queued ≡ 0 → ⊥) → len ≤ at → at ≤ len → Reaches most k at len → pieces most queued len ≡ k
 pieces-all most zero k len at off low high h = absurd (off refl)
-pieces-all most (suc queued) k len at off low high h = let all : at ≡ len = omega arith in reaches-all most k len (subst (λ n. Reaches most k n len) all h)
+pieces-all most (suc queued) k len at off low high h =
+    let all : at ≡ len = omega arith in
+    let q = split_sum (k * most) k len most refl (omega (arith, h.1, all)) (omega (arith, h.2, all)) in
+    ap (λ n. n / most) q.2 ∙ div-mul-add k most q.0 q.1
 
 -- ---- refusals by `?`
 
@@ -256,5 +244,4 @@ pub seen_stops : {R A B : Type 0} {K : BitSource R} {grows : Bool} {e : ReadEntr
 seen_stops {K = K} {grows = grows} {e = e} {s = s} {t = t} view r h k = subst (λ z. ReadOutcome K grows e s z t) (sym (seen_err view r h)) k
 
 pub stops : {R A : Type 0} {K : BitSource R} {grows : Bool} {e : ReadEntry A} {x : Error} {s t : R} (r : Result A Error) → IsErrAnd r (λ y. y ≡ x) → ReadOutcome K grows e s (Err x) t → ReadOutcome K grows e s r t
-stops (Ok a) h k = absurd h
-stops {K = K} {grows = grows} {e = e} {s = s} {t = t} (Err y) h k = subst (λ z. ReadOutcome K grows e s (Err z) t) (sym h) k
+stops {K = K} {grows = grows} {e = e} {s = s} {t = t} r h k = subst (λ z. ReadOutcome K grows e s z t) (sym (exit_is r h)) k

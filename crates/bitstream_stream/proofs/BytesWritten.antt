@@ -11,12 +11,11 @@ use Rattle.bitstream_order.specs.Port.{PortState, Sent, SendRefused}
 use Rattle.bitstream_order.specs.Refusal.{Refusal}
 use Rattle.bitstream_order.specs.Shift.{Shifts}
 use Rattle.bitstream_stream.specs.Carries.{WriterState}
-use Rattle.bitstream_stream.specs.Sink.{Sink, Appended, WriteFault}
+use Rattle.bitstream_stream.specs.Sink.{Appended, WriteRefused}
 use Rattle.bitstream_stream.specs.Writer.{queue_sink, Pushes}
-use Rattle.bitstream_stream.proofs.SinkParts.{WriteFault-behind, WriteFault-longer}
-use Rattle.bitstream_stream.specs.WriteTable.{unsigned}
-use Rattle.bitstream_stream.proofs.WriteLemmas.{replicate-more, unsigned-fits}
-use Rattle.std.proofs.lemmas.Nat.{pow_pos}
+use Rattle.bitstream_stream.proofs.SinkParts.{WriteRefused-behind, WriteRefused-within, WriteRefused-longer}
+pub use Rattle.bitstream_stream.proofs.SinkParts.{appended_none, appended_more}
+use Rattle.bitstream_stream.proofs.WriteLemmas.{replicate-more}
 use Rattle.std.proofs.lemmas.List.{replicate-append-replicate, take-append-drop, take-replicate}
 use Rattle.bitstream_stream.proofs.WriterLemmas.{pushed_fault}
 
@@ -25,34 +24,19 @@ use Rattle.bitstream_stream.proofs.WriterLemmas.{pushed_fault}
 -- bytes that went, which the bits written made behind the queue
 pub sent_bytes : (may : Refusal → Type 0) (o : Order) (queued queue left : ℕ) (xs ys : List ℕ) (p r : PortState) (old new : Bool) → Shifts o queued queue (bits o xs) (bits o ys) left → Sent p ys r → new ≡ false
     → Appended (queue_sink may o) (record { port = p; queued = queued; queue = queue; failed = old }) (bits o xs) (record { port = r; queued = queued; queue = left; failed = new })
-sent_bytes may o queued queue left xs ys p r old new shifted h sound = record {
-  grown = record { bytes = ys; grows = h.grows; sent = h.sent; word = shifted };
-  sound = sound;
-  refusals = h.refusals;
-  reference_names = h.reference_names;
-}
+sent_bytes may o queued queue left xs ys p r old new shifted h sound =
+    record { grown = record { bytes = ys; grows = h.grows; sent = h.sent; word = shifted }; sound = sound; refusals = h.refusals; reference_names = h.reference_names }
 
 pub bytes_fault : (may : Refusal → Type 0) (o : Order) (queued queue : ℕ) (xs : List ℕ) (error : Error) (k : ℕ) (p r : PortState) (old new : Bool) (q : ℕ) → SendRefused may error p k r → queued < 8 → 1 ≤ length xs → new ≡ true
-    → WriteFault (queue_sink may o) (record { port = p; queued = queued; queue = queue; failed = old }) (bits o xs) error (record { port = r; queued = 0; queue = q; failed = new })
+    → WriteRefused (queue_sink may o) (record { port = p; queued = queued; queue = queue; failed = old }) (bits o xs) error (record { port = r; queued = 0; queue = q; failed = new })
 bytes_fault may o queued queue xs error k p r old new q h few some broken =
     let n = length (bits o xs) in
     let v = number o (bits o xs) in
     let size : n ≡ 8 * length xs = length-bits o xs in
-    subst (λ w. WriteFault (queue_sink may o) (record { port = p; queued = queued; queue = queue; failed = old }) w error (record { port = r; queued = 0; queue = q; failed = new })) (word-number o (bits o xs))
+    subst (λ w. WriteRefused (queue_sink may o) (record { port = p; queued = queued; queue = queue; failed = old }) w error (record { port = r; queued = 0; queue = q; failed = new })) (word-number o (bits o xs))
     (pushed_fault may o queued queue n v k error p r old new q h few (omega arith) broken)
 
 -- ---- several
-
-pub appended_none : {S : Type 0} (K : Sink S) (s : S) → K.failed s ≡ false → Appended K s [] s
-appended_none K s sound = record { grown = K.appends_nil s; sound = sound; refusals = refl; reference_names = refl }
-
-pub appended_more : {S : Type 0} (K : Sink S) (s t z : S) (x y : List Bool) → Appended K s x t → Appended K t y z → Appended K s (x ++ y) z
-appended_more K s t z x y h k = record {
-  grown = K.appends_trans s t z x y h.grown k.grown;
-  sound = k.sound;
-  refusals = k.refusals ∙ h.refusals;
-  reference_names = k.reference_names ∙ h.reference_names;
-}
 
 -- a part of some bytes behind those before it
 pub appended_part : (may : Refusal → Type 0) (o : Order) (s t z : WriterState) (at n k : ℕ) (xs part : List ℕ) → k ≡ n → part ≡ take k (drop at xs) → Appended (queue_sink may o) s (bits o (take at xs)) t → Appended (queue_sink may o) t (bits o part) z
@@ -63,15 +47,14 @@ appended_part may o s t z at n k xs part same is h more =
 
 -- a part of some bytes was refused, behind those before it
 pub pushes_stop : (may : Refusal → Type 0) (o : Order) (s t z : WriterState) (at k : ℕ) (xs part : List ℕ) (error : Error) (r : Result (Unit {0}) Error) → IsErrAnd r (λ e. e ≡ error) → part ≡ take k (drop at xs)
-    → Appended (queue_sink may o) s (bits o (take at xs)) t → WriteFault (queue_sink may o) t (bits o part) error z → Pushes may o (bits o xs) s r z
+    → Appended (queue_sink may o) s (bits o (take at xs)) t → WriteRefused (queue_sink may o) t (bits o part) error z → Pushes may o (bits o xs) s r z
 pushes_stop may o s t z at k xs part error (Ok done) e is h f = absurd e
 pushes_stop may o s t z at k xs part error (Err x) e is h f =
     let rest = drop k (drop at xs) in
     let cut : part ++ rest ≡ drop at xs = ap (λ (l : List ℕ). l ++ rest) is ∙ take-append-drop k (drop at xs) in
-    let all : bits o (take at xs) ++ (bits o part ++ bits o rest) ≡ bits o xs =
-    ap (λ (l : List Bool). bits o (take at xs) ++ l) (sym (bits-append o part rest) ∙ ap (bits o) cut) ∙ sym (bits-append o (take at xs) (drop at xs)) ∙ ap (bits o) (take-append-drop at xs) in
-    rw e (subst (λ (w : List Bool). WriteFault (queue_sink may o) s w error z) all
-    (WriteFault-behind (queue_sink may o) s t z error (bits o (take at xs)) (bits o part ++ bits o rest) h (WriteFault-longer (queue_sink may o) t z error (bits o part) (bits o rest) f)))
+    let all : bits o xs ≡ bits o (take at xs) ++ (bits o part ++ bits o rest) =
+    ap (bits o) (sym (take-append-drop at xs)) ∙ bits-append o (take at xs) (drop at xs) ∙ ap (λ (l : List Bool). bits o (take at xs) ++ l) (ap (bits o) (sym cut) ∙ bits-append o part rest) in
+    rw e (WriteRefused-within (queue_sink may o) s t z error (bits o (take at xs)) (bits o part) (bits o rest) (bits o xs) all h.grown h.refusals h.reference_names f)
 
 -- ---- zeros
 
@@ -91,17 +74,10 @@ word-zeros Low n = ap reverse (digits-zeros n) ∙ reverse-replicate n false
 pub zeros-split : (a b n : ℕ) → a + b ≡ n → replicate n false ≡ replicate a false ++ replicate b false
 zeros-split a b n sum = ap (λ (k : ℕ). replicate k false) (sym sum) ∙ sym (replicate-append-replicate a b false)
 
-pub accepts_zeros : (o : Order) (size n len : ℕ) → n ≤ size → unsigned o size n 0 len ≡ Ok (replicate n false)
-accepts_zeros o size n len le = unsigned-fits o size n 0 len le (pow_pos n) ∙ ap Ok (word-zeros o n)
-
 -- the bits of bytes of zeros
 pub bits-zeros : (o : Order) (n : ℕ) → bits o (replicate n 0) ≡ replicate (8 * n) false
 bits-zeros o zero = refl
 bits-zeros o (suc n) = rw (word-zeros o 8, bits-zeros o n) (sym (zeros-split 8 (8 * n) (8 * suc n) (omega arith)))
-
--- and of a part of them
-pub bits-zeros_front : (o : Order) (n size : ℕ) → n ≤ size → bits o (take n (replicate size 0)) ≡ replicate (8 * n) false
-bits-zeros_front o n size le = ap (bits o) (take-replicate n size 0 le) ∙ bits-zeros o n
 
 module _ (may : Refusal → Type 0) (o : Order) where
   -- a number 0 of n bits is n zeros
@@ -111,18 +87,18 @@ module _ (may : Refusal → Type 0) (o : Order) where
   -- zeros behind zeros
   pub zeros-behind : (a b n : ℕ) (s t z : WriterState) (r : Result (Unit {0}) Error) → a + b ≡ n → Appended (queue_sink may o) s (replicate a false) t → Pushes may o (replicate b false) t r z → Pushes may o (replicate n false) s r z
   zeros-behind a b n s t z (Ok done) sum h k = rw (zeros-split a b n sum) (appended_more (queue_sink may o) s t z (replicate a false) (replicate b false) h k)
-  zeros-behind a b n s t z (Err x) sum h k = rw (zeros-split a b n sum) (WriteFault-behind (queue_sink may o) s t z x (replicate a false) (replicate b false) h k)
+  zeros-behind a b n s t z (Err x) sum h k = rw (zeros-split a b n sum) (WriteRefused-behind (queue_sink may o) s t z x (replicate a false) (replicate b false) h k)
 
   -- a piece of bytes of zeros behind others
   pub zeros-piece : (a n size b : ℕ) (s t z : WriterState) (r : Result (Unit {0}) Error) → n ≤ size → a + n ≡ b → Appended (queue_sink may o) s (replicate (8 * a) false) t → Pushes may o (bits o (take n (replicate size 0))) t r z
       → Pushes may o (replicate (8 * b) false) s r z
   zeros-piece a n size b s t z r le sum h k =
-      zeros-behind (8 * a) (8 * n) (8 * b) s t z r (omega arith) h (subst (λ (w : List Bool). Pushes may o w t r z) (bits-zeros_front o n size le) k)
+      zeros-behind (8 * a) (8 * n) (8 * b) s t z r (omega arith) h (subst (λ (w : List Bool). Pushes may o w t r z) (ap (bits o) (take-replicate n size 0 le) ∙ bits-zeros o n) k)
 
   pub zeros-all : (a b : ℕ) (s t : WriterState) → a ≡ b → Appended (queue_sink may o) s (replicate (8 * a) false) t → Appended (queue_sink may o) s (replicate (8 * b) false) t
   zeros-all a b s t same h = subst (λ (n : ℕ). Appended (queue_sink may o) s (replicate (8 * n) false) t) same h
 
   -- a refusal before all zeros went
-  pub zeros-stop : (a n : ℕ) (x : Error) (s t : WriterState) (r : Result (Unit {0}) Error) → IsErrAnd r (λ e. e ≡ x) → a ≤ n → WriteFault (queue_sink may o) s (replicate a false) x t → Pushes may o (replicate n false) s r t
+  pub zeros-stop : (a n : ℕ) (x : Error) (s t : WriterState) (r : Result (Unit {0}) Error) → IsErrAnd r (λ e. e ≡ x) → a ≤ n → WriteRefused (queue_sink may o) s (replicate a false) x t → Pushes may o (replicate n false) s r t
   zeros-stop a n x s t (Ok done) e le h = absurd e
-  zeros-stop a n x s t (Err y) e le h = rw (e, zeros-split a (n - a) n (omega arith)) (WriteFault-longer (queue_sink may o) s t x (replicate a false) (replicate (n - a) false) h)
+  zeros-stop a n x s t (Err y) e le h = rw (e, zeros-split a (n - a) n (omega arith)) (WriteRefused-longer (queue_sink may o) s t x (replicate a false) (replicate (n - a) false) h)

@@ -1,7 +1,7 @@
 -- Two words, one behind the other.
-use Rattle.std.proofs.Common.{◌≡◌, ℕ, ◌+◌, ◌*◌, ◌^◌, ◌≤◌, Bool, List, ◌++◌, length, drop, Result, Ok, Err, refl, ap, ◌∙◌, arith}
+use Rattle.std.proofs.Common.{◌≡◌, ℕ, ◌+◌, ◌*◌, ◌^◌, ◌≤◌, Bool, List, ◌++◌, length, drop, Result, Ok, Err, refl, ap, ◌∙◌, arith, add_comm}
 use Rattle.bitstream_count.specs.declared.error.Error.{Error}
-use Rattle.bitstream_count.specs.Entry.{ReadEntry, Front, TooShort, Takes, longer, chain, gives, takes, front_then, result_then}
+use Rattle.bitstream_count.specs.Entry.{ReadEntry, Front, TooFew, Takes, longer, chain, gives, takes, front_then, result_then}
 use Rattle.bitstream_number.specs.Word.{Order, High, Low, number}
 use Rattle.bitstream_number.proofs.WordLemmas.{number-joined}
 use Rattle.bitstream_stream.specs.ReadTable.{unsigned_entry}
@@ -11,7 +11,7 @@ use Rattle.bitstream_stream.proofs.TableLemmas.{unsigned-takes}
 -- calls that read the same, behind the same call
 same_then : {A B : Type 0} (p : ℕ) (bits : List Bool) (f g : A → ReadEntry B) → ((a : A) → Same (f a) (g a)) → (x : Front A)
     → front_then x (λ n a. (f a).reads (p + n) (drop n bits)) ≡ front_then x (λ n a. (g a).reads (p + n) (drop n bits))
-same_then p bits f g same TooShort = refl
+same_then p bits f g same TooFew = refl
 same_then p bits f g same (Takes n (Ok a)) = ap (longer n) ((same a).reads (p + n) (drop n bits))
 same_then p bits f g same (Takes n (Err e)) = refl
 
@@ -38,10 +38,7 @@ pub words_join-high : (size a b : ℕ) → a + b ≤ size
 words_join-high size a b within = words_join High size a b (λ first second. first * 2 ^ b + second) within
     (λ u v lu lv. number-joined High u v ∙ ap (λ k. number High u * 2 ^ k + number High v) lv)
 
-swapped : (x y : ℕ) → x + y ≡ y + x
-swapped x y = omega arith
-
 pub words_join-low : (size a b : ℕ) → a + b ≤ size
     → Same (chain (unsigned_entry Low size a) (λ first. chain (unsigned_entry Low size b) (λ second. gives (first + second * 2 ^ a)))) (unsigned_entry Low size (a + b))
 words_join-low size a b within = words_join Low size a b (λ first second. first + second * 2 ^ a) within
-    (λ u v lu lv. number-joined Low v u ∙ ap (λ k. number Low v * 2 ^ k + number Low u) lu ∙ swapped (number Low v * 2 ^ a) (number Low u))
+    (λ u v lu lv. number-joined Low v u ∙ ap (λ k. number Low v * 2 ^ k + number Low u) lu ∙ add_comm (number Low v * 2 ^ a) (number Low u))

@@ -6,10 +6,10 @@ use Rattle.bitstream_number.specs.Word.{Order, word}
 use Rattle.bitstream_count.specs.Entry.{WriteEntry}
 use Rattle.bitstream_count.specs.declared.error.Error.{Error}
 use Rattle.bitstream_count.specs.declared.error.Error.TheVariants.{Failed, CounterOverflow}
-use Rattle.bitstream_stream.specs.Sink.{Sink, Writes, Appended, Kept, WriteFault, IsWithin, IsBeyond, was_failed, was_refused, passed_limit, had_fault, did_write}
+use Rattle.bitstream_stream.specs.Sink.{Sink, Writes, Appended, Kept, WriteRefused, IsWithin, IsPastLimit, had_failed, was_rejected, past_limit, was_refused, was_done}
 use Rattle.bitstream_stream.specs.WriteTable.{unsigned}
 use Rattle.bitstream_stream.proofs.WriteLemmas.{unsigned-fits, unsigned-none}
-use Rattle.bitstream_stream.proofs.SinkLemmas.{not_beyond, within_less, past_limit, untold, exit_is, empty}
+use Rattle.bitstream_stream.proofs.SinkLemmas.{not_past_limit, within_less, past_if_not_within, untold, exit_is, empty}
 
 -- the sink had not failed, and x is appended
 pub record Begun {S : Type 0} (K : Sink S) (old : S) (x : List Bool) (new : S) : Type 0 where
@@ -18,14 +18,22 @@ pub record Begun {S : Type 0} (K : Sink S) (old : S) (x : List Bool) (new : S) :
   pub done : Appended K old x new
 
 -- what a fault behind some bits says of them all
-fault_full : (a b x y n : ℕ) → b ≡ a + x → 8 ≤ b % 8 + y → n ≡ x + y → 8 ≤ a % 8 + n
-fault_full a b x y n at full is = omega arith
+fault_full : (a b x y z n : ℕ) → b ≡ a + x → 8 ≤ b % 8 + y → n ≡ x + (y + z) → 8 ≤ a % 8 + n
+fault_full a b x y z n at full is = omega arith
 
 module _ {S : Type 0} (K : Sink S) where
-  -- a fault of a word's last part is a fault of the word
-  pub WriteFault-behind : (old mid new : S) (d : Error) (x y : List Bool) → Appended K old x mid → WriteFault K mid y d new → WriteFault K old (x ++ y) d new
-  WriteFault-behind old mid new d x y h k =
-      let at = K.appends_len old mid x h.grown in
+  pub appended_none : (s : S) → K.failed s ≡ false → Appended K s [] s
+  appended_none s sound = record { grown = K.appends_nil s; sound = sound; refusals = refl; reference_names = refl }
+
+  pub appended_more : (s t z : S) (x y : List Bool) → Appended K s x t → Appended K t y z → Appended K s (x ++ y) z
+  appended_more s t z x y h k =
+      record { grown = K.appends_trans s t z x y h.grown k.grown; sound = k.sound; refusals = k.refusals ∙ h.refusals; reference_names = k.reference_names ∙ h.reference_names }
+
+  -- a fault of a part of a word, behind bits that were appended and before others, is a fault of the word
+  pub WriteRefused-within : (old mid new : S) (d : Error) (x y z word : List Bool) → word ≡ x ++ (y ++ z) → K.appends old x mid → K.refusals mid ≡ K.refusals old → K.reference_names mid ≡ K.reference_names old
+      → WriteRefused K mid y d new → WriteRefused K old word d new
+  WriteRefused-within old mid new d x y z word whole grown refusals reference_names k =
+      let at = K.appends_len old mid x grown in
       let size = length-append x k.front in
       let least = k.least in
       let most = k.most in
@@ -33,90 +41,58 @@ module _ {S : Type 0} (K : Sink S) where
         refusal = k.refusal;
         allowed = k.allowed;
         answer = k.answer;
-        full = fault_full (K.len old) (K.len mid) (length x) (length y) (length (x ++ y)) at k.full (length-append x y);
+        full = fault_full (K.len old) (K.len mid) (length x) (length y) (length z) (length word) at k.full (ap length whole ∙ length-append x (y ++ z) ∙ ap (λ (n : ℕ). length x + n) (length-append y z));
         front = x ++ k.front;
-        back = k.back;
-        parts = ap (λ (l : List Bool). x ++ l) k.parts ∙ sym (append_assoc x k.front k.back);
-        before = K.fills_behind old mid x k.front k.refusal.before h.grown k.before;
+        back = k.back ++ z;
+        parts = whole ∙ ap (λ (l : List Bool). x ++ (l ++ z)) k.parts ∙ ap (λ (l : List Bool). x ++ l) (append_assoc k.front k.back z) ∙ sym (append_assoc x k.front (k.back ++ z));
+        before = K.fills_behind old mid x k.front k.refusal.before grown k.before;
         after = k.after;
         whole = k.whole;
         least = omega arith;
         most = omega arith;
-        refusals = k.refusals ∙ ap (λ l. k.refusal ∷ l) h.refusals;
+        refusals = k.refusals ∙ ap (λ l. k.refusal ∷ l) refusals;
         failed = k.failed;
-        reference_names = k.reference_names ∙ h.reference_names;
+        reference_names = k.reference_names ∙ reference_names;
       }
 
-  -- a fault of a word's front is a fault of the word
-  pub WriteFault-longer : (old new : S) (d : Error) (y z : List Bool) → WriteFault K old y d new → WriteFault K old (y ++ z) d new
-  WriteFault-longer old new d y z k =
-      let full = k.full in
-      let size = length-append y z in
-      record {
-        refusal = k.refusal;
-        allowed = k.allowed;
-        answer = k.answer;
-        full = omega arith;
-        front = k.front;
-        back = k.back ++ z;
-        parts = ap (λ (l : List Bool). l ++ z) k.parts ∙ append_assoc k.front k.back z;
-        before = k.before;
-        after = k.after;
-        whole = k.whole;
-        least = k.least;
-        most = k.most;
-        refusals = k.refusals;
-        failed = k.failed;
-        reference_names = k.reference_names;
-      }
+  -- of its last part, and of its front
+  pub WriteRefused-behind : (old mid new : S) (d : Error) (x y : List Bool) → Appended K old x mid → WriteRefused K mid y d new → WriteRefused K old (x ++ y) d new
+  WriteRefused-behind old mid new d x y h k = WriteRefused-within old mid new d x y [] (x ++ y) (ap (λ (l : List Bool). x ++ l) (sym (append-nil y))) h.grown h.refusals h.reference_names k
+
+  pub WriteRefused-longer : (old new : S) (d : Error) (y z : List Bool) → WriteRefused K old y d new → WriteRefused K old (y ++ z) d new
+  WriteRefused-longer old new d y z k = WriteRefused-within old old new d [] y z (y ++ z) refl (K.appends_nil old) refl refl k
 
   -- a call that answers `Ok` appended its word
   pub from_ok : {T : Type 0} (e : WriteEntry) (old : S) (r : Result T Error) (new : S) (t : T) (x : List Bool) → Writes K e old r new → r ≡ Ok t → e (K.len old) ≡ Ok x → Begun K old x new
-  from_ok e old r new t x (was_failed f re k) q h = cc
-  from_ok e old r new t x (was_refused d f en re k) q h = cc
-  from_ok e old r new t x (passed_limit y f en b re k) q h = cc
-  from_ok e old r new t x (had_fault y d f en wi re k) q h = cc
-  from_ok e old r new t x (did_write y w f en wi re a) q h =
-      let same : y ≡ x = cc in
-      record {
-        was_sound = f;
-        within = subst (λ (z : List Bool). IsWithin K.limit (K.len old + length z)) same wi;
-        done = subst (λ (z : List Bool). Appended K old z new) same a;
-      }
+  from_ok e old r new t x (had_failed f re k) q h = cc
+  from_ok e old r new t x (was_rejected d f en re k) q h = cc
+  from_ok e old r new t x (past_limit y f en b re k) q h = cc
+  from_ok e old r new t x (was_refused y d f en wi re k) q h = cc
+  from_ok e old r new t x (was_done y w f en wi re a) q h = let same : y ≡ x = cc in subst (λ (z : List Bool). Begun K old z new) same (record { was_sound = f; within = wi; done = a })
 
   -- and the other way
   pub to_ok : {T : Type 0} (e : WriteEntry) (old : S) (r : Result T Error) (new : S) (t : T) (x : List Bool) → Begun K old x new → r ≡ Ok t → e (K.len old) ≡ Ok x → Writes K e old r new
-  to_ok e old r new t x b q h = did_write x t b.was_sound h b.within q b.done
+  to_ok e old r new t x b q h = was_done x t b.was_sound h b.within q b.done
 
   -- one part more
   pub Begun-more : (old mid new : S) (x y : List Bool) → Begun K old x mid → Begun K mid y new → Begun K old (x ++ y) new
   Begun-more old mid new x y b c =
-      let far : K.len mid + length y ≡ K.len old + length (x ++ y) =
-      omega (arith, length-append x y, K.appends_len old mid x b.done.grown) in
-      record {
-        was_sound = b.was_sound;
-        within = subst (IsWithin K.limit) far c.within;
-        done = record {
-          grown = K.appends_trans old mid new x y b.done.grown c.done.grown;
-          sound = c.done.sound;
-          refusals = c.done.refusals ∙ b.done.refusals;
-          reference_names = c.done.reference_names ∙ b.done.reference_names;
-        };
-      }
+      let far : K.len mid + length y ≡ K.len old + length (x ++ y) = omega (arith, length-append x y, K.appends_len old mid x b.done.grown) in
+      record { was_sound = b.was_sound; within = subst (IsWithin K.limit) far c.within; done = appended_more old mid new x y b.done c.done }
 
   -- a later part of a word that has room answers an error
   pub stop_later : {T V : Type 0} (e f : WriteEntry) (old mid : S) (r : Result T Error) (r' : Result V Error) (new : S) (d : Error) (x y z : List Bool)
       → Begun K old x mid → Writes K e mid r new → r ≡ Err d → r' ≡ Err d → e (K.len mid) ≡ Ok y → f (K.len old) ≡ Ok (x ++ (y ++ z)) → IsWithin K.limit (K.len old + length (x ++ (y ++ z))) → Writes K f old r' new
-  stop_later e f old mid r r' new d x y z b (was_failed p re k) q q' h h' room = let n = b.done.sound in cc
-  stop_later e f old mid r r' new d x y z b (was_refused d' p en re k) q q' h h' room = cc
-  stop_later e f old mid r r' new d x y z b (passed_limit y' p en be re k) q q' h h' room =
+  stop_later e f old mid r r' new d x y z b (had_failed p re k) q q' h h' room = let n = b.done.sound in cc
+  stop_later e f old mid r r' new d x y z b (was_rejected d' p en re k) q q' h h' room = cc
+  stop_later e f old mid r r' new d x y z b (past_limit y' p en be re k) q q' h h' room =
       let same : y' ≡ y = cc in
-      absurd (not_beyond K.limit _ _ room (omega (arith, ap length same, length-append y z, length-append x (y ++ z), K.appends_len old mid x b.done.grown)) be)
-  stop_later e f old mid r r' new d x y z b (had_fault y' d' p en wi re k) q q' h h' room =
+      absurd (not_past_limit K.limit _ _ room (omega (arith, ap length same, length-append y z, length-append x (y ++ z), K.appends_len old mid x b.done.grown)) be)
+  stop_later e f old mid r r' new d x y z b (was_refused y' d' p en wi re k) q q' h h' room =
       let same : y' ≡ y = cc in
-      had_fault (x ++ (y ++ z)) d' b.was_sound h' room (cc)
-      (WriteFault-behind old mid new d' x (y ++ z) b.done (WriteFault-longer mid new d' y z (subst (λ (l : List Bool). WriteFault K mid l d' new) same k)))
-  stop_later e f old mid r r' new d x y z b (did_write y' w p en wi re a) q q' h h' room = cc
+      was_refused (x ++ (y ++ z)) d' b.was_sound h' room (cc)
+      (WriteRefused-behind old mid new d' x (y ++ z) b.done (WriteRefused-longer mid new d' y z (subst (λ (l : List Bool). WriteRefused K mid l d' new) same k)))
+  stop_later e f old mid r r' new d x y z b (was_done y' w p en wi re a) q q' h h' room = cc
 
   -- the last part of a word that has room, whatever it answers
   pub last : {T : Type 0} (e f : WriteEntry) (old mid : S) (r : Result T Error) (new : S) (x y : List Bool)
@@ -129,7 +105,7 @@ module _ {S : Type 0} (K : Sink S) where
   -- a call of no bits that found the sink failed, before a call of any entry
   pub probe_failed : {T V : Type 0} (e f : WriteEntry) (old : S) (r : Result T Error) (r' : Result V Error) (new : S) (d : Error)
       → Writes K e old r new → r ≡ Err d → r' ≡ Err d → e (K.len old) ≡ Ok [] → Writes K f old r' new
-  probe_failed e f old r r' new d w q q' h = let z = empty K e old r new d w q h in let a = z.1 in let same : d ≡ Failed = cc in was_failed z.0 (q' ∙ ap Err same) z.2
+  probe_failed e f old r r' new d w q q' h = let z = empty K e old r new d w q h in let a = z.1 in let same : d ≡ Failed = cc in had_failed z.0 (q' ∙ ap Err same) z.2
 
   -- nothing was appended to a sink that had not failed
   pub Begun-kept : (old new : S) → Begun K old [] new → Kept K old new
@@ -137,11 +113,11 @@ module _ {S : Type 0} (K : Sink S) where
 
   -- a call of no bits that found it sound, before a refusal
   pub probe_refused : {V : Type 0} (f : WriteEntry) (old : S) (r' : Result V Error) (new : S) (d : Error) → Begun K old [] new → f (K.len old) ≡ Err d → r' ≡ Err d → Writes K f old r' new
-  probe_refused f old r' new d b h q = was_refused d b.was_sound h q (Begun-kept old new b)
+  probe_refused f old r' new d b h q = was_rejected d b.was_sound h q (Begun-kept old new b)
 
   -- and before a word that has no room
-  pub probe_passed : {V : Type 0} (f : WriteEntry) (old : S) (r' : Result V Error) (new : S) (x : List Bool) → Begun K old [] new → f (K.len old) ≡ Ok x → IsBeyond K.limit (K.len old + length x) → r' ≡ Err CounterOverflow → Writes K f old r' new
-  probe_passed f old r' new x b h past q = passed_limit x b.was_sound h past q (Begun-kept old new b)
+  pub probe_passed : {V : Type 0} (f : WriteEntry) (old : S) (r' : Result V Error) (new : S) (x : List Bool) → Begun K old [] new → f (K.len old) ≡ Ok x → IsPastLimit K.limit (K.len old + length x) → r' ≡ Err CounterOverflow → Writes K f old r' new
+  probe_passed f old r' new x b h past q = past_limit x b.was_sound h past q (Begun-kept old new b)
 
   -- ---- a word in several parts, as a body of calls writes it
 
@@ -163,7 +139,7 @@ module _ {S : Type 0} (K : Sink S) where
     pub no_room_for : {V : Type 0} (f : WriteEntry) (x : List Bool) (n : ℕ) (room : Bool) → room ≡ false → (IsWithin K.limit (K.len mid + n) → IsTrue room) → length x ≡ n → f (K.len old) ≡ Ok x → Writes {T = V} K f old (Err CounterOverflow) mid
     no_room_for f x n room lacks asked size is =
         let all : K.len old + length x ≡ K.len mid + n = omega (arith, size, probed_len) in
-        probe_passed f old (Err CounterOverflow) mid x probed is (rw all (past_limit K.limit (K.len mid + n) (λ h. untold _ room lacks asked h))) refl
+        probe_passed f old (Err CounterOverflow) mid x probed is (rw all (past_if_not_within K.limit (K.len mid + n) (λ h. untold _ room lacks asked h))) refl
 
   -- a part was refused, where there is room for n bits, which are all
   pub part_stops : {T V : Type 0} {old mid new : S} {d : Error} {r : Result V Error} (e f : WriteEntry) (x y z : List Bool) (n : ℕ) → Begun K old x mid → Writes {T = T} K e mid (Err d) new → IsErrAnd r (λ q. q ≡ d)
@@ -175,13 +151,13 @@ module _ {S : Type 0} (K : Sink S) where
 
   module _ (bit : Bool) (o : Order) (size a k v : ℕ) (le : k ≤ size) (small : v < 2 ^ k) (same : (o : Order) → word o k v ≡ replicate k bit) {old mid new : S} (b : Begun K old (replicate a bit) mid) where
     -- it was accepted behind others
-    pub run_more : {T : Type 0} {t : T} (n : ℕ) → a + k ≡ n → Writes K (unsigned o size k v) mid (Ok t) new → Begun K old (replicate n bit) new
-    run_more {t = t} n sum w =
+    pub lead_more : {T : Type 0} {t : T} (n : ℕ) → a + k ≡ n → Writes K (unsigned o size k v) mid (Ok t) new → Begun K old (replicate n bit) new
+    lead_more {t = t} n sum w =
         subst (λ x. Begun K old x new) (replicate-append-replicate a k bit ∙ ap (λ (i : ℕ). replicate i bit) sum)
         (Begun-more old mid new (replicate a bit) (replicate k bit) b (from_ok (unsigned o size k v) mid (Ok t) new t (replicate k bit) w refl (unsigned-fits o size k v (K.len mid) le small ∙ ap Ok (same o))))
 
     -- it was refused
-    pub run_stops : {T V : Type 0} {d : Error} {r : Result V Error} (f : WriteEntry) (word rest : List Bool) (n : ℕ) → Writes {T = T} K (unsigned o size k v) mid (Err d) new → IsErrAnd r (λ q. q ≡ d) → f (K.len old) ≡ Ok word
+    pub lead_stops : {T V : Type 0} {d : Error} {r : Result V Error} (f : WriteEntry) (word rest : List Bool) (n : ℕ) → Writes {T = T} K (unsigned o size k v) mid (Err d) new → IsErrAnd r (λ q. q ≡ d) → f (K.len old) ≡ Ok word
         → word ≡ replicate a bit ++ (replicate k bit ++ rest) → length word ≡ n → IsWithin K.limit (K.len old + n) → Writes K f old r new
-    run_stops f word rest n w h whole parts =
+    lead_stops f word rest n w h whole parts =
         part_stops (unsigned o size k v) f (replicate a bit) (replicate k bit) rest n b w h (unsigned-fits o size k v (K.len mid) le small ∙ ap Ok (same o)) word whole parts

@@ -1,23 +1,22 @@
 -- A run that is read bit by bit.
 use Rattle.std.proofs.Common.{◌*◌, ◌≤◌, Result, length-append, ◌≡◌, ℕ, ◌+◌, ◌^◌, ◌<◌, Bool, true, false, not, List, [], ◌∷◌, ◌++◌, length, replicate, Ok, Err, refl, sym, ap, ◌∙◌, subst, arith, append-nil}
 use mathlib.Core.Bool.{beq}
-use Rattle.std.proofs.lemmas.List.{length-replicate}
+use Rattle.std.proofs.lemmas.List.{length-replicate, nil_from_length}
 use Rattle.bitstream_count.specs.declared.error.Error.{Error}
 use Rattle.bitstream_count.specs.declared.error.Error.TheVariants.{Failed, RunTooLong}
-use Rattle.bitstream_count.specs.Entry.{TooShort, Takes}
-use Rattle.bitstream_count.specs.Unary.{unary, run, read_unary}
-use Rattle.bitstream_count.proofs.UnaryLemmas.{begins_unary, length-unary, run-others, short_front, begins_others, others_short, others_long, read_unary-unary}
+use Rattle.bitstream_count.specs.Entry.{TooFew, Takes}
+use Rattle.bitstream_count.specs.Unary.{unary, lead, read_unary}
+use Rattle.bitstream_count.proofs.UnaryLemmas.{begins_unary, length-unary, lead-others, short_front, begins_others, others_short, others_long, read_unary-unary}
 use Rattle.std.specs.Io.KnownBytes.{Consumes}
-use Rattle.std.proofs.lemmas.List.{nil_from_length}
 use Rattle.bitstream_number.specs.Word.{Order, word, bits}
 use Rattle.bitstream_number.proofs.WordLemmas.{length-bits, length-word}
 use Rattle.bitstream_order.specs.Port.{PortState}
 use Rattle.bitstream_order.specs.Refusal.{Refusal}
-use Rattle.bitstream_order.specs.TakeRun.{TakesBetween, TakesLongRun, RefusesRun}
+use Rattle.bitstream_order.specs.TakeUnary.{TakesBetween, TakesLongUnary, RefusesUnary}
 use Rattle.bitstream_order.proofs.TakeLemmas.{word-none}
 use Rattle.bitstream_order.proofs.FaultLemmas.{end_few}
 use Rattle.bitstream_stream.specs.Reader.{reader_state}
-use Rattle.bitstream_stream.specs.Reads.{TakesFront, ReadFault, BitSource, Reads, stays_failed, takes_front, failing}
+use Rattle.bitstream_stream.specs.Reads.{ReadDone, ReadRefused, BitSource, Reads, had_failed, was_done, failed_reader}
 use Rattle.bitstream_stream.specs.ReadTable.{first_bit, bit_entry, unary_entry}
 use Rattle.bitstream_stream.proofs.EntryLemmas.{word_front-some}
 use Rattle.bitstream_stream.proofs.ReadsLemmas.{Consumes-known, Behind, Begun, Begun-more, Begun-word, Reads-behind, Took-too_long}
@@ -40,9 +39,9 @@ bit_answers : (p : ℕ) (x : Error) (v : List Bool) → ((more : List Bool) → 
 bit_answers p x [] h = let none = h [] in cc
 bit_answers p x (c ∷ v) h = let some : Takes 1 (Ok c) ≡ Takes (length (c ∷ v)) (Err x) = sym (bit_front p c (v ++ [])) ∙ h [] in cc
 
-bit_short : (p : ℕ) (more : List Bool) → bit_entry.reads p more ≡ TooShort → more ≡ []
+bit_short : (p : ℕ) (more : List Bool) → bit_entry.reads p more ≡ TooFew → more ≡ []
 bit_short p [] h = refl
-bit_short p (b ∷ more) h = let some : Takes 1 (Ok b) ≡ TooShort = sym (bit_front p b more) ∙ h in cc
+bit_short p (b ∷ more) h = let some : Takes 1 (Ok b) ≡ TooFew = sym (bit_front p b more) ∙ h in cc
 
 same_bit : (b stop : Bool) → beq b stop ≡ true → b ≡ stop
 same_bit true true h = refl
@@ -69,7 +68,7 @@ unary_behind stop n p q few = record {
 module _ {R : Type 0} {K : BitSource R} where
   pub unary-failed : (stop : Bool) (s : R) → (K.state s).failed ≡ true → Reads K (unary_entry stop) s (Err Failed) s
   unfolding unary_entry
-  unary-failed stop s h = stays_failed (record { failed = h; answer = refl; same = refl })
+  unary-failed stop s h = had_failed (record { failed = h; answer = refl; same = refl })
 
   pub unary-as : {r : Result ℕ Error} {s t : R} (stop e : Bool) → stop ≡ e → Reads K (unary_entry stop) s r t → Reads K (unary_entry e) s r t
   unary-as {r = r} {s = s} {t = t} stop e same h = subst (λ b. Reads K (unary_entry b) s r t) same h
@@ -101,22 +100,22 @@ module _ {R : Type 0} {K : BitSource R} where
       subst (λ w. Begun K s w z) word more.2
 
   -- too many of them: the reader was made to fail
-  pub unary-too_long : (stop : Bool) (n : ℕ) (s t z : R) → n ≡ 2 ^ 32 → Begun K s (replicate n (not stop)) t → K.state z ≡ failing (K.state t) → Reads K (unary_entry stop) s (Err RunTooLong) z
+  pub unary-too_long : (stop : Bool) (n : ℕ) (s t z : R) → n ≡ 2 ^ 32 → Begun K s (replicate n (not stop)) t → K.state z ≡ failed_reader (K.state t) → Reads K (unary_entry stop) s (Err RunTooLong) z
   unfolding unary_entry
   unary-too_long stop n s t z long begun broken =
       let some : 0 < length (replicate n (not stop)) = omega (arith, length-replicate n (not stop), long) in
-      takes_front (Took-too_long K.order (unary_entry stop) (replicate n (not stop)) (K.state s) (K.state t) (K.state z) (Begun-word K s (replicate n (not stop)) t begun some) broken
+      was_done (Took-too_long K.order (unary_entry stop) (replicate n (not stop)) (K.state s) (K.state t) (K.state z) (Begun-word K s (replicate n (not stop)) t begun some) broken
       (λ more. others_long stop n more long) (λ front b back is. begins_others stop n front b back (omega (arith, long)) is))
 
 -- ---- a run that was taken from a port
 
 module _ (o : Order) (stop : Bool) (old new : PortState) (queue queued before_taken after_taken : ℕ) (before : Bool) where
   -- its number was answered
-  pub run_answered : (count q l : ℕ) (after : Bool) → before ≡ false → after ≡ false → count < 2 ^ 32 → after_taken ≡ before_taken + (count + 1)
+  pub lead_answered : (count q l : ℕ) (after : Bool) → before ≡ false → after ≡ false → count < 2 ^ 32 → after_taken ≡ before_taken + (count + 1)
       → TakesBetween o (word o queued queue) old (unary stop count) (word o l q) new
-      → TakesFront o (unary_entry stop) (reader_state o old queue queued before_taken before) (Ok count) (reader_state o new q l after_taken after)
+      → ReadDone o (unary_entry stop) (reader_state o old queue queued before_taken before) (Ok count) (reader_state o new q l after_taken after)
   unfolding unary_entry
-  run_answered count q l after fine still few more h = record {
+  lead_answered count q l after fine still few more h = record {
     fine = fine;
     word = unary stop count;
     decides = λ more. read_unary-unary stop count more few;
@@ -125,7 +124,7 @@ module _ (o : Order) (stop : Bool) (old new : PortState) (queue queued before_ta
     loses = h.loses;
     rest = word o l q;
     parts = h.word;
-    held = refl;
+    queue = refl;
     fetched = h.fetched;
     taken = more ∙ ap (λ n. before_taken + n) (sym (length-unary stop count));
     refusals = h.refusals;
@@ -134,10 +133,10 @@ module _ (o : Order) (stop : Bool) (old new : PortState) (queue queued before_ta
   }
 
   -- it was too long
-  pub run_too_long : (q : ℕ) → before ≡ false → after_taken ≡ before_taken + 2 ^ 32 → TakesLongRun o stop (word o queued queue) old new
-      → TakesFront o (unary_entry stop) (reader_state o old queue queued before_taken before) (Err RunTooLong) (reader_state o new q 0 after_taken true)
+  pub lead_too_long : (q : ℕ) → before ≡ false → after_taken ≡ before_taken + 2 ^ 32 → TakesLongUnary o stop (word o queued queue) old new
+      → ReadDone o (unary_entry stop) (reader_state o old queue queued before_taken before) (Err RunTooLong) (reader_state o new q 0 after_taken true)
   unfolding unary_entry
-  run_too_long q fine more h = record {
+  lead_too_long q fine more h = record {
     fine = fine;
     word = replicate h.count (not stop);
     decides = λ more. others_long stop h.count more h.long;
@@ -146,7 +145,7 @@ module _ (o : Order) (stop : Bool) (old new : PortState) (queue queued before_ta
     loses = h.takes.loses;
     rest = h.left;
     parts = h.takes.word;
-    held = word-none o q;
+    queue = word-none o q;
     fetched = h.takes.fetched;
     taken = more ∙ ap (λ n. before_taken + n) (sym h.long ∙ sym (length-replicate h.count (not stop)));
     refusals = h.takes.refusals;
@@ -155,24 +154,24 @@ module _ (o : Order) (stop : Bool) (old new : PortState) (queue queued before_ta
   }
 
   -- a byte was refused
-  pub run_stopped : (may : Refusal → Type 0) (q : ℕ) (error : Error) → before ≡ false → RefusesRun may o stop (word o queued queue) old error new
-      → ReadFault o may (unary_entry stop) (reader_state o old queue queued before_taken before) (Err error) (reader_state o new q 0 after_taken true)
+  pub lead_stopped : (may : Refusal → Type 0) (q : ℕ) (error : Error) → before ≡ false → RefusesUnary may o stop (word o queued queue) old error new
+      → ReadRefused o may (unary_entry stop) (reader_state o old queue queued before_taken before) (Err error) (reader_state o new q 0 after_taken true)
   unfolding unary_entry
-  run_stopped may q error fine h =
+  lead_stopped may q error fine h =
       let t = h.takes in
       let r = h.refused in
       let x = word o queued queue in
       let others = replicate h.count (not stop) in
       let all : x ++ bits o t.bytes ≡ others = t.word ∙ append-nil others in
-      let run_is : run stop (x ++ bits o t.bytes) ≡ h.count = ap (run stop) t.word ∙ run-others stop h.count [] ∙ omega arith in
+      let lead_is : lead stop (x ++ bits o t.bytes) ≡ h.count = ap (lead stop) t.word ∙ lead-others stop h.count [] ∙ omega arith in
       let size : length x + length (bits o t.bytes) ≡ h.count = sym (length-append x (bits o t.bytes)) ∙ ap length all ∙ length-replicate h.count (not stop) in
-      let few : read_unary stop (x ++ bits o t.bytes) ≡ TooShort = ap (read_unary stop) all ∙ others_short stop h.count h.few in
+      let few : read_unary stop (x ++ bits o t.bytes) ≡ TooFew = ap (read_unary stop) all ∙ others_short stop h.count h.few in
       record {
         fine = fine;
         refusal = r.refusal;
         allowed = r.allowed;
         answer = ap Err r.answer;
-        short = short_front stop x (bits o t.bytes) (omega (arith, run_is, size)) (omega (arith, size, h.few));
+        short = short_front stop x (bits o t.bytes) (omega (arith, lead_is, size)) (omega (arith, size, h.few));
         gone = t.bytes;
         loses = subst (λ b. Consumes old.bytes b t.bytes) (sym r.before) t.loses;
         after = r.after;
@@ -197,16 +196,16 @@ between_fetched o x w y old new h =
     omega (arith, sum, f)
 
 -- for a run
-pub run_fetched : (o : Order) (queued queue : ℕ) (stop : Bool) (count l q : ℕ) (old new : PortState) → TakesBetween o (word o queued queue) old (unary stop count) (word o l q) new → queued + 8 * new.fetched ≡ count + 1 + l + 8 * old.fetched
-run_fetched o queued queue stop count l q old new h =
+pub lead_fetched : (o : Order) (queued queue : ℕ) (stop : Bool) (count l q : ℕ) (old new : PortState) → TakesBetween o (word o queued queue) old (unary stop count) (word o l q) new → queued + 8 * new.fetched ≡ count + 1 + l + 8 * old.fetched
+lead_fetched o queued queue stop count l q old new h =
     omega (arith, between_fetched o (word o queued queue) (unary stop count) (word o l q) old new h, length-word o queued queue, length-word o l q, length-unary stop count)
 
 -- and for one that was too long
-pub long_fetched : (o : Order) (queued queue : ℕ) (stop : Bool) (old new : PortState) → TakesLongRun o stop (word o queued queue) old new → (2 ^ 32 + 8 * old.fetched ≤ queued + 8 * new.fetched) × (queued + 8 * new.fetched < 2 ^ 32 + 8 * old.fetched + 8)
+pub long_fetched : (o : Order) (queued queue : ℕ) (stop : Bool) (old new : PortState) → TakesLongUnary o stop (word o queued queue) old new → (2 ^ 32 + 8 * old.fetched ≤ queued + 8 * new.fetched) × (queued + 8 * new.fetched < 2 ^ 32 + 8 * old.fetched + 8)
 long_fetched o queued queue stop old new h =
     let all = between_fetched o (word o queued queue) (replicate h.count (not stop)) h.left old new h.takes in
     let size = length-word o queued queue in
-    let run = length-replicate h.count (not stop) in
+    let lead = length-replicate h.count (not stop) in
     let long = h.long in
     let few = h.few in
     (omega arith, omega arith)

@@ -9,9 +9,9 @@ use Rattle.bitstream_order.specs.Parts.{put_number}
 use Rattle.bitstream_order.specs.Refusal.{Refusal}
 use Rattle.bitstream_order.proofs.PartLemmas.{put_word}
 use Rattle.bitstream_stream.specs.Carries.{WriterState}
-use Rattle.bitstream_stream.specs.Sink.{Appended, WriteFault}
+use Rattle.bitstream_stream.specs.Sink.{Appended, WriteRefused}
 use Rattle.bitstream_stream.specs.Writer.{queue_sink, Pushes}
-use Rattle.bitstream_stream.proofs.SinkParts.{WriteFault-behind, WriteFault-longer}
+use Rattle.bitstream_stream.proofs.SinkParts.{WriteRefused-behind, WriteRefused-longer}
 use Rattle.bitstream_stream.proofs.WriterLemmas.{one_word}
 use Rattle.std.proofs.Math.Nat.{pow-suc}
 use Rattle.std.proofs.lemmas.Nat.{pow_pos}
@@ -58,8 +58,8 @@ bit_small true n e = omega arith
 bit_small false n e = omega arith
 
 -- the word of a run: its bits, and the stop bit as a number behind them
-pub run_word : (stop : Bool) (o : Order) (n v b z : ℕ) → v < 2 ^ n → ((o : Order) → word o n v ≡ replicate n (not stop)) → b ≡ bool_byte stop → z ≡ put_number o v n b 1 → word o (n + 1) z ≡ unary stop n
-run_word stop o n v b z small is bit put =
+pub lead_word : (stop : Bool) (o : Order) (n v b z : ℕ) → v < 2 ^ n → ((o : Order) → word o n v ≡ replicate n (not stop)) → b ≡ bool_byte stop → z ≡ put_number o v n b 1 → word o (n + 1) z ≡ unary stop n
+lead_word stop o n v b z small is bit put =
     ap (word o (n + 1)) put ∙ put_word o v n b 1 small (bit_small stop b bit) ∙ ap (λ w. w ++ word o 1 b) (is o) ∙ ap (λ w. replicate n (not stop) ++ w) (one_word o stop b bit)
 
 -- ---- behind the queue of a writer
@@ -73,19 +73,19 @@ module _ (may : Refusal → Type 0) (o : Order) (stop : Bool) where
 
   -- some of them were refused
   pub others-stop : (a b n v : ℕ) (x : Error) (s t z : WriterState) (r : Result (Unit {0}) Error) → a + b ≤ n → ((o : Order) → word o b v ≡ replicate b (not stop)) → IsErrAnd r (λ e. e ≡ x)
-      → Appended (queue_sink may o) s (replicate a (not stop)) t → WriteFault (queue_sink may o) t (word o b v) x z → Pushes may o (unary stop n) s r z
+      → Appended (queue_sink may o) s (replicate a (not stop)) t → WriteRefused (queue_sink may o) t (word o b v) x z → Pushes may o (unary stop n) s r z
   others-stop a b n v x s t z (Ok done) le is e h f = absurd e
   others-stop a b n v x s t z (Err y) le is e h f =
       let rest = unary stop (n - a - b) in
       let split : unary stop n ≡ replicate a (not stop) ++ (replicate b (not stop) ++ rest) =
       unary-split stop a (n - a) n (omega arith) ∙ ap (λ w. replicate a (not stop) ++ w) (unary-split stop b (n - a - b) (n - a) (omega arith)) in
-      rw (e, split) (WriteFault-behind (queue_sink may o) s t z x (replicate a (not stop)) (replicate b (not stop) ++ rest) h
-      (WriteFault-longer (queue_sink may o) t z x (replicate b (not stop)) rest (subst (λ w. WriteFault (queue_sink may o) t w x z) (is o) f)))
+      rw (e, split) (WriteRefused-behind (queue_sink may o) s t z x (replicate a (not stop)) (replicate b (not stop) ++ rest) h
+      (WriteRefused-longer (queue_sink may o) t z x (replicate b (not stop)) rest (subst (λ w. WriteRefused (queue_sink may o) t w x z) (is o) f)))
 
   -- the last part, with the stop bit
-  pub run-behind : (a b n v : ℕ) (s t z : WriterState) (r : Result (Unit {0}) Error) → a + b ≡ n → word o (b + 1) v ≡ unary stop b → Appended (queue_sink may o) s (replicate a (not stop)) t → Pushes may o (word o (b + 1) v) t r z
+  pub lead-behind : (a b n v : ℕ) (s t z : WriterState) (r : Result (Unit {0}) Error) → a + b ≡ n → word o (b + 1) v ≡ unary stop b → Appended (queue_sink may o) s (replicate a (not stop)) t → Pushes may o (word o (b + 1) v) t r z
       → Pushes may o (unary stop n) s r z
-  run-behind a b n v s t z (Ok done) sum is h k =
+  lead-behind a b n v s t z (Ok done) sum is h k =
       rw (unary-split stop a b n sum) (appended_more (queue_sink may o) s t z (replicate a (not stop)) (unary stop b) h (subst (λ w. Appended (queue_sink may o) t w z) is k))
-  run-behind a b n v s t z (Err x) sum is h k =
-      rw (unary-split stop a b n sum) (WriteFault-behind (queue_sink may o) s t z x (replicate a (not stop)) (unary stop b) h (subst (λ w. WriteFault (queue_sink may o) t w x z) is k))
+  lead-behind a b n v s t z (Err x) sum is h k =
+      rw (unary-split stop a b n sum) (WriteRefused-behind (queue_sink may o) s t z x (replicate a (not stop)) (unary stop b) h (subst (λ w. WriteRefused (queue_sink may o) t w x z) is k))

@@ -9,10 +9,10 @@ use Rattle.std.proofs.lemmas.Nat.{pow-add, pow_pos, or_lt}
 use Rattle.bitstream_number.specs.Word.{Order, number, zag}
 use Rattle.bitstream_count.specs.declared.error.Error.{Error}
 use Rattle.bitstream_count.specs.declared.error.Error.TheVariants.{Failed, VariableWidthOverflow}
-use Rattle.bitstream_count.specs.Entry.{ReadEntry, Front, TooShort, Takes, front_then, longer, call, takes, chain, gives}
+use Rattle.bitstream_count.specs.Entry.{ReadEntry, Front, TooFew, Takes, front_then, longer, call, takes, chain, gives}
 use Rattle.bitstream_count.specs.Vbr.{before, below, groups_at}
 use Rattle.bitstream_count.proofs.VbrLemmas.{groups_at_step}
-use Rattle.bitstream_stream.specs.Reads.{BitSource, Reads, stays_failed, is_run_too_long}
+use Rattle.bitstream_stream.specs.Reads.{BitSource, Reads, had_failed, is_run_too_long}
 use Rattle.bitstream_stream.specs.ReadTable.{unsigned_entry, vbr_entry, signed_vbr_entry}
 use Rattle.bitstream_stream.proofs.EntryLemmas.{Same, Split, split, chain-ok, chain-none, chain-failed, word_front-some, word_front-none}
 use Rattle.bitstream_stream.proofs.ReadsLemmas.{Reads-same, Reads-chain-ok, Reads-chain-err, Reads-gives, Reads-nothing}
@@ -26,7 +26,7 @@ abbrev answers : {A : Type 0} → Result A Error → ReadEntry A
 answers r = record { reads = λ _ _. Takes 0 r; on_failed = r }
 
 answers-by : {R A : Type 0} {K : BitSource R} (r : Result A Error) (s : R) (v : Bool) → is_run_too_long r ≡ false → (K.state s).failed ≡ v → Reads K (answers r) s r s
-answers-by r s true short h = stays_failed (record { failed = h; answer = refl; same = refl })
+answers-by r s true short h = had_failed (record { failed = h; answer = refl; same = refl })
 answers-by r s false short h = Reads-nothing (answers r) r s h short (λ more. refl)
 
 Reads-answers : {R A : Type 0} {K : BitSource R} (r : Result A Error) (s : R) → is_run_too_long r ≡ false → Reads K (answers r) s r s
@@ -44,7 +44,7 @@ short_number false v = refl
 
 -- a front behind groups that gave the lowest `shift` digits
 abbrev ahead : ℕ → ℕ → Front ℕ → Front ℕ
-ahead value shift TooShort = TooShort
+ahead value shift TooFew = TooFew
 ahead value shift (Takes n (Ok high)) = Takes n (Ok (value + 2 ^ shift * high))
 ahead value shift (Takes n (Err e)) = Takes n (Err e)
 
@@ -53,7 +53,7 @@ unfoldable pub rest_entry : Order → ℕ → ℕ → ℕ → ℕ → ℕ → Re
 rest_entry o field size limit value shift = call (λ _ bits. below limit (ahead value shift (groups_at (div_ceil (size - shift) (field - 1)) o field bits)))
 
 ahead-start : (front : Front ℕ) → ahead 0 0 front ≡ front
-ahead-start TooShort = refl
+ahead-start TooFew = refl
 ahead-start (Takes n (Ok high)) = ap (λ v. Takes n (Ok v)) (omega arith)
 ahead-start (Takes n (Err e)) = refl
 
@@ -68,7 +68,7 @@ rest-start o field size limit = record {
 
 ahead-before : (value shift field low limit : ℕ) (front : Front ℕ)
     → below limit (ahead value shift (before field low front)) ≡ longer field (below limit (ahead (value + 2 ^ shift * low) (shift + (field - 1)) front))
-ahead-before value shift field low limit TooShort = refl
+ahead-before value shift field low limit TooFew = refl
 ahead-before value shift field low limit (Takes n (Ok high)) =
     let same : value + 2 ^ shift * (low + 2 ^ (field - 1) * high) ≡ value + 2 ^ shift * low + 2 ^ (shift + (field - 1)) * high = rw (pow-add 2 shift (field - 1)) (omega arith) in
     ap (λ v. Takes (field + n) (number_below limit v)) same
@@ -115,7 +115,7 @@ module _ (o : Order) (field size limit : ℕ) (wide : 2 ≤ field) (within : fie
       let room = ceil_step (size - shift) (field - 1) (omega arith) (omega arith) ∙ ap (λ n. suc (div_ceil n (field - 1))) (omega arith) in
       ap (λ r. below limit (ahead value shift (groups_at r o field bits))) room
 
-  none_left : (room : ℕ) (bits : List Bool) → length bits < field → groups_at (suc room) o field bits ≡ TooShort
+  none_left : (room : ℕ) (bits : List Bool) → length bits < field → groups_at (suc room) o field bits ≡ TooFew
   unfolding groups_at
   none_left room bits short = rw (lt-ltb (length bits) field short) refl
 
@@ -277,7 +277,7 @@ module _ {R : Type 0} {K : BitSource R} {field size m : ℕ} {s t z : R} {value 
 -- ---- a smaller limit
 
 below-limited : (limit most : ℕ) → limit ≤ most → (front : Front ℕ) → front_then (below most front) (λ n v. Takes 0 (number_below limit v)) ≡ below limit front
-below-limited limit most le TooShort = refl
+below-limited limit most le TooFew = refl
 below-limited limit most le (Takes n (Err e)) = refl
 below-limited limit most le (Takes n (Ok v)) = elim (cases_lt v most) [
   | inl less ↦ rw (lt-ltb v most less) (ap (λ k. Takes k (number_below limit v)) (add-zero n))

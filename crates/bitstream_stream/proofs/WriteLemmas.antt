@@ -73,17 +73,11 @@ replicate-split i n b h =
 pub to_boundary-step : (n : ℕ) → n % 8 ≢ 0 → to_boundary n ≡ 1 + to_boundary (n + 1)
 to_boundary-step n h = omega arith
 
--- what was accepted is the word
-pub unsigned-accepted : (o : Order) (size n v len : ℕ) (x : List Bool) → unsigned o size n v len ≡ Ok x → x ≡ word o n v
-unfolding unsigned
-unsigned-accepted o size n v len x h = grind (arith, nat_tests)
-
 pub padded : (len : ℕ) → (len + to_boundary len) % 8 ≡ 0
 padded len = omega arith
 
 pub none_of : (n : ℕ) → (0 < n → ⊥) → n ≡ 0
-none_of zero h = refl
-none_of (suc n) h = absurd (h (omega arith))
+none_of n h = omega arith
 
 -- a constant is accepted
 pub unsigned-const : (o : Order) (size n v len : ℕ) → n ≤ size → (v < 2 ^ n) ⊎ (n ≡ 0) → unsigned o size n v len ≡ Ok (word o n v)

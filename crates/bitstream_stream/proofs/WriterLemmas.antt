@@ -13,20 +13,14 @@ use Rattle.bitstream_order.specs.Refusal.{Refusal}
 use Rattle.bitstream_order.proofs.TakeLemmas.{word-none}
 use Rattle.bitstream_order.proofs.PartLemmas.{put_word, put_below}
 use Rattle.bitstream_order.proofs.SendLemmas.{piece_below, piece_last}
-use Rattle.bitstream_stream.specs.Sink.{Writes, Appended, WriteFault, had_fault, did_write}
+use Rattle.bitstream_stream.specs.Sink.{Writes, Appended, WriteRefused, was_refused, was_done}
 use Rattle.bitstream_stream.specs.WriteTable.{bit}
 use Rattle.bitstream_stream.proofs.WriteLemmas.{word-bit}
 use mir.Val.{bool_byte}
-use Rattle.bitstream_stream.specs.Carries.{WriterState, Carries, Fills}
+use Rattle.bitstream_stream.specs.Carries.{WriterState, Carries}
 use Rattle.bitstream_stream.specs.Writer.{writer_state, AddsBits, queue_sink, Pushes}
 use Rattle.bitstream_stream.specs.declared.writer.BitWriter.{BitWriter}
 use Rattle.std.specs.Borrow.{GName}
-
--- all of a word is its piece behind no bits
-whole_piece : (o : Order) (n v : ℕ) → word o n (piece o n v 0 n) ≡ word o n v
-whole_piece o n v =
-    let none : n - 0 ≡ n = omega arith in
-    sym (piece_last o n v 0 (omega arith) ∙ ap (λ (k : ℕ). word o k (piece o n v 0 k)) none)
 
 -- a queue with a word behind it
 pub queue_small : (o : Order) (queued queue n v part q : ℕ) → queue < 2 ^ queued → part ≡ piece o n v 0 n → q ≡ put_number o queue queued part n → q < 2 ^ (queued + n)
@@ -38,17 +32,15 @@ queue_word : (o : Order) (queued queue n v part q : ℕ) → queue < 2 ^ queued 
     → word o queued queue ++ word o n v ≡ word o (queued + n) q
 queue_word o queued queue n v part q below cut put =
     let small : part < 2 ^ n = subst (λ x. x < 2 ^ n) (sym cut) (piece_below o n v 0 n) in
-    ap (λ w. word o queued queue ++ w) (sym (whole_piece o n v) ∙ ap (word o n) (sym cut)) ∙ sym (put_word o queue queued part n below small) ∙ ap (word o (queued + n)) (sym put)
+    let none : n - 0 ≡ n = omega arith in
+    let whole : word o n v ≡ word o n (piece o n v 0 n) = piece_last o n v 0 (omega arith) ∙ ap (λ (k : ℕ). word o k (piece o n v 0 k)) none in
+    ap (λ w. word o queued queue ++ w) (whole ∙ ap (word o n) (sym cut)) ∙ sym (put_word o queue queued part n below small) ∙ ap (word o (queued + n)) (sym put)
 
 -- fewer than 8 bits in all
 pub pushed_queue : (may : Refusal → Type 0) (o : Order) (queued queue n v part q : ℕ) (p : PortState) (old new : Bool) → queue < 2 ^ queued → part ≡ piece o n v 0 n → q ≡ put_number o queue queued part n → new ≡ false
     → Appended (queue_sink may o) (record { port = p; queued = queued; queue = queue; failed = old }) (word o n v) (record { port = p; queued = queued + n; queue = q; failed = new })
-pushed_queue may o queued queue n v part q p old new below cut put sound = record {
-  grown = record { bytes = []; grows = Appends-nil p.bytes; sent = omega arith; word = queue_word o queued queue n v part q below cut put };
-  sound = sound;
-  refusals = refl;
-  reference_names = refl;
-}
+pushed_queue may o queued queue n v part q p old new below cut put sound =
+    record { grown = record { bytes = []; grows = Appends-nil p.bytes; sent = omega arith; word = queue_word o queued queue n v part q below cut put }; sound = sound; refusals = refl; reference_names = refl }
 
 -- bytes that went, and the bits behind them
 pub pushed_bytes : (may : Refusal → Type 0) (o : Order) (queued queue n v gone q : ℕ) (p r : PortState) (old new : Bool) → SendsBits o [] p (word o queued queue ++ take gone (word o n v)) r → gone ≤ n → q ≡ piece o n v gone (n - gone) → new ≡ false
@@ -71,18 +63,8 @@ pushed_bytes may o queued queue n v gone q p r old new h le cut sound = record {
 fault_lengths : (a b queued n : ℕ) → b ≡ a → queued < 8 → 8 ≤ queued + n → (8 ≤ (8 * a + queued) % 8 + n) × ((8 * b + 0) % 8 ≡ 0) × (8 * a + queued + 0 < 8 * b + 0 + 8) × (8 * b + 0 ≤ 8 * a + queued + 0)
 fault_lengths a b queued n sent few full = (omega arith, omega arith, omega arith, omega arith)
 
--- no bits fill no byte
-fills_none : (o : Order) (a : WriterState) (known : Option (List ℕ)) → a.queued < 8 → known ≡ a.port.bytes → Fills o a [] known
-fills_none o a known few same = record {
-  bytes = [];
-  grows = subst (λ (b : Option (List ℕ)). Appends a.port.bytes b []) (sym same) (Appends-nil a.port.bytes);
-  rest = word o a.queued a.queue;
-  few = let len = length-word o a.queued a.queue in omega arith;
-  word = append-nil (word o a.queued a.queue);
-}
-
 pub pushed_fault : (may : Refusal → Type 0) (o : Order) (queued queue n v k : ℕ) (error : Error) (p r : PortState) (old new : Bool) (q : ℕ) → SendRefused may error p k r → queued < 8 → 8 ≤ queued + n → new ≡ true
-    → WriteFault (queue_sink may o) (record { port = p; queued = queued; queue = queue; failed = old }) (word o n v) error (record { port = r; queued = 0; queue = q; failed = new })
+    → WriteRefused (queue_sink may o) (record { port = p; queued = queued; queue = queue; failed = old }) (word o n v) error (record { port = r; queued = 0; queue = q; failed = new })
 pushed_fault may o queued queue n v k error p r old new q h few full broken =
     let is = length-word o n v in
     let lengths = fault_lengths p.sent r.sent queued n h.sent few full in
@@ -94,7 +76,13 @@ pushed_fault may o queued queue n v k error p r old new q h few full broken =
       front = [];
       back = word o n v;
       parts = refl;
-      before = fills_none o (record { port = p; queued = queued; queue = queue; failed = old }) h.refusal.before few h.before;
+      before = record {
+        bytes = [];
+        grows = subst (λ (b : Option (List ℕ)). Appends p.bytes b []) (sym h.before) (Appends-nil p.bytes);
+        rest = word o queued queue;
+        few = let len = length-word o queued queue in omega arith;
+        word = append-nil (word o queued queue);
+      };
       after = h.after;
       whole = lengths.1;
       least = lengths.2;
@@ -106,14 +94,14 @@ pushed_fault may o queued queue n v k error p r old new q h few full broken =
 
 -- a push whose request was refused, and the writer was made to fail
 pub pushes_lost : (may : Refusal → Type 0) (o : Order) (x : List Bool) (error : Error) (result : Result (Unit {0}) Error) (p : PortState) (old new : WriterState) → result ≡ Err error → new ≡ record { port = p; queued = 0; queue = 0; failed = true }
-    → WriteFault (queue_sink may o) old x error (record { port = p; queued = 0; queue = 0; failed = true }) → Pushes may o x old result new
-pushes_lost may o x error result p old new answer is h = rw answer (subst (λ s. WriteFault (queue_sink may o) old x error s) (sym is) h)
+    → WriteRefused (queue_sink may o) old x error (record { port = p; queued = 0; queue = 0; failed = true }) → Pushes may o x old result new
+pushes_lost may o x error result p old new answer is h = rw answer (subst (λ s. WriteRefused (queue_sink may o) old x error s) (sym is) h)
 
 -- what a push does is what the call does
 pub pushes_writes : (may : Refusal → Type 0) (o : Order) (x : List Bool) (e : WriteEntry) (old : WriterState) (result : Result (Unit {0}) Error) (new : WriterState) → old.failed ≡ false → e ((queue_sink may o).len old) ≡ Ok x
     → Pushes may o x old result new → Writes (queue_sink may o) e old result new
-pushes_writes may o x e old (Ok done) new sound is h = did_write x done sound is tt refl h
-pushes_writes may o x e old (Err error) new sound is h = had_fault x error sound is tt refl h
+pushes_writes may o x e old (Ok done) new sound is h = was_done x done sound is tt refl h
+pushes_writes may o x e old (Err error) new sound is h = was_refused x error sound is tt refl h
 
 -- what an aligned writer added to its stream, from the first bit on
 pub adds_bits : {W E : Type 0} (contents : W → Option (List ℕ)) (reference_names : W → List GName) (o : Order) (a b : BitWriter W E) (x : List Bool) → Carries o (writer_state contents reference_names a) x (writer_state contents reference_names b) → a.queued ≡ 0

@@ -4,7 +4,7 @@ use Rattle.std.specs.Borrow.{GName, MutBor}
 use Rattle.std.specs.Io.KnownBytes.{Consumes}
 use Rattle.bitstream_count.specs.declared.error.Error.{Error}
 use Rattle.bitstream_count.specs.declared.error.Error.TheVariants.{OutOfMemory}
-use Rattle.bitstream_count.specs.Entry.{Front, TooShort, Takes}
+use Rattle.bitstream_count.specs.Entry.{Front, TooFew, Takes}
 use Rattle.bitstream_number.specs.Word.{Order}
 use Rattle.bitstream_order.specs.Fault.{read_refusal_of}
 use Rattle.bitstream_order.specs.Refusal.{Refusal, IsTrueEnd}
@@ -32,7 +32,7 @@ ByteReadEntry A = List ℕ → Front A
 
 -- n bytes, whose answer is g of them
 abbrev pub byte_front : {A : Type 0} → ℕ → (List ℕ → Result A Error) → ByteReadEntry A
-byte_front n g bytes = if nat_le n (length bytes) then Takes n (g (take n bytes)) else TooShort
+byte_front n g bytes = if nat_le n (length bytes) then Takes n (g (take n bytes)) else TooFew
 
 -- n bytes, which are the answer
 unfoldable pub given_bytes : ℕ → ByteReadEntry (List ℕ)
@@ -43,7 +43,7 @@ unfoldable pub skipped_bytes : ℕ → ByteReadEntry (Unit {0})
 skipped_bytes n = byte_front n (λ _. Ok tt)
 
 -- these bytes were taken, and no request was refused
-pub record TookBytes (old : ByteReaderState) (bytes : List ℕ) (new : ByteReaderState) : Type 0 where
+pub record BytesTaken (old : ByteReaderState) (bytes : List ℕ) (new : ByteReaderState) : Type 0 where
   pub loses : Consumes old.bytes new.bytes bytes
   pub taken : new.taken ≡ old.taken + length bytes
   pub refusals : new.refusals ≡ old.refusals
@@ -51,15 +51,15 @@ pub record TookBytes (old : ByteReaderState) (bytes : List ℕ) (new : ByteReade
 
 -- The call takes its front, some bytes, and gives the front's answer: whatever bytes follow them, it is
 -- this one, and no shorter beginning of them has a front.
-pub record TakesByteFront {A : Type 0} (entry : ByteReadEntry A) (old : ByteReaderState) (result : Result A Error) (new : ByteReaderState) : Type 0 where
+pub record ByteReadDone {A : Type 0} (entry : ByteReadEntry A) (old : ByteReaderState) (result : Result A Error) (new : ByteReaderState) : Type 0 where
   pub bytes : List ℕ
   pub decides : (more : List ℕ) → entry (bytes ++ more) ≡ Takes (length bytes) result
-  pub needs : (front : List ℕ) (b : ℕ) (back : List ℕ) → bytes ≡ front ++ b ∷ back → entry front ≡ TooShort
-  pub took : TookBytes old bytes new
+  pub needs : (front : List ℕ) (b : ℕ) (back : List ℕ) → bytes ≡ front ++ b ∷ back → entry front ≡ TooFew
+  pub took : BytesTaken old bytes new
 
 -- A request was refused, as the stream may refuse. The bytes taken for the call were too few for it; at a
 -- true end so were all bytes left. The stream lost these bytes, and then is as the refusal left it.
-pub record ByteReadFault {A : Type 0} (may : Refusal → Type 0) (entry : ByteReadEntry A) (old : ByteReaderState) (result : Result A Error) (new : ByteReaderState) : Type 0 where
+pub record ByteReadRefused {A : Type 0} (may : Refusal → Type 0) (entry : ByteReadEntry A) (old : ByteReaderState) (result : Result A Error) (new : ByteReaderState) : Type 0 where
   pub refusal : Refusal
   pub allowed : may refusal
   pub answer : result ≡ Err (read_refusal_of refusal.kind)
@@ -67,24 +67,24 @@ pub record ByteReadFault {A : Type 0} (may : Refusal → Type 0) (entry : ByteRe
   pub loses : Consumes old.bytes refusal.before gone
   pub after : new.bytes ≡ refusal.after
   pub taken : new.taken ≡ old.taken + length gone
-  pub few : entry gone ≡ TooShort
-  pub ended : IsTrueEnd refusal → (xs : List ℕ) → old.bytes ≡ Some xs → entry xs ≡ TooShort
+  pub few : entry gone ≡ TooFew
+  pub ended : IsTrueEnd refusal → (xs : List ℕ) → old.bytes ≡ Some xs → entry xs ≡ TooFew
   pub refusals : new.refusals ≡ refusal ∷ old.refusals
   pub reference_names : new.reference_names ≡ old.reference_names
 
 -- Memory that the call asked for itself was refused. The bytes that were taken until then were too few for
 -- the call: so a call for no bytes never lacks memory.
-pub record ByteMemoryFault {A : Type 0} (entry : ByteReadEntry A) (old : ByteReaderState) (result : Result A Error) (new : ByteReaderState) : Type 0 where
+pub record ByteMemoryRefused {A : Type 0} (entry : ByteReadEntry A) (old : ByteReaderState) (result : Result A Error) (new : ByteReaderState) : Type 0 where
   pub answer : result ≡ Err OutOfMemory
   pub bytes : List ℕ
-  pub few : entry bytes ≡ TooShort
-  pub took : TookBytes old bytes new
+  pub few : entry bytes ≡ TooFew
+  pub took : BytesTaken old bytes new
 
 -- one read of bytes, by what the call means; `grows` where the call asks for memory of its own
 pub data ByteReadOutcome {R A : Type 0} (K : ByteSource R) (grows : Bool) (entry : ByteReadEntry A) (old : R) (result : Result A Error) (new : R) : Type 0 where
-  takes_bytes : TakesByteFront entry (K.state old) result (K.state new) → ByteReadOutcome K grows entry old result new
-  meets_refusal : ByteReadFault K.may entry (K.state old) result (K.state new) → ByteReadOutcome K grows entry old result new
-  wants_memory : grows ≡ true → ByteMemoryFault entry (K.state old) result (K.state new) → ByteReadOutcome K grows entry old result new
+  was_done : ByteReadDone entry (K.state old) result (K.state new) → ByteReadOutcome K grows entry old result new
+  was_refused : ByteReadRefused K.may entry (K.state old) result (K.state new) → ByteReadOutcome K grows entry old result new
+  memory_refused : grows ≡ true → ByteMemoryRefused entry (K.state old) result (K.state new) → ByteReadOutcome K grows entry old result new
 
 -- one read of bytes
 abbrev pub ByteReads : {R A : Type 0} → ByteSource R → ByteReadEntry A → R → Result A Error → R → Type 0

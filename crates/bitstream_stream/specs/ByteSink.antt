@@ -7,7 +7,7 @@ use Rattle.bitstream_count.specs.declared.error.Error.{Error}
 use Rattle.bitstream_count.specs.declared.error.Error.TheVariants.{CounterOverflow}
 use Rattle.bitstream_order.specs.Fault.{refusal_of}
 use Rattle.bitstream_order.specs.Refusal.{Refusal}
-use Rattle.bitstream_stream.specs.Sink.{IsWithin, IsBeyond}
+use Rattle.bitstream_stream.specs.Sink.{IsWithin, IsPastLimit}
 
 -- what the states of a sink of bytes mean, with the laws
 pub record ByteSink (S : Type 0) : Type 1 where
@@ -40,7 +40,7 @@ pub record BytesAppended {S : Type 0} (K : ByteSink S) (old : S) (bytes : List �
 
 -- A request was refused, as the stream may refuse. A front of the bytes was sent before, and the stream is as the
 -- refusal left it.
-pub record ByteWriteFault {S : Type 0} (K : ByteSink S) (old : S) (bytes : List ℕ) (error : Error) (new : S) : Type 0 where
+pub record ByteWriteRefused {S : Type 0} (K : ByteSink S) (old : S) (bytes : List ℕ) (error : Error) (new : S) : Type 0 where
   pub refusal : Refusal
   pub allowed : K.may refusal
   pub answer : error ≡ refusal_of refusal.kind
@@ -56,11 +56,11 @@ pub record ByteWriteFault {S : Type 0} (K : ByteSink S) (old : S) (bytes : List 
 
 -- what one call does that writes these bytes
 pub data ByteWrites {S T : Type 0} (K : ByteSink S) (bytes : List ℕ) (old : S) (result : Result T Error) (new : S) : Type 0 where
-  past_limit : IsBeyond K.limit (K.len old + length bytes) → result ≡ Err CounterOverflow → BytesAppended K old [] new
+  past_limit : IsPastLimit K.limit (K.len old + length bytes) → result ≡ Err CounterOverflow → BytesAppended K old [] new
       → ByteWrites K bytes old result new
-  met_refusal : (error : Error) → IsWithin K.limit (K.len old + length bytes) → result ≡ Err error → ByteWriteFault K old bytes error new
+  was_refused : (error : Error) → IsWithin K.limit (K.len old + length bytes) → result ≡ Err error → ByteWriteRefused K old bytes error new
       → ByteWrites K bytes old result new
-  wrote_bytes : (done : T) → IsWithin K.limit (K.len old + length bytes) → result ≡ Ok done → BytesAppended K old bytes new
+  was_done : (done : T) → IsWithin K.limit (K.len old + length bytes) → result ≡ Ok done → BytesAppended K old bytes new
       → ByteWrites K bytes old result new
 
 -- a sink of bytes behind a `&mut`

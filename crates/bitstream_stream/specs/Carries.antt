@@ -16,8 +16,8 @@ pub record WriterState : Type 0 where
   pub failed : Bool
 
 -- the same writer, which has failed: no bit waits any more
-abbrev pub lost : WriterState → WriterState
-lost s = record s { queued = 0; queue = 0; failed = true }
+abbrev pub failed_writer : WriterState → WriterState
+failed_writer s = record s { queued = 0; queue = 0; failed = true }
 
 -- whole bytes were sent, and the bits behind them are queued
 pub record Carries (o : Order) (a : WriterState) (x : List Bool) (b : WriterState) : Type 0 where

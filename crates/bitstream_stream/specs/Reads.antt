@@ -5,7 +5,7 @@ use Rattle.std.specs.Result.{IsErrAnd}
 use Rattle.std.specs.Io.KnownBytes.{Consumes}
 use Rattle.bitstream_count.specs.declared.error.Error.{Error}
 use Rattle.bitstream_count.specs.declared.error.Error.TheVariants.{RunTooLong, OutOfMemory, EndOfInput}
-use Rattle.bitstream_count.specs.Entry.{ReadEntry, Front, TooShort, Takes}
+use Rattle.bitstream_count.specs.Entry.{ReadEntry, Front, TooFew, Takes}
 use Rattle.bitstream_number.specs.Word.{Order, bits}
 use Rattle.bitstream_order.specs.Fault.{read_refusal_of}
 use Rattle.bitstream_order.specs.Refusal.{Refusal, IsTrueEnd}
@@ -13,7 +13,7 @@ use Rattle.bitstream_order.specs.Refusal.{Refusal, IsTrueEnd}
 -- what a state of a reader tells
 pub record ReaderState : Type 0 where
   -- the bits of the bytes fetched that were not taken, and the bytes left in the stream, where it tells
-  pub held : List Bool
+  pub queue : List Bool
   pub bytes : Option (List ℕ)
   -- how many bits were taken so far, and how many bytes were fetched from the stream for them
   pub taken : ℕ
@@ -29,12 +29,12 @@ abbrev pub Demands : ReaderState → Type 0
 Demands s = s.fetched ≡ (s.taken + 7) / 8
 
 -- what was fetched and not taken is held back
-abbrev pub HoldsRest : ReaderState → Type 0
-HoldsRest s = s.failed ≡ false → s.taken + length s.held ≡ 8 * s.fetched
+abbrev pub QueuesRest : ReaderState → Type 0
+QueuesRest s = s.failed ≡ false → s.taken + length s.queue ≡ 8 * s.fetched
 
 -- a reader that has failed holds nothing back
 abbrev pub Empties : ReaderState → Type 0
-Empties s = s.failed ≡ true → s.held ≡ []
+Empties s = s.failed ≡ true → s.queue ≡ []
 
 -- what the states of a reader mean, with the laws
 pub record BitSource (R : Type 0) : Type 1 where
@@ -43,12 +43,12 @@ pub record BitSource (R : Type 0) : Type 1 where
   -- the refusals that its stream may make
   pub may : Refusal → Type 0
   pub demands : (r : R) → Demands (state r)
-  pub holds : (r : R) → HoldsRest (state r)
+  pub holds : (r : R) → QueuesRest (state r)
   pub empties : (r : R) → Empties (state r)
 
 -- the bits left to read, where the stream tells its bytes
 abbrev pub bits_left : Order → ReaderState → Option (List Bool)
-bits_left o s = option_map (λ xs. s.held ++ bits o xs) s.bytes
+bits_left o s = option_map (λ xs. s.queue ++ bits o xs) s.bytes
 
 -- the answer after which a reader that answered has failed
 abbrev pub is_run_too_long : {A : Type 0} → Result A Error → Bool
@@ -56,7 +56,7 @@ is_run_too_long (Err RunTooLong) = true
 is_run_too_long answer = false
 
 -- the reader had failed: it answers that, and nothing changes
-pub record StaysFailed {A : Type 0} (entry : ReadEntry A) (old : ReaderState) (result : Result A Error) (new : ReaderState) : Type 0 where
+pub record HadFailed {A : Type 0} (entry : ReadEntry A) (old : ReaderState) (result : Result A Error) (new : ReaderState) : Type 0 where
   pub failed : old.failed ≡ true
   pub answer : result ≡ entry.on_failed
   pub same : new ≡ old
@@ -64,16 +64,16 @@ pub record StaysFailed {A : Type 0} (entry : ReadEntry A) (old : ReaderState) (r
 -- The call takes its front, a word, and gives the front's answer: whatever bits follow the word, it is
 -- this one, and no shorter beginning of the word has a front. The bits held before and those of the
 -- bytes fetched are the word and then the bits held now.
-pub record TakesFront {A : Type 0} (o : Order) (entry : ReadEntry A) (old : ReaderState) (result : Result A Error) (new : ReaderState) : Type 0 where
+pub record ReadDone {A : Type 0} (o : Order) (entry : ReadEntry A) (old : ReaderState) (result : Result A Error) (new : ReaderState) : Type 0 where
   pub fine : old.failed ≡ false
   pub word : List Bool
   pub decides : (more : List Bool) → entry.reads old.taken (word ++ more) ≡ Takes (length word) result
-  pub needs : (front : List Bool) (b : Bool) (back : List Bool) → word ≡ front ++ b ∷ back → entry.reads old.taken front ≡ TooShort
+  pub needs : (front : List Bool) (b : Bool) (back : List Bool) → word ≡ front ++ b ∷ back → entry.reads old.taken front ≡ TooFew
   pub gone : List ℕ
   pub loses : Consumes old.bytes new.bytes gone
   pub rest : List Bool
-  pub parts : old.held ++ bits o gone ≡ word ++ rest
-  pub held : new.held ≡ (if is_run_too_long result then [] else rest)
+  pub parts : old.queue ++ bits o gone ≡ word ++ rest
+  pub queue : new.queue ≡ (if is_run_too_long result then [] else rest)
   pub fetched : new.fetched ≡ old.fetched + length gone
   pub taken : new.taken ≡ old.taken + length word
   pub refusals : new.refusals ≡ old.refusals
@@ -83,33 +83,33 @@ pub record TakesFront {A : Type 0} (o : Order) (entry : ReadEntry A) (old : Read
 -- A request was refused, as the stream may refuse, and the reader has failed. The bits held were too few
 -- for the call, and so were those with the bytes fetched for it; at a true end so were all bits left. The
 -- stream lost these bytes, and then is as the refusal left it.
-pub record ReadFault {A : Type 0} (o : Order) (may : Refusal → Type 0) (entry : ReadEntry A) (old : ReaderState) (result : Result A Error) (new : ReaderState) : Type 0 where
+pub record ReadRefused {A : Type 0} (o : Order) (may : Refusal → Type 0) (entry : ReadEntry A) (old : ReaderState) (result : Result A Error) (new : ReaderState) : Type 0 where
   pub fine : old.failed ≡ false
   pub refusal : Refusal
   pub allowed : may refusal
   pub answer : result ≡ Err (read_refusal_of refusal.kind)
-  pub short : entry.reads old.taken old.held ≡ TooShort
+  pub short : entry.reads old.taken old.queue ≡ TooFew
   pub gone : List ℕ
   pub loses : Consumes old.bytes refusal.before gone
   pub after : new.bytes ≡ refusal.after
   pub fetched : new.fetched ≡ old.fetched + length gone
-  pub few : entry.reads old.taken (old.held ++ bits o gone) ≡ TooShort
-  pub ended : IsTrueEnd refusal → (xs : List ℕ) → old.bytes ≡ Some xs → entry.reads old.taken (old.held ++ bits o xs) ≡ TooShort
+  pub few : entry.reads old.taken (old.queue ++ bits o gone) ≡ TooFew
+  pub ended : IsTrueEnd refusal → (xs : List ℕ) → old.bytes ≡ Some xs → entry.reads old.taken (old.queue ++ bits o xs) ≡ TooFew
   pub refusals : new.refusals ≡ refusal ∷ old.refusals
   pub reference_names : new.reference_names ≡ old.reference_names
   pub failed : new.failed ≡ true
 
 -- Memory that the call asked for itself was refused, and the reader has failed. The bits that were taken
 -- until then were too few for the call: so a call for no bits never lacks memory.
-pub record MemoryFault {A : Type 0} (o : Order) (entry : ReadEntry A) (old : ReaderState) (result : Result A Error) (new : ReaderState) : Type 0 where
+pub record MemoryRefused {A : Type 0} (o : Order) (entry : ReadEntry A) (old : ReaderState) (result : Result A Error) (new : ReaderState) : Type 0 where
   pub fine : old.failed ≡ false
   pub answer : result ≡ Err OutOfMemory
   pub word : List Bool
-  pub few : entry.reads old.taken word ≡ TooShort
+  pub few : entry.reads old.taken word ≡ TooFew
   pub gone : List ℕ
   pub loses : Consumes old.bytes new.bytes gone
   pub rest : List Bool
-  pub parts : old.held ++ bits o gone ≡ word ++ rest
+  pub parts : old.queue ++ bits o gone ≡ word ++ rest
   pub fetched : new.fetched ≡ old.fetched + length gone
   pub taken : new.taken ≡ old.taken + length word
   pub refusals : new.refusals ≡ old.refusals
@@ -118,10 +118,10 @@ pub record MemoryFault {A : Type 0} (o : Order) (entry : ReadEntry A) (old : Rea
 
 -- one read, by what the call means; `grows` where the call asks for memory of its own
 pub data ReadOutcome {R A : Type 0} (K : BitSource R) (grows : Bool) (entry : ReadEntry A) (old : R) (result : Result A Error) (new : R) : Type 0 where
-  stays_failed : StaysFailed entry (K.state old) result (K.state new) → ReadOutcome K grows entry old result new
-  takes_front : TakesFront K.order entry (K.state old) result (K.state new) → ReadOutcome K grows entry old result new
-  meets_fault : ReadFault K.order K.may entry (K.state old) result (K.state new) → ReadOutcome K grows entry old result new
-  lacks_memory : grows ≡ true → MemoryFault K.order entry (K.state old) result (K.state new) → ReadOutcome K grows entry old result new
+  had_failed : HadFailed entry (K.state old) result (K.state new) → ReadOutcome K grows entry old result new
+  was_done : ReadDone K.order entry (K.state old) result (K.state new) → ReadOutcome K grows entry old result new
+  was_refused : ReadRefused K.order K.may entry (K.state old) result (K.state new) → ReadOutcome K grows entry old result new
+  memory_refused : grows ≡ true → MemoryRefused K.order entry (K.state old) result (K.state new) → ReadOutcome K grows entry old result new
 
 -- one read
 abbrev pub Reads : {R A : Type 0} → BitSource R → ReadEntry A → R → Result A Error → R → Type 0
@@ -132,8 +132,8 @@ abbrev pub ReadsGrowing : {R A : Type 0} → BitSource R → ReadEntry A → R �
 ReadsGrowing K entry old result new = ReadOutcome K true entry old result new
 
 -- the same reader, which has failed and holds nothing back
-abbrev pub failing : ReaderState → ReaderState
-failing s = record s { failed = true; held = [] }
+abbrev pub failed_reader : ReaderState → ReaderState
+failed_reader s = record s { failed = true; queue = [] }
 
 -- the same reader, seen through a reference of this name
 abbrev pub lent : GName → ReaderState → ReaderState
@@ -184,5 +184,5 @@ pub record ReadsConst {R E : Type 0} (K : BitSource R) (gives : Error → E → 
 
 -- what a call answers where all the bits left are known: its front's answer, or the end
 abbrev pub sure_answer : {A : Type 0} → Front A → Result A Error
-sure_answer TooShort = Err EndOfInput
+sure_answer TooFew = Err EndOfInput
 sure_answer (Takes n answer) = answer

@@ -2,7 +2,7 @@
 use Rattle.std.specs.Prelude.{ℕ, ◌+◌, Bool, List, [], ◌∷◌, ◌++◌, length, drop, Option, Some, None, Result, Ok, Err}
 use Rattle.bitstream_count.specs.declared.error.Error.{Error}
 use Rattle.bitstream_count.specs.declared.error.Error.TheVariants.{RunTooLong}
-use Rattle.bitstream_count.specs.Entry.{Front, TooShort, Takes, ReadEntry, WriteEntry}
+use Rattle.bitstream_count.specs.Entry.{Front, TooFew, Takes, ReadEntry, WriteEntry}
 
 -- the word of an accepted call, and no bit for a refused one
 abbrev pub accepted : Result (List Bool) Error → List Bool
@@ -31,7 +31,7 @@ write_refusals (entry ∷ entries) len =
 -- a call's answer and the place behind it, and then those of the calls that follow; none where the bits are too few,
 -- and none behind a run that was too long
 abbrev pub answer_and : {A : Type 0} → Front A → ℕ → (ℕ → List (Result A Error × ℕ)) → List (Result A Error × ℕ)
-answer_and TooShort p others = []
+answer_and TooFew p others = []
 answer_and (Takes n (Err RunTooLong)) p others = (Err RunTooLong, p + n) ∷ []
 answer_and (Takes n answer) p others = (answer, p + n) ∷ others n
 

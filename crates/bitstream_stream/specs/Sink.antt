@@ -14,9 +14,9 @@ IsWithin None n = ⊤
 IsWithin (Some most) n = n ≤ most
 
 -- a length past the limit
-abbrev pub IsBeyond : Option ℕ → ℕ → Type 0
-IsBeyond None n = ⊥
-IsBeyond (Some most) n = most < n
+abbrev pub IsPastLimit : Option ℕ → ℕ → Type 0
+IsPastLimit None n = ⊥
+IsPastLimit (Some most) n = most < n
 
 -- a limit, if there is one, is the greatest number of a type of whole bytes
 abbrev pub IsFullLimit : Option ℕ → Type 0
@@ -66,7 +66,7 @@ pub record Kept {S : Type 0} (K : Sink S) (old new : S) : Type 0 where
 -- A request was refused, as the stream may refuse, and the sink has failed. The word x would have made a
 -- byte full. The bytes that a front of it filled were sent before the request, and no bit waits: the stream
 -- is as the refusal left it.
-pub record WriteFault {S : Type 0} (K : Sink S) (old : S) (x : List Bool) (error : Error) (new : S) : Type 0 where
+pub record WriteRefused {S : Type 0} (K : Sink S) (old : S) (x : List Bool) (error : Error) (new : S) : Type 0 where
   pub refusal : Refusal
   pub allowed : K.may refusal
   pub answer : error ≡ refusal_of refusal.kind
@@ -85,16 +85,16 @@ pub record WriteFault {S : Type 0} (K : Sink S) (old : S) (x : List Bool) (error
 
 -- what one write call does, by what it means
 pub data Writes {S T : Type 0} (K : Sink S) (entry : WriteEntry) (old : S) (result : Result T Error) (new : S) : Type 0 where
-  was_failed : K.failed old ≡ true → result ≡ Err Failed → Kept K old new → Writes K entry old result new
-  was_refused : (error : Error) → K.failed old ≡ false → entry (K.len old) ≡ Err error → result ≡ Err error → Kept K old new
+  had_failed : K.failed old ≡ true → result ≡ Err Failed → Kept K old new → Writes K entry old result new
+  was_rejected : (error : Error) → K.failed old ≡ false → entry (K.len old) ≡ Err error → result ≡ Err error → Kept K old new
       → Writes K entry old result new
-  passed_limit : (word : List Bool) → K.failed old ≡ false → entry (K.len old) ≡ Ok word
-      → IsBeyond K.limit (K.len old + length word) → result ≡ Err CounterOverflow → Kept K old new
+  past_limit : (word : List Bool) → K.failed old ≡ false → entry (K.len old) ≡ Ok word
+      → IsPastLimit K.limit (K.len old + length word) → result ≡ Err CounterOverflow → Kept K old new
       → Writes K entry old result new
-  had_fault : (word : List Bool) (error : Error) → K.failed old ≡ false → entry (K.len old) ≡ Ok word
-      → IsWithin K.limit (K.len old + length word) → result ≡ Err error → WriteFault K old word error new
+  was_refused : (word : List Bool) (error : Error) → K.failed old ≡ false → entry (K.len old) ≡ Ok word
+      → IsWithin K.limit (K.len old + length word) → result ≡ Err error → WriteRefused K old word error new
       → Writes K entry old result new
-  did_write : (word : List Bool) (done : T) → K.failed old ≡ false → entry (K.len old) ≡ Ok word
+  was_done : (word : List Bool) (done : T) → K.failed old ≡ false → entry (K.len old) ≡ Ok word
       → IsWithin K.limit (K.len old + length word) → result ≡ Ok done → Appended K old word new
       → Writes K entry old result new
 

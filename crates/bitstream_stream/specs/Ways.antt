@@ -4,7 +4,7 @@ use Rattle.std.specs.Borrow.{GName}
 use Rattle.std.proofs.Common.{refl}
 use Rattle.bitstream_count.specs.declared.error.Error.{Error}
 use Rattle.bitstream_count.specs.declared.error.Error.TheVariants.{Failed}
-use Rattle.bitstream_order.specs.Port.{Sent, SendRefused, held_stream, with_stream}
+use Rattle.bitstream_order.specs.Port.{Sent, SendRefused, port_stream, with_stream}
 use Rattle.bitstream_order.specs.Refusal.{Refusal}
 use Rattle.bitstream_order.specs.declared.lent.Lent.{Lent}
 use Rattle.bitstream_order.specs.TakeBits.{seen}
@@ -19,19 +19,19 @@ use Rattle.bitstream_stream.specs.declared.byte_writer.ByteWriter.{ByteWriter}
 
 -- the stream of a reader
 abbrev pub reader_stream : {R E : Type 0} → BitReader R E → R
-reader_stream reader = held_stream reader.port
+reader_stream reader = port_stream reader.port
 
 -- the stream of a writer
 abbrev pub writer_stream : {W E : Type 0} → BitWriter W E → W
-writer_stream writer = held_stream writer.port
+writer_stream writer = port_stream writer.port
 
 -- the stream of a reader of bytes
 abbrev pub byte_reader_stream : {R E : Type 0} → ByteReader R E → R
-byte_reader_stream reader = held_stream reader.port
+byte_reader_stream reader = port_stream reader.port
 
 -- the stream of a writer of bytes
 abbrev pub byte_writer_stream : {W E : Type 0} → ByteWriter W E → W
-byte_writer_stream writer = held_stream writer.port
+byte_writer_stream writer = port_stream writer.port
 
 -- a reader as it was, but for its stream
 abbrev pub reader_with : {R E : Type 0} → BitReader R E → R → BitReader R E
@@ -67,19 +67,19 @@ aligned_reader reader = record {
 
 -- the name of the reference through which a reader reaches a stream that was lent
 abbrev pub reader_name : {R E : Type 0} → BitReader (Lent R) E → GName
-reader_name reader = (held_stream reader.port).at.ghost_name
+reader_name reader = (port_stream reader.port).at.ghost_name
 
 -- the name of the reference through which a writer reaches a stream that was lent
 abbrev pub writer_name : {W E : Type 0} → BitWriter (Lent W) E → GName
-writer_name writer = (held_stream writer.port).at.ghost_name
+writer_name writer = (port_stream writer.port).at.ghost_name
 
 -- the name of the reference through which a reader of bytes reaches a stream that was lent
 abbrev pub byte_reader_name : {R E : Type 0} → ByteReader (Lent R) E → GName
-byte_reader_name reader = (held_stream reader.port).at.ghost_name
+byte_reader_name reader = (port_stream reader.port).at.ghost_name
 
 -- the name of the reference through which a writer of bytes reaches a stream that was lent
 abbrev pub byte_writer_name : {W E : Type 0} → ByteWriter (Lent W) E → GName
-byte_writer_name writer = (held_stream writer.port).at.ghost_name
+byte_writer_name writer = (port_stream writer.port).at.ghost_name
 
 -- a writer as another was, but for its stream
 pub record IsWriterWith {W E : Type 0} (old : BitWriter W E) (stream : W) (new : BitWriter W E) : Type 0 where
@@ -103,7 +103,7 @@ EndsUnaligned K old result new = Writes {T = Unit {0}} K align old (seen (λ _. 
 -- What a flush does. The writer had failed; or the stream passed on what it holds back itself, and all else
 -- is as it was; or the stream refused that, as it may refuse, and the writer has failed and nothing is queued.
 pub data Flushes (may : Refusal → Type 0) (old : WriterState) (result : Result (Unit {0}) Error) (new : WriterState) : Type 0 where
-  stays_failed : old.failed ≡ true → result ≡ Err Failed → new ≡ old → Flushes may old result new
-  passes_on : old.failed ≡ false → result ≡ Ok tt → Sent old.port [] new.port → new ≡ record old { port = new.port } → Flushes may old result new
-  is_refused : (error : Error) → old.failed ≡ false → result ≡ Err error → SendRefused may error old.port 0 new.port → new.queued ≡ 0 → new.failed ≡ true
+  had_failed : old.failed ≡ true → result ≡ Err Failed → new ≡ old → Flushes may old result new
+  was_done : old.failed ≡ false → result ≡ Ok tt → Sent old.port [] new.port → new ≡ record old { port = new.port } → Flushes may old result new
+  was_refused : (error : Error) → old.failed ≡ false → result ≡ Err error → SendRefused may error old.port 0 new.port → new.queued ≡ 0 → new.failed ≡ true
       → Flushes may old result new

@@ -5,11 +5,11 @@ use Rattle.std.specs.declared.io.ErrorKind.{ErrorKind}
 use Rattle.std.specs.Io.KnownBytes.{Appends}
 use Rattle.bitstream_number.specs.Word.{Order, bits}
 use Rattle.bitstream_order.specs.Pieces.{pieces}
-use Rattle.bitstream_order.specs.Port.{port_state, fresh_port, requests_count}
+use Rattle.bitstream_order.specs.Port.{port_state, new_port_state, requests_count}
 use Rattle.bitstream_order.specs.Refusal.{Refusal, MayRefuse}
 use Rattle.bitstream_count.specs.declared.error.Error.{Error}
 use Rattle.bitstream_stream.specs.Carries.{WriterState, Carries, Fills, Carries-nil, Carries-trans, Fills-behind, Carries-len}
-use Rattle.bitstream_stream.specs.Sink.{Sink, Appended, WriteFault, inner_sink}
+use Rattle.bitstream_stream.specs.Sink.{Sink, Appended, WriteRefused, inner_sink}
 use Rattle.bitstream_stream.specs.declared.writer.BitWriter.{BitWriter}
 
 -- a writer, by what its stream tells
@@ -38,9 +38,9 @@ abbrev pub AsksForBytes : {W E A : Type 0} → ℕ → ℕ → BitWriter W E →
 AsksForBytes most n old result new = OnOk result (requests_made new ≡ requests_made old + pieces most (queued_bits old) n)
 
 -- a writer to which nothing was written, by what its stream tells
-abbrev pub fresh_writer : Option (List ℕ) → List GName → WriterState
-fresh_writer contents reference_names = record {
-  port = fresh_port contents reference_names;
+abbrev pub new_writer_state : Option (List ℕ) → List GName → WriterState
+new_writer_state contents reference_names = record {
+  port = new_port_state contents reference_names;
   queued = 0;
   queue = 0;
   failed = false;
@@ -76,7 +76,7 @@ pub record AddsBits (o : Order) (old : Option (List ℕ)) (x : List Bool) (new :
 -- the bits x go behind those that a sound writer has, or a request is refused and it has failed
 abbrev pub Pushes : (Refusal → Type 0) → Order → List Bool → WriterState → Result (Unit {0}) Error → WriterState → Type 0
 Pushes may o x old (Ok done) new = Appended (queue_sink may o) old x new
-Pushes may o x old (Err error) new = WriteFault (queue_sink may o) old x error new
+Pushes may o x old (Err error) new = WriteRefused (queue_sink may o) old x error new
 
 -- a writer as a sink
 abbrev pub writer_sink : {W E : Type 0} → (W → Option (List ℕ)) → (W → ℕ → ErrorKind → W → Type 0) → (W → List GName) → Order → Sink (BitWriter W E)

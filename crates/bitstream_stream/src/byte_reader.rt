@@ -1,7 +1,7 @@
 //! A reader of bytes over a stream.
 ghost use Rattle.std.specs.Prelude.{◌≡◌, length};
 ghost use Rattle.bitstream_order.specs.Parts.{value_bytes};
-ghost use Rattle.bitstream_order.specs.Port.{fresh_port};
+ghost use Rattle.bitstream_order.specs.Port.{new_port_state};
 ghost use Rattle.bitstream_order.specs.TakeBits.{seen};
 ghost use Rattle.bitstream_stream.specs.ByteReads.{ByteReads, given_bytes, skipped_bytes};
 
@@ -43,7 +43,7 @@ impl<R: Source, E: Endianness> ByteReader<R, E> {
     /// Returns a reader of a stream's bytes. Nothing is asked of the stream yet.
     pub fn new(reader: R) -> ByteReader<R, E>
         ensures { ⟦<Self as ByteRead>⟧.source.state result
-            ≡ byte_reader_state (fresh_port (R.remaining reader) (R.reference_names reader)) }
+            ≡ byte_reader_state (new_port_state (R.remaining reader) (R.reference_names reader)) }
     {
         ByteReader {
             port: Port::new(reader),
@@ -56,7 +56,7 @@ impl<R: Source, E: Endianness> ByteReader<R, E> {
     where
         E: Drop,
         ensures { ⟦<Self as ByteRead>⟧.source.state result
-            ≡ byte_reader_state (fresh_port (R.remaining reader) (R.reference_names reader)) }
+            ≡ byte_reader_state (new_port_state (R.remaining reader) (R.reference_names reader)) }
     {
         ByteReader::new(reader)
     }
@@ -96,11 +96,11 @@ impl<R: Source, E: Endianness> ByteRead for ByteReader<R, E> {
 }
 
 impl<R: SeekSource, E: Endianness> Seek for ByteReader<R, E> {
-    ghost use Rattle.bitstream_order.specs.Port.{held_stream};
+    ghost use Rattle.bitstream_order.specs.Port.{port_stream};
 
-    ghost stream_position = { λ r. R.position (held_stream r.port) };
+    ghost stream_position = { λ r. R.position (port_stream r.port) };
 
-    ghost stream_bytes = { λ r. R.bytes (held_stream r.port) };
+    ghost stream_bytes = { λ r. R.bytes (port_stream r.port) };
 
     fn seek(&mut self, to: SeekFrom) -> io::Result<u64> {
         match self.port.seek(to) {

@@ -1,6 +1,6 @@
 //! A writer of bytes to a stream.
 ghost use Rattle.std.specs.Prelude.{◌≡◌};
-ghost use Rattle.bitstream_order.specs.Port.{fresh_port};
+ghost use Rattle.bitstream_order.specs.Port.{new_port_state};
 
 use crate::byte_write::ByteWrite;
 use crate::piece::PIECE;
@@ -38,7 +38,7 @@ impl<W: Target, E: Endianness> ByteWriter<W, E> {
     /// Returns a writer to a stream. Nothing is asked of the stream yet.
     pub fn new(stream: W) -> ByteWriter<W, E>
         ensures { byte_writer_state W.contents W.reference_names result
-            ≡ fresh_port (W.contents stream) (W.reference_names stream) }
+            ≡ new_port_state (W.contents stream) (W.reference_names stream) }
     {
         ByteWriter {
             port: Port::new(stream),
@@ -51,7 +51,7 @@ impl<W: Target, E: Endianness> ByteWriter<W, E> {
     where
         E: Drop,
         ensures { byte_writer_state W.contents W.reference_names result
-            ≡ fresh_port (W.contents stream) (W.reference_names stream) }
+            ≡ new_port_state (W.contents stream) (W.reference_names stream) }
     {
         ByteWriter::new(stream)
     }

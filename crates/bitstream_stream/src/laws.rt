@@ -56,7 +56,7 @@ pub fn ends_are_known<R: BitRead, A>()
         → (R.source.state old).failed ≡ false → (R.source.state old).bytes ≡ Some bytes
         → Reads R.source entry old answer new
         → answer ≡ sure_answer (entry.reads (R.source.state old).taken
-        ((R.source.state old).held ++ bits_of R.source.order bytes)) }
+        ((R.source.state old).queue ++ bits_of R.source.order bytes)) }
 {}
 
 /// A [`Slice`] is such a stream.

@@ -2,7 +2,7 @@
 ghost use Rattle.std.specs.Prelude.{◌≡◌, ℕ, ◌+◌, ◌%◌, ◌^◌, ◌<◌, ◌≤◌, ◌⊎◌, ◌↔◌, ◌==◌, false, length, Ok, IsTrue};
 ghost use Rattle.bitstream_order.specs.Parts.{value_bytes};
 ghost use Rattle.bitstream_order.specs.TakeBits.{seen};
-ghost use Rattle.bitstream_stream.specs.Reads.{BitSource, Reads, ReadsConst, ReadsGrowing, failing, lent_source};
+ghost use Rattle.bitstream_stream.specs.Reads.{BitSource, Reads, ReadsConst, ReadsGrowing, failed_reader, lent_source};
 ghost use Rattle.bitstream_stream.specs.ReadTable.{bit_entry, unsigned_entry, signed_entry, const_entry, unary_entry, count_entry, align_entry, bytes_entry, skip_entry, is_full, vbr_entry, signed_vbr_entry};
 
 use crate::grow::grow;
@@ -95,7 +95,7 @@ pub trait BitRead {
     /// Makes the reader fail, and drops the bits that it holds back. From then on each call that
     /// reads a value answers `Failed`.
     fn fail(&mut self)
-        ensures { source.state self.new ≡ failing (source.state self.old) };
+        ensures { source.state self.new ≡ failed_reader (source.state self.old) };
 
     /// Reads one bit, and returns whether it is 1.
     ///

@@ -20,7 +20,7 @@ use bitstream_order::shift::shift;
 use bitstream_order::sign::signed_of;
 use bitstream_order::source::Source;
 use bitstream_order::tally::Tally;
-use bitstream_order::unary::take_run;
+use bitstream_order::unary::take_unary;
 use std::marker::PhantomData;
 
 mod ways;
@@ -348,7 +348,7 @@ impl<R: Source, E: Endianness> BitRead for BitReader<R, E> {
         self.queue = 0;
         self.queued = 0;
         self.failed = true;
-        match take_run::<R, E>(&mut self.port, &mut self.turns, queue, queued, stop) {
+        match take_unary::<R, E>(&mut self.port, &mut self.turns, queue, queued, stop) {
             Ok(Some(run)) => {
                 self.taken.add(run.count as u64 + 1);
                 self.queue = run.left;

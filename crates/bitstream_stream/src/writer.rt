@@ -51,13 +51,13 @@ pub struct BitWriter<W, E> {
 impl<W: Target, E: Endianness> BitWriter<W, E> {
     ghost use Rattle.bitstream_number.specs.Word.{word, bits};
     ghost use Rattle.bitstream_order.specs.Refusal.{MayRefuse};
-    ghost use Rattle.bitstream_stream.specs.Carries.{lost};
-    ghost use Rattle.bitstream_stream.specs.Writer.{writer_state, fresh_writer, queued_bits, requests_made, AsksForBytes, AsksForWord, Pushes};
+    ghost use Rattle.bitstream_stream.specs.Carries.{failed_writer};
+    ghost use Rattle.bitstream_stream.specs.Writer.{writer_state, new_writer_state, queued_bits, requests_made, AsksForBytes, AsksForWord, Pushes};
 
     /// Returns a writer to a stream. Nothing is asked of the stream yet.
     pub fn new(stream: W) -> BitWriter<W, E>
         ensures { writer_state W.contents W.reference_names result
-            ≡ fresh_writer (W.contents stream) (W.reference_names stream) }
+            ≡ new_writer_state (W.contents stream) (W.reference_names stream) }
     {
         BitWriter {
             port: Port::new(stream),
@@ -73,7 +73,7 @@ impl<W: Target, E: Endianness> BitWriter<W, E> {
     where
         E: Drop,
         ensures { writer_state W.contents W.reference_names result
-            ≡ fresh_writer (W.contents stream) (W.reference_names stream) }
+            ≡ new_writer_state (W.contents stream) (W.reference_names stream) }
     {
         BitWriter::new(stream)
     }
@@ -82,8 +82,8 @@ impl<W: Target, E: Endianness> BitWriter<W, E> {
     /// more.
     fn refuse(&mut self, error: Error) -> Result<(), Error>
         ensures answer { result ≡ Err error }
-        ensures lost { writer_state W.contents W.reference_names self.new
-            ≡ lost (writer_state W.contents W.reference_names self.old) }
+        ensures fails { writer_state W.contents W.reference_names self.new
+            ≡ failed_writer (writer_state W.contents W.reference_names self.old) }
         ensures requests { requests_made self.new ≡ requests_made self.old }
     {
         self.queue = 0;

@@ -5,7 +5,7 @@ pub mod NonZeroLemmas
 pub mod ReadSteps
 pub mod Rows
 pub mod SureLemmas
-pub mod TableLemmas
+pub mod NodesLemmas
 pub mod TreeLemmas
 pub mod TruthLemmas
 pub mod WalkLemmas

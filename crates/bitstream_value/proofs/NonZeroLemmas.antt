@@ -30,9 +30,9 @@ module _ {A : Type 0} (after : ℕ → A) {R : Type 0} {K : BitSource R} where
   unfolding non_zero_entry
   non_zero-stops o size n {r = r} less h k = rw (lt-ltb n size less) (exit (λ v. gives (after v)) r h k)
 
-  pub non_zero-takes_front : (o : Order) (size n v : ℕ) (a : A) {s t : R} → n < size → after v ≡ a → Reads K (unsigned_entry o size n) s (Ok v) t → Reads K (non_zero_entry after o size n) s (Ok a) t
+  pub non_zero-was_done : (o : Order) (size n v : ℕ) (a : A) {s t : R} → n < size → after v ≡ a → Reads K (unsigned_entry o size n) s (Ok v) t → Reads K (non_zero_entry after o size n) s (Ok a) t
   unfolding non_zero_entry
-  non_zero-takes_front o size n v a {s = s} {t = t} less is h =
+  non_zero-was_done o size n v a {s = s} {t = t} less is h =
       rw (lt-ltb n size less, ← is) (Reads-chain-ok _ (λ k. gives (after k)) h (Reads-gives (after v) t))
 
   pub non_zero-refused : (o : Order) (size n : ℕ) {r : Result A Error} {s t : R} → size ≤ n → Reads K (refuses NonZeroWidth) s r t → Reads K (non_zero_entry after o size n) s r t
@@ -43,9 +43,9 @@ module _ {A : Type 0} (after : ℕ → A) {R : Type 0} {K : BitSource R} where
   unfolding option_entry
   option-stops o size n {r = r} h k = exit (λ v. gives (if_any after v)) r h k
 
-  pub option-takes_front : (o : Order) (size n v : ℕ) (x : Option A) {s t : R} → if_any after v ≡ x → Reads K (unsigned_entry o size n) s (Ok v) t → Reads K (option_entry after o size n) s (Ok x) t
+  pub option-was_done : (o : Order) (size n v : ℕ) (x : Option A) {s t : R} → if_any after v ≡ x → Reads K (unsigned_entry o size n) s (Ok v) t → Reads K (option_entry after o size n) s (Ok x) t
   unfolding option_entry
-  option-takes_front o size n v x {s = s} {t = t} is h = rw (← is) (Reads-chain-ok _ (λ k. gives (if_any after k)) h (Reads-gives (if_any after v) t))
+  option-was_done o size n v x {s = s} {t = t} is h = rw (← is) (Reads-chain-ok _ (λ k. gives (if_any after k)) h (Reads-gives (if_any after v) t))
 
   -- ---- in groups
 
@@ -53,9 +53,9 @@ module _ {A : Type 0} (after : ℕ → A) {R : Type 0} {K : BitSource R} where
   unfolding non_zero_vbr_entry
   non_zero_vbr-stops o field size {x = x} {r = r} h k = exit (λ v. gives (after v)) r h (limit-stops o field size (2 ^ size - 1) (2 ^ size) (omega arith) x k)
 
-  pub non_zero_vbr-takes_front : (o : Order) (field size v : ℕ) (a : A) {s t : R} → v + 1 < 2 ^ size → after v ≡ a → Reads K (vbr_entry o field size (2 ^ size)) s (Ok v) t → Reads K (non_zero_vbr_entry after o field size) s (Ok a) t
+  pub non_zero_vbr-was_done : (o : Order) (field size v : ℕ) (a : A) {s t : R} → v + 1 < 2 ^ size → after v ≡ a → Reads K (vbr_entry o field size (2 ^ size)) s (Ok v) t → Reads K (non_zero_vbr_entry after o field size) s (Ok a) t
   unfolding non_zero_vbr_entry
-  non_zero_vbr-takes_front o field size v a {s = s} {t = t} less is h =
+  non_zero_vbr-was_done o field size v a {s = s} {t = t} less is h =
       rw (← is) (Reads-chain-ok _ (λ k. gives (after k)) (limit-holds o field size (2 ^ size - 1) (2 ^ size) (omega arith) v (omega arith) h) (Reads-gives (after v) t))
 
   -- the greatest number has none after it
@@ -67,9 +67,9 @@ module _ {A : Type 0} (after : ℕ → A) {R : Type 0} {K : BitSource R} where
   unfolding option_vbr_entry
   option_vbr-stops o field size {r = r} h k = exit (λ v. gives (if_any after v)) r h k
 
-  pub option_vbr-takes_front : (o : Order) (field size v : ℕ) (x : Option A) {s t : R} → if_any after v ≡ x → Reads K (vbr_entry o field size (2 ^ size)) s (Ok v) t → Reads K (option_vbr_entry after o field size) s (Ok x) t
+  pub option_vbr-was_done : (o : Order) (field size v : ℕ) (x : Option A) {s t : R} → if_any after v ≡ x → Reads K (vbr_entry o field size (2 ^ size)) s (Ok v) t → Reads K (option_vbr_entry after o field size) s (Ok x) t
   unfolding option_vbr_entry
-  option_vbr-takes_front o field size v x {s = s} {t = t} is h = rw (← is) (Reads-chain-ok _ (λ k. gives (if_any after k)) h (Reads-gives (if_any after v) t))
+  option_vbr-was_done o field size v x {s = s} {t = t} is h = rw (← is) (Reads-chain-ok _ (λ k. gives (if_any after k)) h (Reads-gives (if_any after v) t))
 
 -- a number of fewer bits than the type has is not its greatest
 pub next_fits : (n size v : ℕ) → n < size → v < 2 ^ n → v + 1 < 2 ^ size

@@ -13,7 +13,7 @@ use Rattle.std.specs.Result.{IsErrAnd, result_from_control_flow}
 use Rattle.std.specs.declared.ops.ControlFlow.{ControlFlow}
 use Rattle.bitstream_count.specs.declared.error.Error.{Error}
 use Rattle.bitstream_count.specs.declared.error.Error.TheVariants.{EndOfInput}
-use Rattle.bitstream_count.specs.Entry.{ReadEntry, TooShort, Takes, chain, gives}
+use Rattle.bitstream_count.specs.Entry.{ReadEntry, TooFew, Takes, chain, gives}
 use Rattle.bitstream_number.specs.Word.{Order, number, signed_number, bits}
 use Rattle.bitstream_number.proofs.WordLemmas.{length-bits}
 use Rattle.bitstream_order.specs.Refusal.{TrueEnds}
@@ -63,7 +63,7 @@ pub ruleset few_reads = (then_signed_read, then_read, end_read, Reads-gives, sfi
 -- asked behind k of the bits b, the call takes n more and answers r, or they are too few for it
 pub record Finds {A : Type 0} (b : List Bool) (k : ℕ) (e : ReadEntry A) (n : ℕ) (r : Result A Error) : Type 0 where
   pub there : (p : ℕ) → k + n ≤ length b → e.reads p (drop k b) ≡ Takes n r
-  pub short : (p : ℕ) → k ≤ length b → length b < k + n → e.reads p (drop k b) ≡ TooShort
+  pub short : (p : ℕ) → k ≤ length b → length b < k + n → e.reads p (drop k b) ≡ TooFew
 
 word-finds : {A : Type 0} (b : List Bool) (k n : ℕ) (e : ReadEntry A) (g : List Bool → Result A Error) → IsWord e n g → Finds b k e n (g (take n (drop k b)))
 word-finds b k n e g word = record {

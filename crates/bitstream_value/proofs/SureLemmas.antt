@@ -7,7 +7,7 @@ use Rattle.std.proofs.lemmas.List.{drop-append-le, drop-take, take-take, map-app
 use Rattle.std.specs.Borrow.{GName}
 use Rattle.bitstream_count.specs.declared.error.Error.{Error}
 use Rattle.bitstream_count.specs.declared.error.Error.TheVariants.{EndOfInput}
-use Rattle.bitstream_count.specs.Entry.{ReadEntry, Front, TooShort, Takes, word_front, front_then, longer, chain, gives}
+use Rattle.bitstream_count.specs.Entry.{ReadEntry, Front, TooFew, Takes, word_front, front_then, longer, chain, gives}
 use Rattle.bitstream_number.specs.Word.{Order, number, bits}
 use Rattle.bitstream_number.proofs.WordLemmas.{length-bits}
 use Rattle.bitstream_order.specs.Refusal.{TrueEnds}
@@ -70,7 +70,7 @@ words-take n (suc k) b =
     rw (first, rest) (ap (λ l. take n b ∷ l) (words-take n k (drop n b)))
 
 front-same : {A B : Type 0} (x : Front A) (f h : ℕ → A → Front B) → ((n : ℕ) (a : A) → f n a ≡ h n a) → front_then x f ≡ front_then x h
-front-same TooShort f h same = refl
+front-same TooFew f h same = refl
 front-same (Takes n (Ok a)) f h same = ap (longer n) (same n a)
 front-same (Takes n (Err d)) f h same = refl
 

@@ -4,7 +4,7 @@ use Rattle.std.specs.Prelude.{if◌then◌else◌, IsSome, ◌↔◌}
 use Rattle.std.specs.Option.{option_map}
 use Rattle.std.proofs.lemmas.Bool.{le-leb}
 use Rattle.bitstream_count.specs.declared.error.Error.{Error}
-use Rattle.bitstream_count.specs.Entry.{Front, TooShort, Takes, longer, chain, gives}
+use Rattle.bitstream_count.specs.Entry.{Front, TooFew, Takes, longer, chain, gives}
 use Rattle.bitstream_stream.specs.ReadTable.{bit_entry}
 use Rattle.bitstream_stream.proofs.EntryLemmas.{chain-ok, chain-none}
 use Rattle.bitstream_value.specs.Tree.{Tree, leaf, node, IsPath, path_entry, IsBefore, IsFirstPath, or_else, first_path, symbol_word}
@@ -66,7 +66,7 @@ in_side a b true w s h = h
 
 behind : {S : Type 0} (a b : Tree S) (c : Bool) (bits : List Bool) (n : ℕ) (r : Result S Error) (f : Front S) → ((m : ℕ) → f ≡ Takes m r → TakesPath (if c then b else a) bits m r)
     → longer 1 f ≡ Takes n r → TakesPath (node a b) (c ∷ bits) n r
-behind a b c bits n r TooShort h e = absurd cc
+behind a b c bits n r TooFew h e = absurd cc
 behind a b c bits n r (Takes m x) h e =
     let same : x ≡ r = cc in
     let size : 1 + m ≡ n = cc in
@@ -92,7 +92,7 @@ path-taken (leaf x) p bits n r e =
     }
 path-taken (node a b) p [] n r e =
     let h = rw path_entry-node at e in
-    let none : (chain bit_entry (λ c. if c then path_entry b else path_entry a)).reads p [] ≡ TooShort = chain-none bit_entry (λ c. if c then path_entry b else path_entry a) p [] refl in
+    let none : (chain bit_entry (λ c. if c then path_entry b else path_entry a)).reads p [] ≡ TooFew = chain-none bit_entry (λ c. if c then path_entry b else path_entry a) p [] refl in
     absurd (cc (h, none))
 path-taken (node a b) p (false ∷ bits) n r e = behind a b false bits n r ((path_entry a).reads (p + 1) bits) (λ m. path-taken a (p + 1) bits m r) (sym (path-step a b p false bits) ∙ e)
 path-taken (node a b) p (true ∷ bits) n r e = behind a b true bits n r ((path_entry b).reads (p + 1) bits) (λ m. path-taken b (p + 1) bits m r) (sym (path-step a b p true bits) ∙ e)

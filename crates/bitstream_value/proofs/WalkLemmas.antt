@@ -11,11 +11,11 @@ use Rattle.bitstream_stream.specs.Sink.{Sink, Writes, WritesAll}
 use Rattle.bitstream_stream.specs.WriteTable.{bit}
 use Rattle.bitstream_stream.proofs.ReadsLemmas.{Reads-chain-ok, Reads-gives, exit}
 use Rattle.bitstream_stream.proofs.WriteParts.{all_none, all_err, all_more}
-use Rattle.bitstream_value.specs.Table.{HasSymbol, IsFirstPlace, FindsFirst}
+use Rattle.bitstream_value.specs.Nodes.{HasSymbol, IsFirstPlace, FindsFirst}
 use Rattle.bitstream_value.specs.Tree.{Tree, node, path_entry, symbol_word, bit_by_bit}
 use Rattle.bitstream_value.specs.declared.huffman.tree.Node.{Node}
 use Rattle.bitstream_value.specs.declared.huffman.tree.Node.TheVariants.{Leaf, Branch}
-use Rattle.bitstream_value.proofs.TableLemmas.{Stands, Seeks, Down, down, leaf-is, branch-parts, Stands-within, word-leaf}
+use Rattle.bitstream_value.proofs.NodesLemmas.{Stands, Seeks, Down, down, leaf-is, branch-parts, Stands-within, word-leaf}
 use Rattle.bitstream_value.proofs.TreeLemmas.{path_entry-leaf, path_entry-node}
 
 -- a node that was read

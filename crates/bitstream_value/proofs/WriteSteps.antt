@@ -14,8 +14,8 @@ use Rattle.bitstream_number.specs.Word.{Order, bits}
 use Rattle.bitstream_stream.specs.declared.writer.BitWriter.{BitWriter}
 use Rattle.bitstream_stream.specs.Carries.{WriterState}
 use Rattle.bitstream_stream.specs.Run.{accepted, write_run}
-use Rattle.bitstream_stream.specs.Sink.{Sink, Writes, WritesAll, Appended, was_failed, was_refused, passed_limit, had_fault, did_write}
-use Rattle.bitstream_stream.specs.Writer.{writer_state, fresh_writer, writer_sink, AddsBits}
+use Rattle.bitstream_stream.specs.Sink.{Sink, Writes, WritesAll, Appended, had_failed, was_rejected, past_limit, was_refused, was_done}
+use Rattle.bitstream_stream.specs.Writer.{writer_state, new_writer_state, writer_sink, AddsBits}
 use Rattle.bitstream_stream.proofs.WriteParts.{all_append, all_none, all_err, all_more, all_one, one_of_all}
 use Rattle.bitstream_stream.proofs.WriteLemmas.{padded}
 use Rattle.bitstream_stream.proofs.WriterLemmas.{adds_bits}
@@ -108,11 +108,11 @@ pub ruleset few_writes = (then_call, then_write, end_call, end_write, then_signe
 
 -- a call that answered `Ok` appended its word
 wrote : {S : Type 0} (K : Sink S) (e : WriteEntry) (s t : S) → Writes {T = Unit {0}} K e s (Ok tt) t → Appended K s (accepted (e (K.len s))) t
-wrote K e s t (was_failed p q k) = cc
-wrote K e s t (was_refused error p q v k) = cc
-wrote K e s t (passed_limit y p q b v k) = cc
-wrote K e s t (had_fault y error p q b v k) = cc
-wrote K e s t (did_write y v p q b d k) = subst (λ w. Appended K s w t) (sym (ap accepted q)) k
+wrote K e s t (had_failed p q k) = cc
+wrote K e s t (was_rejected error p q v k) = cc
+wrote K e s t (past_limit y p q b v k) = cc
+wrote K e s t (was_refused y error p q b v k) = cc
+wrote K e s t (was_done y v p q b d k) = subst (λ w. Appended K s w t) (sym (ap accepted q)) k
 
 -- calls that answered `Ok` appended their write run
 pub run_appended : {S : Type 0} (K : Sink S) (es : List WriteEntry) (s t : S) → K.failed s ≡ false → WritesAll K es s (Ok tt) t → Appended K s (write_run es (K.len s)) t
@@ -140,7 +140,7 @@ aligned K s t h =
     rw (far, length-replicate (to_boundary (K.len s)) false) (padded (K.len s))
 
 module _ {W E : Type 0} (held : W → Option (List ℕ)) (refuses : W → ℕ → ErrorKind → W → Type 0) (reference_names : W → List GName) (o : Order) (es : List WriteEntry) (known : Option (List ℕ)) (names : List GName) (a m b : BitWriter W E) where
-  packed : writer_state held reference_names a ≡ fresh_writer known names → WritesAll (writer_sink held refuses reference_names o) es a (Ok tt) m → Writes {T = Unit {0}} (writer_sink held refuses reference_names o) align m (Ok tt) b
+  packed : writer_state held reference_names a ≡ new_writer_state known names → WritesAll (writer_sink held refuses reference_names o) es a (Ok tt) m → Writes {T = Unit {0}} (writer_sink held refuses reference_names o) align m (Ok tt) b
       → Appended (writer_sink held refuses reference_names o) a (write_run (es ++ align ∷ []) 0) b
   packed fresh h k =
       let K = writer_sink held refuses reference_names o in
@@ -149,14 +149,14 @@ module _ {W E : Type 0} (held : W → Option (List ℕ)) (refuses : W → ℕ �
       subst (λ n. Appended K a (write_run (es ++ align ∷ []) n) b) start (run_appended K (es ++ align ∷ []) a b (ap (λ (s : WriterState). s.failed) fresh) all)
 
   -- the bits of the bytes that were added are the write run
-  pub bytes_added : writer_state held reference_names a ≡ fresh_writer known names → WritesAll (writer_sink held refuses reference_names o) es a (Ok tt) m → Writes {T = Unit {0}} (writer_sink held refuses reference_names o) align m (Ok tt) b
+  pub bytes_added : writer_state held reference_names a ≡ new_writer_state known names → WritesAll (writer_sink held refuses reference_names o) es a (Ok tt) m → Writes {T = Unit {0}} (writer_sink held refuses reference_names o) align m (Ok tt) b
       → AddsBits o known (write_run (es ++ align ∷ []) 0) (held b.port.stream)
   bytes_added fresh h k =
       subst (λ z. AddsBits o z (write_run (es ++ align ∷ []) 0) (held b.port.stream)) (ap (λ (s : WriterState). s.port.bytes) fresh)
       (adds_bits held reference_names o a b (write_run (es ++ align ∷ []) 0) (packed fresh h k).grown (ap (λ (s : WriterState). s.queued) fresh) (aligned (writer_sink held refuses reference_names o) m b k))
 
   -- and the stream is reached as it was
-  pub names_kept : writer_state held reference_names a ≡ fresh_writer known names → WritesAll (writer_sink held refuses reference_names o) es a (Ok tt) m → Writes {T = Unit {0}} (writer_sink held refuses reference_names o) align m (Ok tt) b → reference_names b.port.stream ≡ names
+  pub names_kept : writer_state held reference_names a ≡ new_writer_state known names → WritesAll (writer_sink held refuses reference_names o) es a (Ok tt) m → Writes {T = Unit {0}} (writer_sink held refuses reference_names o) align m (Ok tt) b → reference_names b.port.stream ≡ names
   names_kept fresh h k = (packed fresh h k).reference_names ∙ ap (λ (s : WriterState). s.port.reference_names) fresh
 
 -- the bytes of a stream that held none
@@ -169,7 +169,7 @@ pub record Packed (held : Option (List ℕ)) (reached : List GName) (o : Order) 
   pub reached_as : reached ≡ names
 
 pub packed_stream : {W E : Type 0} (held : W → Option (List ℕ)) {refuses : W → ℕ → ErrorKind → W → Type 0} (reference_names : W → List GName) {o : Order} (es : List WriteEntry) {known : Option (List ℕ)} {names : List GName} (a : BitWriter W E) {m b : BitWriter W E}
-    → known ≡ Some [] → writer_state held reference_names a ≡ fresh_writer known names → WritesAll (writer_sink held refuses reference_names o) es a (Ok tt) m → Writes {T = Unit {0}} (writer_sink held refuses reference_names o) align m (Ok tt) b
+    → known ≡ Some [] → writer_state held reference_names a ≡ new_writer_state known names → WritesAll (writer_sink held refuses reference_names o) es a (Ok tt) m → Writes {T = Unit {0}} (writer_sink held refuses reference_names o) align m (Ok tt) b
     → Packed (held b.port.stream) (reference_names b.port.stream) o (write_run (es ++ align ∷ []) 0) names
 packed_stream held {refuses = refuses} reference_names {o = o} es {known = known} {names = names} a {m = m} {b = b} none fresh h k = record {
   whole = λ {xs} is. whole_bytes none (subst (AddsBits o known (write_run (es ++ align ∷ []) 0)) is (bytes_added held refuses reference_names o es known names a m b fresh h k));

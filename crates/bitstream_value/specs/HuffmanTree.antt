@@ -1,7 +1,7 @@
 -- The tree that a table stands for.
 use Rattle.std.specs.Prelude.{◌≡◌, true, List, Option, Some, None, is_some}
 use Rattle.std.proofs.lemmas.Bool.{false≢true}
-use Rattle.bitstream_value.specs.Table.{table_tree}
+use Rattle.bitstream_value.specs.Nodes.{nodes_tree}
 use Rattle.bitstream_value.specs.Tree.{Tree}
 use Rattle.bitstream_value.specs.declared.huffman.tree.HuffmanTree.{HuffmanTree}
 use Rattle.bitstream_value.specs.declared.huffman.tree.Node.{Node}
@@ -12,9 +12,9 @@ value_of None there = absurd (false≢true there)
 value_of (Some x) there = x
 
 -- the nodes of a tree, as they stand in memory
-abbrev pub table : {S A : Type 0} → HuffmanTree S A → List (Node S)
-table code = code.nodes.items
+abbrev pub nodes_of : {S A : Type 0} → HuffmanTree S A → List (Node S)
+nodes_of code = code.nodes.items
 
 -- the tree that the nodes stand for
 unfoldable pub tree_of : {S A : Type 0} → HuffmanTree S A → Tree S
-tree_of code = value_of (table_tree (table code)) code.is_table
+tree_of code = value_of (nodes_tree (nodes_of code)) code.has_tree

@@ -2,6 +2,6 @@ pub mod HuffmanTree
 pub mod Items
 pub mod LimitedUnary
 pub mod NonZeros
-pub mod Table
+pub mod Nodes
 pub mod Tree
 pub mod Truths

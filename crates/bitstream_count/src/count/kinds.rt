@@ -1,7 +1,7 @@
 //! Counts of bits, whatever their greatest number is.
 
 ghost use Rattle.std.specs.Prelude.{◌≡◌, ℕ, ◌<◌, ◌≤◌, MatchOption};
-ghost use Rattle.bitstream_count.specs.Counts.{IsOutside};
+ghost use Rattle.bitstream_count.specs.Counts.{IsOutOfRange};
 
 use crate::count::sealed::Sealed;
 
@@ -41,6 +41,6 @@ pub trait SignedCount: Sealed + Copy {
 
     /// Returns a count of so many bits, or `None` where that is 0 or above `MAX`.
     fn of(bits: u32) -> Option<Self>
-        ensures { MatchOption result (IsOutside 1 MAX bits)
+        ensures { MatchOption result (IsOutOfRange 1 MAX bits)
             (λ n. (1 ≤ bits) × (bits ≤ MAX) × (number n ≡ bits)) };
 }

@@ -3,7 +3,7 @@
 ghost use Rattle.std.specs.Prelude.{◌≡◌, ℕ, pos, ◌+◌, ◌-◌, ◌^◌, ◌<◌, ◌≤◌, ◌-ℤ◌, false, min, Option, Some, MatchResult, decimal};
 ghost use Rattle.std.specs.Fmt.{styled_decimal};
 ghost use Rattle.std.specs.Option.{SomeIff};
-ghost use Rattle.bitstream_count.specs.Counts.{IsOutside, in_range};
+ghost use Rattle.bitstream_count.specs.Counts.{IsOutOfRange, in_range};
 
 use crate::count::bit_count::BitCount;
 use crate::count::kinds::{Count, SignedCount};
@@ -168,7 +168,7 @@ impl<const MAX: u32> TryFrom<u32> for SignedBitCount<MAX> {
     type Error = u32;
 
     ghost try_from_gives = { λ n r. MatchResult r
-        (λ c. (1 ≤ n) × (n ≤ MAX) × (c ≡ n)) (λ e. IsOutside 1 MAX n × (e ≡ n)) };
+        (λ c. (1 ≤ n) × (n ≤ MAX) × (c ≡ n)) (λ e. IsOutOfRange 1 MAX n × (e ≡ n)) };
 
     /// Returns a count of so many bits.
     ///

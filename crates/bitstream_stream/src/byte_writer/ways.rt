@@ -1,6 +1,6 @@
 //! The ways from a writer of bytes to its stream, and to a writer of bits to the stream.
 ghost use Rattle.std.specs.Prelude.{◌≡◌, ◌∷◌};
-ghost use Rattle.bitstream_order.specs.Port.{fresh_port};
+ghost use Rattle.bitstream_order.specs.Port.{new_port_state};
 
 use super::ByteWriter;
 use crate::writer::BitWriter;
@@ -10,7 +10,7 @@ use bitstream_order::target::Target;
 
 impl<W: Target, E: Endianness> ByteWriter<W, E> {
     ghost use Rattle.std.specs.Borrow.{Lends, follows, sem};
-    ghost use Rattle.bitstream_stream.specs.Writer.{writer_state, fresh_writer};
+    ghost use Rattle.bitstream_stream.specs.Writer.{writer_state, new_writer_state};
     ghost use Rattle.bitstream_stream.specs.Ways.{byte_writer_stream, byte_writer_with, writer_name};
     ghost use Rattle.bitstream_stream.specs.contracts.byte_writer.ByteWriter.{the_row};
 
@@ -33,7 +33,7 @@ impl<W: Target, E: Endianness> ByteWriter<W, E> {
     /// Returns a writer of bits to the stream, in the same order, which has written none yet.
     pub fn into_bitwriter(self) -> BitWriter<W, E>
         ensures { writer_state W.contents W.reference_names result
-            ≡ fresh_writer (W.contents (byte_writer_stream self))
+            ≡ new_writer_state (W.contents (byte_writer_stream self))
             (W.reference_names (byte_writer_stream self)) }
     {
         BitWriter::new(self.into_writer())
@@ -44,7 +44,7 @@ impl<W: Target, E: Endianness> ByteWriter<W, E> {
     pub fn bitwriter<'a>(&'a mut self) -> BitWriter<Lent<'a, W>, E>
         ensures state { writer_state ⟦<Lent<'a, W> as Target>⟧.contents
             ⟦<Lent<'a, W> as Target>⟧.reference_names result
-            ≡ fresh_writer (W.contents (byte_writer_stream self.old))
+            ≡ new_writer_state (W.contents (byte_writer_stream self.old))
             (writer_name result ∷ W.reference_names (byte_writer_stream self.old)) }
         ensures* writes_back { sem 𝓛 (follows (the_row W.row E.row) W.row self.entry.ghost_name
             (writer_name result) (byte_writer_with self.old)) }

@@ -1,7 +1,7 @@
 //! The ways from a reader of bits to its stream, and to a reader of the stream's bytes.
 ghost use Rattle.std.specs.Prelude.{◌≡◌, ◌↔◌, ◌%◌, ◌∷◌, false, Ok, IsSome, IfSome};
 ghost use Rattle.std.specs.Option.{ghost_name_of};
-ghost use Rattle.bitstream_order.specs.Port.{fresh_port};
+ghost use Rattle.bitstream_order.specs.Port.{new_port_state};
 ghost use Rattle.bitstream_stream.specs.ByteReader.{byte_reader_state};
 
 use super::BitReader;
@@ -63,7 +63,7 @@ impl<R: Source, E: Endianness> BitReader<R, E> {
             × ((⟦<Self as BitRead>⟧.source.state self.old).taken % 8 ≡ 0)) }
         ensures state { IfSome result (λ reader.
             ⟦<ByteReader<Lent<'a, R>, E> as ByteRead>⟧.source.state reader
-            ≡ byte_reader_state (fresh_port (R.remaining (reader_stream self.old))
+            ≡ byte_reader_state (new_port_state (R.remaining (reader_stream self.old))
             (byte_reader_name reader ∷ R.reference_names (reader_stream self.old)))) }
         ensures* writes_back { sem 𝓛 (follows_if (the_row R.row E.row) R.row self.entry.ghost_name
             (name_if_some byte_reader_name result) (reader_with self.old) self.old) }
@@ -76,7 +76,7 @@ impl<R: Source, E: Endianness> BitReader<R, E> {
         ensures name { name_if_some byte_reader_name result ≡ ghost_name_of stream.entry }
         ensures state { IfSome stream.entry (λ lent. IfSome result (λ reader.
             ⟦<ByteReader<Lent<'a, R>, E> as ByteRead>⟧.source.state reader
-            ≡ byte_reader_state (fresh_port (R.remaining lent.now)
+            ≡ byte_reader_state (new_port_state (R.remaining lent.now)
             (byte_reader_name reader ∷ R.reference_names lent.now)))) }
     {
         match stream {
@@ -89,7 +89,7 @@ impl<R: Source, E: Endianness> BitReader<R, E> {
     /// that this reader holds back are dropped.
     pub fn into_bytereader(self) -> ByteReader<R, E>
         ensures { ⟦<ByteReader<R, E> as ByteRead>⟧.source.state result
-            ≡ byte_reader_state (fresh_port (R.remaining (reader_stream self))
+            ≡ byte_reader_state (new_port_state (R.remaining (reader_stream self))
             (R.reference_names (reader_stream self))) }
     {
         ByteReader::new(self.into_reader())

@@ -1,7 +1,7 @@
 //! The ways from a writer of bits to its stream, and to a writer of the stream's bytes.
 ghost use Rattle.std.specs.Prelude.{◌≡◌, ◌↔◌, ◌%◌, ◌∷◌, false, Ok, IsSome, IfSome, IfOk, OnOk};
 ghost use Rattle.std.specs.Option.{ghost_name_of};
-ghost use Rattle.bitstream_order.specs.Port.{fresh_port};
+ghost use Rattle.bitstream_order.specs.Port.{new_port_state};
 ghost use Rattle.bitstream_order.specs.Refusal.{MayRefuse};
 
 use super::BitWriter;
@@ -69,7 +69,7 @@ impl<W: Target, E: Endianness> BitWriter<W, E> {
         ensures state { IfSome result (λ writer.
             byte_writer_state ⟦<Lent<'a, W> as Target>⟧.contents
             ⟦<Lent<'a, W> as Target>⟧.reference_names writer
-            ≡ fresh_port (W.contents (writer_stream self.old))
+            ≡ new_port_state (W.contents (writer_stream self.old))
             (byte_writer_name writer ∷ W.reference_names (writer_stream self.old))) }
         ensures* writes_back { sem 𝓛 (follows_if (the_row W.row E.row) W.row self.entry.ghost_name
             (name_if_some byte_writer_name result) (writer_with self.old) self.old) }
@@ -83,7 +83,7 @@ impl<W: Target, E: Endianness> BitWriter<W, E> {
         ensures state { IfSome stream.entry (λ lent. IfSome result (λ writer.
             byte_writer_state ⟦<Lent<'a, W> as Target>⟧.contents
             ⟦<Lent<'a, W> as Target>⟧.reference_names writer
-            ≡ fresh_port (W.contents lent.now) (byte_writer_name writer ∷ W.reference_names lent.now))) }
+            ≡ new_port_state (W.contents lent.now) (byte_writer_name writer ∷ W.reference_names lent.now))) }
     {
         match stream {
             Some(stream) => Some(ByteWriter::new(Lent::new(stream))),
@@ -95,7 +95,7 @@ impl<W: Target, E: Endianness> BitWriter<W, E> {
     /// bits that wait in this writer are dropped.
     pub fn into_bytewriter(self) -> ByteWriter<W, E>
         ensures { byte_writer_state W.contents W.reference_names result
-            ≡ fresh_port (W.contents (writer_stream self))
+            ≡ new_port_state (W.contents (writer_stream self))
             (W.reference_names (writer_stream self)) }
     {
         ByteWriter::new(self.into_writer())

@@ -1,6 +1,6 @@
 //! Codes that are trees of symbols.
 ghost use Rattle.std.specs.Prelude.{◌≡◌, true, is_some};
-ghost use Rattle.bitstream_value.specs.Table.{table_tree};
+ghost use Rattle.bitstream_value.specs.Nodes.{nodes_tree};
 
 mod join;
 mod walk;
@@ -41,7 +41,7 @@ pub struct HuffmanTree<S, A: Allocator> {
     // Each side of a branch is a part of the table before it, which ends with that side's root. The
     // longer one comes first.
     nodes: Vec<Node<S>, A>,
-    ghost is_table: { is_some (table_tree nodes.items) ≡ true },
+    ghost has_tree: { is_some (nodes_tree nodes.items) ≡ true },
 }
 
 impl<S: Copy + Eq, A: Allocator> HuffmanTree<S, A> {
@@ -85,7 +85,7 @@ impl<S: Copy + Eq, A: Allocator> HuffmanTree<S, A> {
 
 impl<S: Copy> Node<S> {
     ghost use Rattle.std.specs.Prelude.{◌≡◌};
-    ghost use Rattle.bitstream_value.specs.Table.{FitsMoved, moved as moved_node};
+    ghost use Rattle.bitstream_value.specs.Nodes.{FitsMoved, moved as moved_node};
 
     /// Returns the node with its places so many further on.
     fn moved(self, by: usize) -> Node<S>

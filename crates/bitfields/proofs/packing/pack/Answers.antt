@@ -6,7 +6,7 @@ use Rattle.bitstream_io.proofs.ReadsLemmas.{first_name}
 use Rattle.bitfields.specs.Fault.{fault as fault_of}
 use Rattle.bitfields.specs.Packing.{PackedBytes}
 use Rattle.bitfields.proofs.MemoryLemmas.{value_expected, fault_expected}
-use Rattle.bitfields.proofs.PackingLemmas.{PackedBytes-from, Packs-refused, filled, RefusedBytes-from}
+use Rattle.bitfields.proofs.PackingLemmas.{PackedBytes-from, Packs-refused, filled, PackingRefused-from}
 use Rattle.bitfields.proofs.UnpackedBytes.{MayRefuse-seen}
 use Rattle.bitfields.proofs.packing.pack.Goals as goal
 
@@ -32,7 +32,7 @@ returns g c =
     let place = first_name {m = w.port.stream.at.ghost_name} {n = c.new.result.at.ghost_name} (fault.reference_names ∙ ap (λ (s : WriterState). s.port.reference_names) fresh) in
     let tied = c.output-1.given.1 (sym c.new.ensures.name ∙ sym place) in
     let seen = MayRefuse-seen (λ l. l.at.now) g.W.Target.contents g.W.Target.refuses in
-    let refused = RefusedBytes-from _ (MayRefuse g.W.Target.contents g.W.Target.refuses) c.args.layout.now c.deref.result.now _ _ _ c.in-Err.error _ seen none (filled o _ _ _ fresh) fault (c.new-in-Err.ensures ∙ ap (fault_of 0) c.write_reason.ensures) in
+    let refused = PackingRefused-from _ (MayRefuse g.W.Target.contents g.W.Target.refuses) c.args.layout.now c.deref.result.now _ _ _ c.in-Err.error _ seen none (filled o _ _ _ fresh) fault (c.new-in-Err.ensures ∙ ap (fault_of 0) c.write_reason.ensures) in
     rw ((value_expected c.in_ok-values.ensures.values), tied, ← c.new.ensures.value, ← c.deref.ensures.value) (inr refused)
 
 pub returns-in_err-values : goal.returns-in_err-values

@@ -18,10 +18,8 @@ digit : (g : Over) (c : After-ONE-2 g) → (g.U.UnsignedInteger.value c.shl-more
 digit g c =
     let u = g.U.UnsignedInteger in
     let law = g.met.U.UnsignedInteger in
-    let field = c.BITS-payload.ensures in
-    let within = c.requires.within in
     let one = ap u.value c.ONE.ensures ∙ law.ONE_value_law in
-    (half_is _ (c.BITS-payload.result - 1) g.U.Numeric.BITS_SIZE _ one (omega (arith, field, within)) (law.shl_law _ _ _ c.shl-more.ensures), ap u.value c.ONE-2.ensures ∙ law.ONE_value_law)
+    (half_is _ (c.BITS-payload.result - 1) g.U.Numeric.BITS_SIZE _ one (omega (arith, c.BITS-payload.ensures, c.requires.within)) (law.shl_law _ _ _ c.shl-more.ensures), ap u.value c.ONE-2.ensures ∙ law.ONE_value_law)
 
 pub sub-requires : goal.sub-requires
 sub-requires g c =
@@ -33,11 +31,10 @@ returns g c =
     let u = g.U.UnsignedInteger in
     let law = g.met.U.UnsignedInteger in
     let m = c.BITS-payload.result - 1 in
-    let field = c.BITS-payload.ensures in
     let made = digit g (goal.at.returns g c).After-ONE-2 in
     let mask : u.value c.sub.result ≡ 2 ^ m - 1 = law.sub_value_law _ _ _ c.sub.ensures ∙ omega (arith, made.0, made.1) in
     let group = group_is m _ _ _ _ _ made.0 mask (law.and_law _ _ _ c.bitand-digits.ensures) (law.or_law _ _ _ c.bitor.ensures) in
     let rest : u.value c.shr-rest.result ≡ u.value c.args.value / 2 ^ m = law.shr_law _ _ _ c.shr-rest.ensures in
     let zero = ap u.value c.ZERO.ensures ∙ law.ZERO_value_law in
     let large = large_of m _ (λ e. apart (sym ((law.eq_value_law _ _).1 (rest ∙ e ∙ sym zero)) ∙ sym c.eq.ensures ∙ c.if-eq.false)) in
-    record { first = group_first g.F.Width.BITS m c.requires.some (ap (λ k. k - 1) field) _ _ _ large group rest; last = λ none. cc }
+    record { first = group_first g.F.Width.BITS m c.requires.some (ap (λ k. k - 1) c.BITS-payload.ensures) _ _ _ large group rest; last = λ none. cc }

@@ -1,7 +1,7 @@
 //! Two tables as one.
 ghost use Rattle.std.specs.Prelude.{IfOk};
-ghost use Rattle.bitstream_value.specs.HuffmanTree.{table};
-ghost use Rattle.bitstream_value.specs.Table.{Joined};
+ghost use Rattle.bitstream_value.specs.HuffmanTree.{nodes_of};
+ghost use Rattle.bitstream_value.specs.Nodes.{Joined};
 
 use crate::huffman::tree::{HuffmanTree, Node};
 use std::alloc::{AllocError, Allocator};
@@ -15,7 +15,7 @@ pub(super) fn joined<S: Copy, A: Allocator>(
     first: HuffmanTree<S, A>,
     second: HuffmanTree<S, A>,
 ) -> Result<(Vec<Node<S>, A>, usize, usize), AllocError>
-    ensures { IfOk result (λ r. Joined (table first) (table second) r.0.items r.1 r.2) }
+    ensures { IfOk result (λ r. Joined (nodes_of first) (nodes_of second) r.0.items r.1 r.2) }
 {
     let mut nodes = first.nodes;
     let len = nodes.len();

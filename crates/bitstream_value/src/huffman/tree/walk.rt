@@ -1,7 +1,7 @@
 //! The ways down a table: reading to a leaf, and writing to a symbol's first leaf.
 ghost use Rattle.std.specs.Prelude.{◌≡◌, ◌+◌, ◌<◌, ◌≤◌, ◌↔◌, length, nat_le, if◌then◌else◌, IsTrue};
-ghost use Rattle.bitstream_value.specs.HuffmanTree.{table, tree_of};
-ghost use Rattle.bitstream_value.specs.Table.{FindsFirst, HasSymbol};
+ghost use Rattle.bitstream_value.specs.HuffmanTree.{nodes_of, tree_of};
+ghost use Rattle.bitstream_value.specs.Nodes.{FindsFirst, HasSymbol};
 ghost use Rattle.bitstream_value.specs.Tree.{path_entry, symbol_word};
 
 use crate::huffman::tree::{HuffmanTree, Node};
@@ -55,8 +55,8 @@ impl<S: Copy + Eq, A: Allocator> ToBits for HuffmanTree<S, A> {
 impl<S: Copy + Eq, A: Allocator> HuffmanTree<S, A> {
     /// Returns the first place from `low` up to `end` whose leaf has the symbol.
     fn find(&self, low: usize, end: usize, symbol: S) -> Option<usize>
-        requires { end ≤ length (table self.now) }
-        ensures { FindsFirst S.eq symbol (table self.now) low end result }
+        requires { end ≤ length (nodes_of self.now) }
+        ensures { FindsFirst S.eq symbol (nodes_of self.now) low end result }
     {
         for place in low..end {
             if self.has(place, symbol) {
@@ -68,8 +68,8 @@ impl<S: Copy + Eq, A: Allocator> HuffmanTree<S, A> {
 
     /// Returns whether a leaf with the symbol stands at a place.
     fn has(&self, place: usize, symbol: S) -> bool
-        requires { place < length (table self.now) }
-        ensures { IsTrue result ↔ HasSymbol S.eq symbol (table self.now) place }
+        requires { place < length (nodes_of self.now) }
+        ensures { IsTrue result ↔ HasSymbol S.eq symbol (nodes_of self.now) place }
     {
         match self.nodes[place] {
             Node::Leaf(other) => other == symbol,
@@ -83,10 +83,10 @@ impl<S: Copy + Eq, A: Allocator> HuffmanTree<S, A> {
     /// A side of 0 that stands behind the other one is gone through: it is the shorter of the two,
     /// so that all that a write goes through grows as the table does.
     fn leaf_on_zero_side(&self, zero: usize, one: usize, leaf: usize, symbol: S) -> Option<usize>
-        requires { zero < length (table self.now) }
+        requires { zero < length (nodes_of self.now) }
         ensures inside { zero < one → result ≡ (if nat_le leaf zero then Some leaf else None) }
         ensures looked { one ≤ zero
-            → FindsFirst S.eq symbol (table self.now) (one + 1) (zero + 1) result }
+            → FindsFirst S.eq symbol (nodes_of self.now) (one + 1) (zero + 1) result }
     {
         if zero < one {
             (leaf <= zero).then_some(leaf)

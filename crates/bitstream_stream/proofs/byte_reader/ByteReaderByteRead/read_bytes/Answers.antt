@@ -6,18 +6,14 @@ use Rattle.bitstream_stream.proofs.ByteReadsLemmas.{bytes_none, bytes_fetched}
 use Rattle.bitstream_stream.proofs.byte_reader.ByteReaderByteRead.read_bytes.Goals as goal
 
 pub returns-then-is_empty : goal.returns-then-is_empty
-returns-then-is_empty g c = record {
-  reads =
-      let none : c.args.buf.now ≡ [] = nil_from_length c.args.buf.now (search rules) in
-      rw none (bytes_none c.args.self.now);
-}
+returns-then-is_empty g c =
+    let none : c.args.buf.now ≡ [] = nil_from_length c.args.buf.now (search rules) in
+    record { reads = rw none (bytes_none c.args.self.now) }
 
 pub returns : goal.returns
-returns g c = record {
-  reads =
-      let len : length c.fetch.new.buf ≡ length c.args.buf.now = search rules in
-      let some : 0 < length c.args.buf.now = search rules in
-      let before = port_state g.R.Source.remaining g.R.Source.reference_names c.args.self.now.port in
-      let after = port_state g.R.Source.remaining g.R.Source.reference_names c.fetch.new.self in
-      bytes_fetched {K = byte_reader_source g.R.Source.remaining g.R.Source.refuses g.R.Source.reference_names g.E.Endianness.order} (length c.args.buf.now) c.fetch.new.buf c.fetch.result before after _ _ refl refl len some c.fetch.ensures.fetches;
-}
+returns g c =
+    let len : length c.fetch.new.buf ≡ length c.args.buf.now = search rules in
+    let some : 0 < length c.args.buf.now = search rules in
+    let before = port_state g.R.Source.remaining g.R.Source.reference_names c.args.self.now.port in
+    let after = port_state g.R.Source.remaining g.R.Source.reference_names c.fetch.new.self in
+    record { reads = bytes_fetched {K = byte_reader_source g.R.Source.remaining g.R.Source.refuses g.R.Source.reference_names g.E.Endianness.order} (length c.args.buf.now) c.fetch.new.buf c.fetch.result before after _ _ refl refl len some c.fetch.ensures.fetches }

@@ -1,6 +1,5 @@
-use Rattle.std.proofs.Common.{refl}
 use Rattle.bitstream_stream.proofs.ByteWritesLemmas.{writes_lent}
 use Rattle.bitstream_stream.proofs.byte_write.RefMutByteWrite.write_as.Goals as goal
 
 pub returns : goal.returns
-returns g c = record { writes = writes_lent g.W.ByteWrite.sink _ _ refl _ _ c.write_as.ensures.writes }
+returns g c = record { writes = writes_lent g.W.ByteWrite.sink _ _ (cc) _ _ c.write_as.ensures.writes }

@@ -1,12 +1,11 @@
-use Rattle.std.proofs.Common.{rules, arith, ◌≡◌, ◌+◌, ◌-◌, ◌≤◌, length, sym, ap, ◌∙◌, length-append}
+use Rattle.std.proofs.Common.{rules, arith, ◌≡◌, ◌+◌, ◌-◌, length, sym, ap, ◌∙◌, length-append}
 use Rattle.bitstream_stream.proofs.BytesLemmas.{reads-none, stops-none, stops-front, reads-more, stops-more, seen_stops, lacks-more, grown_length, grown_part}
 use Rattle.bitstream_stream.proofs.ReadsLemmas.{Reads-growing}
 use Rattle.bitstream_stream.proofs.read.BitRead.read_to_vec.Goals as goal
 
 pub returns-in_err-read_unsigned_var : goal.returns-in_err-read_unsigned_var
-returns-in_err-read_unsigned_var g c = record {
-  reads = seen_stops _ c.from_residual.result c.from_residual.ensures.1 (Reads-growing (stops-front _ 0 _ _ _ _ (omega arith) (stops-none _ 8 _ _ _ c.in_err-read_unsigned_var.ensures.reads)));
-}
+returns-in_err-read_unsigned_var g c =
+    record { reads = seen_stops _ c.from_residual.result c.from_residual.ensures.1 (Reads-growing (stops-front _ 0 _ _ _ _ (omega arith) (stops-none _ 8 _ _ _ c.in_err-read_unsigned_var.ensures.reads))) }
 
 pub loop-at-init : goal.loop-at-init
 loop-at-init g c = record {
@@ -16,28 +15,21 @@ loop-at-init g c = record {
 }
 
 pub returns-in_default : goal.returns-in_default
-returns-in_default g c = record {
-  reads = lacks-more _ c.loop-at.at c.args.bytes _ _ _ _ c.loop-at-test.true (Reads-growing c.loop-at.invariant.reads) c.fail.ensures;
-}
+returns-in_default g c =
+    record { reads = lacks-more _ c.loop-at.at c.args.bytes _ _ _ _ c.loop-at-test.true (Reads-growing c.loop-at.invariant.reads) c.fail.ensures }
 
 pub returns-in_err-read_bytes : goal.returns-in_err-read_bytes
 returns-in_err-read_bytes g c =
     let at = c.loop-at.at in
-    let items = c.loop-at.buf.items in
     let all = c.as_mut_slice.result.now in
-    let part = c.read_bytes.new.buf in
     let end = at + c.min.result in
     let inv = c.loop-at.invariant in
     let is = c.as_mut_slice.ensures.value ∙ c.in-Ok.ensures in
-    let len = inv.len in
-    let size : length all ≡ end = grown_length items all end is (omega (arith, len)) in
-    let fits : length part ≡ length all - at = search rules in
-    let same = c.read_bytes.auto.buf in
-    let most : c.min.result ≤ c.args.bytes - at = search rules in
-    let within = inv.within in
+    let size : length all ≡ end = grown_length c.loop-at.buf.items all end is (omega (arith, inv.len)) in
+    let fits : length c.read_bytes.new.buf ≡ length all - at = search rules in
     record {
       reads = seen_stops _ c.from_residual-in_err-read_bytes.result c.from_residual-in_err-read_bytes.ensures.1
-          (Reads-growing (stops-more _ at _ c.args.bytes _ _ _ _ _ (omega (arith, size, fits, same, most, within)) inv.reads c.in_err-read_bytes.ensures.reads));
+          (Reads-growing (stops-more _ at _ c.args.bytes _ _ _ _ _ (omega (arith, size, fits, c.read_bytes.auto.buf, c.min.ensures, inv.within)) inv.reads c.in_err-read_bytes.ensures.reads));
     }
 
 pub loop-at-preserved : goal.loop-at-preserved
@@ -49,15 +41,11 @@ loop-at-preserved g c =
     let end = at + c.min.result in
     let inv = c.loop-at.invariant in
     let is = c.as_mut_slice.ensures.value ∙ c.in-Ok.ensures in
-    let len = inv.len in
-    let size : length all ≡ end = grown_length items all end is (omega (arith, len)) in
+    let size : length all ≡ end = grown_length items all end is (omega (arith, inv.len)) in
     let fits : length part ≡ length all - at = search rules in
-    let made = grown_part c.grow.new.buf.len at items _ all c.grow.new.buf.items part (sym c.as_mut_slice.ensures.len) is len fits in
-    let same = c.read_bytes.auto.buf in
-    let most : c.min.result ≤ c.args.bytes - at = search rules in
-    let within = inv.within in
+    let made = grown_part c.grow.new.buf.len at items _ all c.grow.new.buf.items part (sym c.as_mut_slice.ensures.len) is inv.len fits in
     record {
-      len = ap length made ∙ length-append items part ∙ omega (arith, size, fits, len);
-      within = omega (arith, most, within);
-      reads = reads-more _ at _ end items part _ _ _ _ (omega (arith, size, fits, same)) made inv.reads c.in_ok-read_bytes.ensures.reads;
+      len = ap length made ∙ length-append items part ∙ omega (arith, size, fits, inv.len);
+      within = omega (arith, c.min.ensures, inv.within);
+      reads = reads-more _ at _ end items part _ _ _ _ (omega (arith, size, fits, c.read_bytes.auto.buf)) made inv.reads c.in_ok-read_bytes.ensures.reads;
     }

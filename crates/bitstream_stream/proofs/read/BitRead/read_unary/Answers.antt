@@ -41,9 +41,7 @@ returns-then-count g c =
 pub loop-self-preserved : goal.loop-self-preserved
 loop-self-preserved g c =
     let stop = c.BITS-stop.result == 1 in
-    let few = c.loop-self.invariant.few in
-    let less = c.if-count.false in
     record {
-      few = omega arith;
+      few = omega (arith, c.loop-self.invariant.few, c.if-count.false);
       begun = unary-more stop c.loop-self.count (c.loop-self.count + 1) _ _ _ _ refl c.if-branch-stop.false c.loop-self.invariant.begun c.in_ok-read_bit.ensures.reads;
     }

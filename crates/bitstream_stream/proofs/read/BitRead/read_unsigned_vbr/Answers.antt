@@ -18,9 +18,7 @@ sub-mask-requires g c =
     let unit : u.value c.ONE-2.result ≡ 1 = search rules in
     let m = c.BITS-payload.result - 1 in
     let size = g.U.Numeric.BITS_SIZE in
-    let field = c.BITS-payload.ensures in
-    let within = c.requires.within in
-    let less : m < size = omega (arith, field, within) in
+    let less : m < size = omega (arith, c.BITS-payload.ensures, c.requires.within) in
     law.can_sub_value_law _ _ (omega (arith, unit, half_is _ m size _ one less (law.shl_law _ _ _ c.shl.ensures), pow_pos m))
 
 pub loop-shift-init : goal.loop-shift-init
@@ -32,9 +30,7 @@ loop-shift-init g c =
     let none : u.value c.ZERO-value.result ≡ 0 = search rules in
     let m = c.BITS-payload.result - 1 in
     let size = g.U.Numeric.BITS_SIZE in
-    let field = c.BITS-payload.ensures in
-    let within = c.requires.within in
-    let less : m < size = omega (arith, field, within) in
+    let less : m < size = omega (arith, c.BITS-payload.ensures, c.requires.within) in
     record {
       mask = mask_below m size _ _ _ _ less one unit (law.shl_law _ _ _ c.shl.ensures) (law.sub_value_law _ _ _ c.sub-mask.ensures);
       told = rw none (told-start g.Self.BitRead.source g.F.Width.BITS size (2 ^ size) _);
@@ -47,15 +43,12 @@ returns-in_err-group g c =
     let K = g.Self.BitRead.source in
     let u = g.U.UnsignedInteger in
     let law = g.met.U.UnsignedInteger in
-    let field = g.F.Width.BITS in
     let size = g.U.Numeric.BITS_SIZE in
     let m = c.BITS-payload.result - 1 in
-    let within = c.requires.within in
-    let inv = c.loop-shift.invariant in
     let begins : c.loop-shift.shift < size = let less = c.loop-shift-test.true in let is = c.BITS_SIZE.ensures in omega (arith, less, is) in
     record {
       reads = seen_stops _ c.from_residual.result c.from_residual.ensures.1
-          (told-stop K field size (2 ^ size) c.requires.some (omega (arith, within)) _ _ _ _ _ begins inv.told _ c.in_err-group.ensures.reads);
+          (told-stop K g.F.Width.BITS size (2 ^ size) c.requires.some (omega (arith, c.requires.within)) _ _ _ _ _ begins c.loop-shift.invariant.told _ c.in_err-group.ensures.reads);
     }
 
 pub returns-in_err-read_unsigned : goal.returns-in_err-read_unsigned
@@ -79,9 +72,6 @@ turn : (g : Over) (c : After-eq g)
     (g.U.UnsignedInteger.value c.if-BITS-gt8.group) (g.U.UnsignedInteger.value c.bitand-digits.result) (g.U.UnsignedInteger.value c.shl-placed.result) (g.U.UnsignedInteger.value c.bitor_assign.new.self)
 turn g c =
     let law = g.met.U.UnsignedInteger in
-    let order = g.Self.BitRead.source.order in
-    let field = g.F.Width.BITS in
-    let size = g.U.Numeric.BITS_SIZE in
     let wide = c.requires.some in
     let within = c.requires.within in
     let inv = c.loop-shift.invariant in
@@ -96,9 +86,8 @@ turn g c =
         | then-BITS-gt8+in_ok-group w ↦ rw (w.group-is, w.self-is) w.in_ok-group.ensures.reads
         | else-BITS-gt8+in_ok-read_unsigned w ↦
             let most = w.if-BITS-gt8.false in
-            let is = c.BITS.ensures in
             rw (w.group-is, w.self-is)
-            (short_group-takes order field size _ _ (omega (arith, most, is)) (omega (arith, within)) (λ byte. law.byte_law _ _ w.from_u8-group.ensures byte) w.in_ok-read_unsigned.ensures.reads)
+            (short_group-takes g.Self.BitRead.source.order g.F.Width.BITS g.U.Numeric.BITS_SIZE _ _ (omega (arith, most, c.BITS.ensures)) (omega (arith, within)) (λ byte. law.byte_law _ _ w.from_u8-group.ensures byte) w.in_ok-read_unsigned.ensures.reads)
       ];
       low = masked-is _ _ _ _ inv.mask (law.and_law _ _ _ c.bitand-digits.ensures);
       shifted = law.shl_law _ _ _ c.shl-placed.ensures;
@@ -116,9 +105,7 @@ pub returns-else-eq-2 : goal.returns-else-eq-2
 returns-else-eq-2 g c =
     let law = g.met.U.UnsignedInteger in
     let last = (law.eq_value_law _ _).0 (sym c.eq.ensures ∙ c.if-eq.true) in
-    record {
-      reads = turn-overflows (turn g (goal.at.returns-else-eq-2 g c).After-eq) last (λ back. apart (sym ((law.eq_value_law _ _).1 (law.shr_law _ _ _ c.shr.ensures ∙ back)) ∙ sym c.eq-then-eq.ensures ∙ c.if-eq-2.false));
-    }
+    record { reads = turn-overflows (turn g (goal.at.returns-else-eq-2 g c).After-eq) last (λ back. apart (sym ((law.eq_value_law _ _).1 (law.shr_law _ _ _ c.shr.ensures ∙ back)) ∙ sym c.eq-then-eq.ensures ∙ c.if-eq-2.false)) }
 
 pub loop-shift-preserved : goal.loop-shift-preserved
 loop-shift-preserved g c =
@@ -134,8 +121,4 @@ pub returns : goal.returns
 returns g c =
     let size = g.U.Numeric.BITS_SIZE in
     let past : size ≤ c.loop-shift.shift = let most = c.loop-shift-test.false in let is = c.BITS_SIZE.ensures in omega (arith, most, is) in
-    let some = c.requires.some in
-    let within = c.requires.within in
-    record {
-      reads = told-end g.Self.BitRead.source g.F.Width.BITS size (2 ^ size) _ _ _ _ past (c.loop-shift.invariant.sound (omega (arith, past, some, within))) c.loop-shift.invariant.told;
-    }
+    record { reads = told-end g.Self.BitRead.source g.F.Width.BITS size (2 ^ size) _ _ _ _ past (c.loop-shift.invariant.sound (omega (arith, past, c.requires.some, c.requires.within))) c.loop-shift.invariant.told }

@@ -5,9 +5,7 @@ use Rattle.bitstream_stream.proofs.read.BitRead.skip.Goals as goal
 pub returns-in_err-read_unsigned_var : goal.returns-in_err-read_unsigned_var
 returns-in_err-read_unsigned_var g c =
     let first = c.args.bits % 128 in
-    record {
-      reads = stops c.from_residual.result c.from_residual.ensures.1 (skips-front first c.args.bits _ _ _ (omega arith) (skips-stop _ 128 first _ _ _ (omega arith) c.in_err-read_unsigned_var.ensures.reads));
-    }
+    record { reads = stops c.from_residual.result c.from_residual.ensures.1 (skips-front first c.args.bits _ _ _ (omega arith) (skips-stop _ 128 first _ _ _ (omega arith) c.in_err-read_unsigned_var.ensures.reads)) }
 
 pub loop-done-init : goal.loop-done-init
 loop-done-init g c =

@@ -3,7 +3,7 @@ use Rattle.std.proofs.Common.{◌≡◌, [], ◌∷◌}
 use Rattle.std.proofs.raw_atomic.Walks.{proved}
 use Rattle.std.proofs.option.Option.TheLaws.{the_row_laws as option_laws}
 use Rattle.std.specs.Prelude.{◌%◌, false}
-use Rattle.bitstream_order.specs.Port.{fresh_port}
+use Rattle.bitstream_order.specs.Port.{new_port_state}
 use Rattle.bitstream_order.specs.contracts.lent.Lent.{the_row as LentOf}
 use Rattle.bitstream_order.specs.contracts.source.LentSource.TheImpl as sources
 use Rattle.bitstream_order.proofs.lent.Lent.TheLaws.{the_row_laws as lent_laws}
@@ -42,7 +42,7 @@ bytereader_spec 𝓤 𝓛 𝓜 𝓡 wired X Y LX LY gs ds ge de gd dd ms me md =
     proved 𝓛 (f.ended X Y gs ds ge de gd dd) (stayed X Y R Self Made) (f.clauses X Y gs ds ge de gd dd 𝓛 𝓜.mem 𝓡.returns) 𝓜 𝓡 (Goes-spent_ref 𝓛 3 (0 ∷ []) tt (plain (λ _. Self)), tt)
     (#self inst) (inst_fn inst code.function) (code.unfolded 𝓤 𝓛.H 𝓜 𝓡 wired (X, (Y, tt)) ds de dd) (λ κs. (mut_vals, tt)) (λ κs. (mut_Tells (named 0) κs.0 Self, tt)) (λ κs qs bounds a gh are.
     walk X Y R Self Made (λ reader. ((before reader).failed ≡ false) × ((before reader).taken % 8 ≡ 0)) reader_stream reader_with (λ κs. byte_reader_name)
-    (λ κs reader stream. after reader ≡ byte_reader_state (fresh_port (gs.remaining stream) (byte_reader_name reader ∷ gs.reference_names stream))) 𝓛 κs qs bounds a.0 𝓜 𝓡
+    (λ κs reader stream. after reader ≡ byte_reader_state (new_port_state (gs.remaining stream) (byte_reader_name reader ∷ gs.reference_names stream))) 𝓛 κs qs bounds a.0 𝓜 𝓡
     -- [of the code: how many lifetimes, which outlives which, the kinds, how many givens; two lifetimes; five types]
     _ _ _ _ _ _ _ _ _ _ _
     (λ p v is. (((part_laws X Y R Self Made (param_laws 0 X LX) κs).lawful 𝓛).typed p (v ∷ []) is).0) (λ m v is. (((option_laws (Made κs) (made_laws κs)).lawful 𝓛).typed m (v ∷ []) is).0)

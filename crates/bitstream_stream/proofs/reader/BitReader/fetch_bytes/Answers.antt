@@ -2,20 +2,17 @@ use Rattle.std.proofs.Common.{rules, arith, ◌≡◌, ◌+◌, ◌*◌, ◌^◌
 use Rattle.bitstream_number.specs.Word.{word, bits}
 use Rattle.bitstream_number.proofs.Bytes.{AreBytes-from}
 use Rattle.bitstream_order.specs.Parts.{first_part}
-use Rattle.bitstream_order.specs.Port.{port_state}
 use Rattle.bitstream_order.specs.Shift.{Shifts}
 use Rattle.bitstream_order.proofs.PieceLemmas.{first_bits}
 use Rattle.bitstream_order.proofs.TakeLemmas.{takes_none}
-use Rattle.bitstream_stream.specs.Reads.{takes_front, meets_fault}
-use Rattle.bitstream_stream.proofs.BytesLemmas.{reads-number, stops-number, takes_bytes, takes_left}
+use Rattle.bitstream_stream.specs.Reads.{was_done, was_refused}
+use Rattle.bitstream_stream.proofs.BytesLemmas.{reads-number, stops-number, word_of_bytes, takes_left}
 use Rattle.bitstream_stream.proofs.ReaderLemmas.{answered, stopped}
 use Rattle.bitstream_stream.proofs.reader.BitReader.fetch_bytes.Goals as goal
 
 pub returns-in-Ok-clause-reads : goal.returns-in-Ok-clause-reads
 returns-in-Ok-clause-reads g c =
     let o = g.E.Endianness.order in
-    let p = port_state g.R.Source.remaining g.R.Source.reference_names c.args.self.now.port in
-    let new = port_state g.R.Source.remaining g.R.Source.reference_names c.fetch.new.self in
     let n = length c.args.buf.now in
     let made = c.shift-left.new.bytes in
     let queued = c.args.self.now.queued in
@@ -29,14 +26,12 @@ returns-in-Ok-clause-reads g c =
     let len : length made ≡ n = search rules in
     let taken = c.add_bytes.ensures ∙ ap (λ k. c.args.self.now.taken.count + 8 * k) len in
     reads-number o made n _ _ (AreBytes-from made (λ i. (c.type_inv.buf i).fits)) len
-    (takes_front (answered o (8 * n) queued queue (8 * n) _ queued _ _ _ _ _ p new c.requires.fine c.requires.fine (omega arith) taken
-    (takes_left o queued queue _ _ queued left _ p new held (takes_bytes o queued queue left n c.fetch.new.buf made p new len c.in-Ok.ensures.fetches shifted))))
+    (was_done (answered o (8 * n) queued queue (8 * n) _ queued _ _ _ _ _ _ _ c.requires.fine c.requires.fine (omega arith) taken
+    (takes_left o queued queue _ _ queued left _ _ _ held (word_of_bytes o queued queue left n c.fetch.new.buf made _ _ len c.in-Ok.ensures.fetches shifted))))
 
 pub returns-in-Err-clause-reads : goal.returns-in-Err-clause-reads
 returns-in-Err-clause-reads g c =
     let o = g.E.Endianness.order in
-    let p = port_state g.R.Source.remaining g.R.Source.reference_names c.args.self.now.port in
-    let new = port_state g.R.Source.remaining g.R.Source.reference_names c.fetch.new.self in
     let n = length c.args.buf.now in
     let queued = c.args.self.now.queued in
     let few : queued < 8 = c.args.self.now.few in
@@ -44,5 +39,5 @@ returns-in-Err-clause-reads g c =
     let some = c.requires.some in
     let same : length c.fetch.new.buf ≡ n = search rules in
     stops-number o n _ _ _
-    (meets_fault (stopped o _ (8 * n) queued queue (8 * n) queued queue (length c.fetch.new.buf) _ _ _ _ _ _ p p new c.requires.fine (omega arith) (omega (arith, few, some)) (omega (arith, few, some)) (omega (arith, few, same))
-    (takes_none o queued queue queued p (subst (λ q. q < 2 ^ queued) c.first-waiting.ensures.value c.first-waiting.ensures.below) refl) c.in-Err.ensures.fetches))
+    (was_refused (stopped o _ (8 * n) queued queue (8 * n) queued queue (length c.fetch.new.buf) _ _ _ _ _ _ _ _ _ c.requires.fine (omega arith) (omega (arith, few, some)) (omega (arith, few, some)) (omega (arith, few, same))
+    (takes_none o queued queue queued _ (subst (λ q. q < 2 ^ queued) c.first-waiting.ensures.value c.first-waiting.ensures.below) refl) c.in-Err.ensures.fetches))

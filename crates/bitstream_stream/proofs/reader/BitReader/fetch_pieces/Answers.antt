@@ -22,19 +22,12 @@ loop-at-init g c = (
 pub returns-in_err-fetch_bytes-clause-reads : goal.returns-in_err-fetch_bytes-clause-reads
 returns-in_err-fetch_bytes-clause-reads g c =
     let inv = c.loop-at.invariant.1 in
-    let at = c.loop-at.at in
     let len : length c.fetch_bytes.new.buf ≡ c.min.result = search rules in
-    let same = c.fetch_bytes.auto.buf in
-    let all = inv.len in
-    let most = c.min.ensures in
-    let within = inv.within in
     seen_stops _ c.from_residual.result c.from_residual.ensures.1
-    (stops-more g.E.Endianness.order at _ _ _ _ _ _ _ (omega (arith, len, same, all, most, within)) inv.reads c.in_err-fetch_bytes.ensures.reads)
+    (stops-more g.E.Endianness.order c.loop-at.at _ _ _ _ _ _ _ (omega (arith, len, c.fetch_bytes.auto.buf, inv.len, c.min.ensures, inv.within)) inv.reads c.in_err-fetch_bytes.ensures.reads)
 
 pub loop-at-preserved : goal.loop-at-preserved
 loop-at-preserved g c =
-    let o = g.E.Endianness.order in
-    let k = c.loop-at.invariant.0 in
     let inv = c.loop-at.invariant.1 in
     let at = c.loop-at.at in
     let buf = c.loop-at.buf in
@@ -42,11 +35,11 @@ loop-at-preserved g c =
     let end = at + c.min.result in
     let len : length part ≡ c.min.result = search rules in
     let sum = ap (λ n. at + n) (sym c.fetch_bytes.auto.buf ∙ len) in (
-      k + 1,
+      c.loop-at.invariant.0 + 1,
       record {
         len = search rules;
         within = search rules;
-        reads = reads-more o at _ end (take at buf) part _ _ _ _ sum (take-put_mid at _ buf part end (ap (λ n. at + n) (sym len)) inv.within) inv.reads c.in_ok-fetch_bytes.ensures.reads;
+        reads = reads-more g.E.Endianness.order at _ end (take at buf) part _ _ _ _ sum (take-put_mid at _ buf part end (ap (λ n. at + n) (sym len)) inv.within) inv.reads c.in_ok-fetch_bytes.ensures.reads;
         fine = c.in_ok-fetch_bytes.ensures.fine;
         queued = c.in_ok-fetch_bytes.ensures.queued ∙ inv.queued;
         requests = search rules;

@@ -1,6 +1,6 @@
 use Rattle.std.proofs.Common.{rules, arith, ◌<◌, ◌^◌, ◌∙◌, ap}
 use Rattle.bitstream_number.specs.Word.{count_width}
-use Rattle.bitstream_stream.proofs.SignedLemmas.{count-takes_front, count-stops, count_never_above, seen_is}
+use Rattle.bitstream_stream.proofs.SignedLemmas.{count-was_done, count-stops, count_never_above, seen_is}
 use Rattle.bitstream_stream.proofs.reader.BitReaderBitRead.read_count.Goals as goal
 
 pub returns-in_err-number-clause-reads : goal.returns-in_err-number-clause-reads
@@ -19,7 +19,7 @@ unreachable-requires g c =
 
 pub returns-clause-reads : goal.returns-clause-reads
 returns-clause-reads g c =
-    count-takes_front _ g.C.Count.MAX _ _ _ (c.count_bits.ensures.width ∙ ap count_width c.MAX.ensures) c.count_bits.ensures.bound c.in-Some.ensures.1 c.in_ok-number.ensures.reads
+    count-was_done _ g.C.Count.MAX _ _ _ (c.count_bits.ensures.width ∙ ap count_width c.MAX.ensures) c.count_bits.ensures.bound c.in-Some.ensures.1 c.in_ok-number.ensures.reads
 
 pub returns-clause-asks : goal.returns-clause-asks
 returns-clause-asks g c = rw (c.count_bits.ensures.width, c.MAX.ensures) at c.in_ok-number.ensures.asks

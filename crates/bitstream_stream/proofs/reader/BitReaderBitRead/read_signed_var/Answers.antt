@@ -1,5 +1,5 @@
 use Rattle.std.proofs.Common.{arith}
-use Rattle.bitstream_stream.proofs.SignedLemmas.{signed-failed, signed-bare, signed-stops, signed-takes_front, unsigned-below, unsigned-within, seen_is}
+use Rattle.bitstream_stream.proofs.SignedLemmas.{signed-failed, signed-bare, signed-stops, signed-was_done, unsigned-below, unsigned-within, seen_is}
 use Rattle.bitstream_stream.proofs.reader.BitReaderBitRead.read_signed_var.Goals as goal
 
 pub returns-then-self-clause-reads : goal.returns-then-self-clause-reads
@@ -15,9 +15,8 @@ returns-in_err-word-clause-reads g c =
 
 pub signed_of-requires-clause-within : goal.signed_of-requires-clause-within
 signed_of-requires-clause-within g c =
-    let same = g.met.S.SignedInteger.same_size_law in
     let within = unsigned-within _ _ _ _ c.in_ok-word.ensures.reads in
-    omega (arith, same, within)
+    omega (arith, g.met.S.SignedInteger.same_size_law, within)
 
 pub signed_of-requires-clause-below : goal.signed_of-requires-clause-below
 signed_of-requires-clause-below g c = unsigned-below _ _ _ _ c.in_ok-word.ensures.reads
@@ -25,4 +24,4 @@ signed_of-requires-clause-below g c = unsigned-below _ _ _ _ c.in_ok-word.ensure
 pub returns-clause-reads : goal.returns-clause-reads
 returns-clause-reads g c =
     rw (← g.met.S.SignedInteger.same_size_law)
-    (signed-takes_front _ _ _ _ _ (omega arith) c.signed_of.ensures c.in_ok-word.ensures.reads)
+    (signed-was_done _ _ _ _ _ (omega arith) c.signed_of.ensures c.in_ok-word.ensures.reads)

@@ -1,8 +1,7 @@
 use Rattle.std.proofs.Common.{rules, arith, ◌^◌, ◌<◌, ap, refl}
 use Rattle.std.specs.Prelude.{◌==◌}
-use Rattle.bitstream_order.specs.Port.{port_state}
-use Rattle.bitstream_stream.specs.Reads.{takes_front, meets_fault}
-use Rattle.bitstream_stream.proofs.UnaryReads.{unary-failed, unary-as, run_answered, run_too_long, run_stopped, run_fetched, long_fetched}
+use Rattle.bitstream_stream.specs.Reads.{was_done, was_refused}
+use Rattle.bitstream_stream.proofs.UnaryReads.{unary-failed, unary-as, lead_answered, lead_too_long, lead_stopped, lead_fetched, long_fetched}
 use Rattle.bitstream_stream.proofs.reader.BitReaderBitRead.read_unary.Goals as goal
 
 pub returns-then-self-clause-reads : goal.returns-then-self-clause-reads
@@ -10,9 +9,7 @@ returns-then-self-clause-reads g c = unary-failed _ _ c.if-self.true
 
 pub invariant_of-self : goal.invariant_of-self
 invariant_of-self g c =
-    let o = g.E.Endianness.order in
-    let queued = c.args.self.now.queued in
-    let f = run_fetched o queued _ _ c.in-Ok-Some.run'.count c.in-Ok-Some.run'.waiting _ _ _ (rw c.in-Ok-Some.field-0-is at c.in-Ok-Some.ensures.takes) in
+    let f = lead_fetched g.E.Endianness.order c.args.self.now.queued _ _ c.in-Ok-Some.run'.count c.in-Ok-Some.run'.waiting _ _ _ (rw c.in-Ok-Some.field-0-is at c.in-Ok-Some.ensures.takes) in
     let few : c.in-Ok-Some.run'.waiting < 8 = rw c.in-Ok-Some.field-0-is at c.in-Ok-Some.ensures.few in
     let back = c.args.self.now.back c.if-self.false in
     let taken = c.add.ensures in
@@ -26,8 +23,7 @@ invariant_of-self g c =
 pub invariant_of-self-in-Ok-None : goal.invariant_of-self-in-Ok-None
 invariant_of-self-in-Ok-None g c =
     let o = g.E.Endianness.order in
-    let queued = c.args.self.now.queued in
-    let f = long_fetched o queued _ _ _ _ (rw c.in-Ok-None.field-0-is at c.in-Ok-None.ensures.takes) in
+    let f = long_fetched o c.args.self.now.queued _ _ _ _ (rw c.in-Ok-None.field-0-is at c.in-Ok-None.ensures.takes) in
     let back = c.args.self.now.back c.if-self.false in
     let taken = c.add-in-Ok-None.ensures in
     record {
@@ -40,24 +36,18 @@ invariant_of-self-in-Ok-None g c =
 pub returns-in-Ok-Some-clause-reads : goal.returns-in-Ok-Some-clause-reads
 returns-in-Ok-Some-clause-reads g c =
     let stop = c.BITS-stop.result == 1 in
-    let p = port_state g.R.Source.remaining g.R.Source.reference_names c.args.self.now.port in
-    let q = port_state g.R.Source.remaining g.R.Source.reference_names c.take_run.new.port in
     let few : c.in-Ok-Some.run'.count < 2 ^ 32 = search rules in
     unary-as stop _ (ap (λ n. n == 1) c.BITS-stop.ensures)
-    (takes_front (run_answered g.E.Endianness.order stop p q _ _ _ _ _ c.in-Ok-Some.run'.count _ _ _ c.if-self.false refl few c.add.ensures (rw c.in-Ok-Some.field-0-is at c.in-Ok-Some.ensures.takes)))
+    (was_done (lead_answered g.E.Endianness.order stop _ _ _ _ _ _ _ c.in-Ok-Some.run'.count _ _ _ c.if-self.false refl few c.add.ensures (rw c.in-Ok-Some.field-0-is at c.in-Ok-Some.ensures.takes)))
 
 pub returns-in-Ok-None-clause-reads : goal.returns-in-Ok-None-clause-reads
 returns-in-Ok-None-clause-reads g c =
     let stop = c.BITS-stop.result == 1 in
-    let p = port_state g.R.Source.remaining g.R.Source.reference_names c.args.self.now.port in
-    let q = port_state g.R.Source.remaining g.R.Source.reference_names c.take_run.new.port in
     unary-as stop _ (ap (λ n. n == 1) c.BITS-stop.ensures)
-    (takes_front (run_too_long g.E.Endianness.order stop p q _ _ _ _ _ _ c.if-self.false c.add-in-Ok-None.ensures (rw c.in-Ok-None.field-0-is at c.in-Ok-None.ensures.takes)))
+    (was_done (lead_too_long g.E.Endianness.order stop _ _ _ _ _ _ _ _ c.if-self.false c.add-in-Ok-None.ensures (rw c.in-Ok-None.field-0-is at c.in-Ok-None.ensures.takes)))
 
 pub returns-in-Err-clause-reads : goal.returns-in-Err-clause-reads
 returns-in-Err-clause-reads g c =
     let stop = c.BITS-stop.result == 1 in
-    let p = port_state g.R.Source.remaining g.R.Source.reference_names c.args.self.now.port in
-    let q = port_state g.R.Source.remaining g.R.Source.reference_names c.take_run.new.port in
     unary-as stop _ (ap (λ n. n == 1) c.BITS-stop.ensures)
-    (meets_fault (run_stopped g.E.Endianness.order stop p q _ _ _ _ _ _ _ _ c.if-self.false c.in-Err.ensures.takes))
+    (was_refused (lead_stopped g.E.Endianness.order stop _ _ _ _ _ _ _ _ _ _ c.if-self.false c.in-Err.ensures.takes))

@@ -3,9 +3,8 @@ use Rattle.bitstream_stream.proofs.BytesLemmas.{skips, skips-stop, skips-more, s
 use Rattle.bitstream_stream.proofs.reader.BitReaderBitRead.skip.Goals as goal
 
 pub returns-in_err-read_unsigned_var : goal.returns-in_err-read_unsigned_var
-returns-in_err-read_unsigned_var g c = record {
-  reads = stops c.from_residual.result c.from_residual.ensures.1 (skips-stop _ 128 c.args.bits _ _ _ (search rules) c.in_err-read_unsigned_var.ensures.reads);
-}
+returns-in_err-read_unsigned_var g c =
+    record { reads = stops c.from_residual.result c.from_residual.ensures.1 (skips-stop _ 128 c.args.bits _ _ _ (search rules) c.in_err-read_unsigned_var.ensures.reads) }
 
 pub returns-then-bits-le128 : goal.returns-then-bits-le128
 returns-then-bits-le128 g c = record { reads = skips _ 128 c.args.bits c.args.bits _ _ _ (search rules) refl c.in_ok-read_unsigned_var.ensures.reads }

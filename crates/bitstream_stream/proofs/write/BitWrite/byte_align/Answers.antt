@@ -35,26 +35,15 @@ off A B true h e a b = cc
 off A B false h e a b = let t = h.1 (a, b) in cc
 
 pub returns-then-not-has_room : goal.returns-then-not-has_room
-returns-then-not-has_room g c = record {
-  writes =
-      let K = g.Self.BitWrite.sink in
-      let b = probed K _ _ _ c.in_ok-write_unsigned_var.ensures.writes in
-      let old = K.len c.args.self.now in
-      let same = probed_len K _ _ _ c.in_ok-write_unsigned_var.ensures.writes in
-      let zeros = replicate (to_boundary old) false in
-      let past : IsWithin K.limit (old + 7) → ⊥ = λ h. untold _ _ c.if-not-has_room.true c.has_room.ensures.room.1 (rw same h) in
-      let away : old % 8 ≢ 0 = λ h. off _ _ _ c.byte_aligned.ensures.aligned c.if-not-byte_aligned.true b.done.sound (rw same h) in
-      probe_passed K align _ _ _ zeros b refl (rw (length-replicate (to_boundary old) false) (no_zeros K.limit K.limit_full old (K.within c.args.self.now) past away)) refl;
-}
-
-less : (n : ℕ) → n < 1 + n
-less n = omega arith
-
-sum_less : (k m n : ℕ) → k + (1 + m) ≡ n → k < n
-sum_less k m n h = omega arith
-
-all_done : (k a n : ℕ) → a % 8 ≡ 0 → k + to_boundary a ≡ n → k ≡ n
-all_done k a n h e = omega arith
+returns-then-not-has_room g c =
+    let K = g.Self.BitWrite.sink in
+    let b = probed K _ _ _ c.in_ok-write_unsigned_var.ensures.writes in
+    let old = K.len c.args.self.now in
+    let same = probed_len K _ _ _ c.in_ok-write_unsigned_var.ensures.writes in
+    let zeros = replicate (to_boundary old) false in
+    let past : IsWithin K.limit (old + 7) → ⊥ = λ h. untold _ _ c.if-not-has_room.true c.has_room.ensures.room.1 (rw same h) in
+    let away : old % 8 ≢ 0 = λ h. off _ _ _ c.byte_aligned.ensures.aligned c.if-not-byte_aligned.true b.done.sound (rw same h) in
+    record { writes = probe_passed K align _ _ _ zeros b refl (rw (length-replicate (to_boundary old) false) (no_zeros K.limit K.limit_full old (K.within c.args.self.now) past away)) refl }
 
 pub loop-self-preserved : goal.loop-self-preserved
 loop-self-preserved g c =
@@ -71,27 +60,25 @@ loop-self-smaller g c =
     let b = from_ok K _ _ _ _ _ (false ∷ []) c.in_ok-write_bit.ensures.writes refl refl in
     let far : K.len c.write_bit.new.self ≡ K.len c.loop-self.self + 1 = K.appends_len _ _ _ b.done.grown in
     let step = to_boundary-step (K.len c.loop-self.self) (off _ _ _ c.byte_aligned-in-loop-self.ensures.aligned c.loop-self-test.true b.was_sound) in
-    let smaller : to_boundary (K.len c.write_bit.new.self) < to_boundary (K.len c.loop-self.self) = rw (far, step) (less _) in
+    let smaller : to_boundary (K.len c.write_bit.new.self) < to_boundary (K.len c.loop-self.self) = rw (far, step) (omega arith) in
     smaller
 
 pub returns-in_err-write_bit : goal.returns-in_err-write_bit
-returns-in_err-write_bit g c = record {
-  writes =
-      let K = g.Self.BitWrite.sink in
-      let k = c.loop-self.invariant.0 in
-      let n = to_boundary (K.len c.args.self.now) in
-      let step = to_boundary-step (K.len c.loop-self.self) (off _ _ _ c.byte_aligned-in-loop-self.ensures.aligned c.loop-self-test.true c.loop-self.invariant.1.done.sound) in
-      let within : k < n = sum_less k _ n (ap (λ (m : ℕ). k + m) (sym step) ∙ c.loop-self.invariant.2) in
-      part_stops K _ align (replicate k false) (false ∷ []) (replicate (n - (k + 1)) false) n c.loop-self.invariant.1 c.in_err-write_bit.ensures.writes c.from_residual-in_err-write_bit.ensures.1
-      refl (replicate n false) refl (replicate-split k n false within) (length-replicate n false) c.loop-self.invariant.3;
-}
+returns-in_err-write_bit g c =
+    let K = g.Self.BitWrite.sink in
+    let k = c.loop-self.invariant.0 in
+    let n = to_boundary (K.len c.args.self.now) in
+    let step = to_boundary-step (K.len c.loop-self.self) (off _ _ _ c.byte_aligned-in-loop-self.ensures.aligned c.loop-self-test.true c.loop-self.invariant.1.done.sound) in
+    let within : k < n = omega (arith, step, c.loop-self.invariant.2) in
+    record {
+      writes = part_stops K _ align (replicate k false) (false ∷ []) (replicate (n - (k + 1)) false) n c.loop-self.invariant.1 c.in_err-write_bit.ensures.writes c.from_residual-in_err-write_bit.ensures.1
+          refl (replicate n false) refl (replicate-split k n false within) (length-replicate n false) c.loop-self.invariant.3;
+    }
 
 pub returns : goal.returns
-returns g c = record {
-  writes =
-      let K = g.Self.BitWrite.sink in
-      let k = c.loop-self.invariant.0 in
-      let aligned : K.len c.loop-self.self % 8 ≡ 0 = (c.byte_aligned-in-loop-self.ensures.aligned.0 c.loop-self-test.false).1 in
-      let all : k ≡ to_boundary (K.len c.args.self.now) = all_done k _ _ aligned c.loop-self.invariant.2 in
-      to_ok K align _ _ _ _ (replicate k false) c.loop-self.invariant.1 refl (ap (λ (n : ℕ). Ok (replicate n false)) (sym all));
-}
+returns g c =
+    let K = g.Self.BitWrite.sink in
+    let k = c.loop-self.invariant.0 in
+    let aligned : K.len c.loop-self.self % 8 ≡ 0 = (c.byte_aligned-in-loop-self.ensures.aligned.0 c.loop-self-test.false).1 in
+    let all : k ≡ to_boundary (K.len c.args.self.now) = omega (arith, aligned, c.loop-self.invariant.2) in
+    record { writes = to_ok K align _ _ _ _ (replicate k false) c.loop-self.invariant.1 refl (ap (λ (n : ℕ). Ok (replicate n false)) (sym all)) }

@@ -54,11 +54,9 @@ loop-byte-preserved g c =
     }
 
 pub returns : goal.returns
-returns g c = record {
-  writes =
-      let K = g.Self.BitWrite.sink in
-      let at = c.loop-byte.byte-index in
-      let bytes = c.args.bytes.now in
-      let all = take_all at bytes c.loop-byte-test.false in
-      to_ok K (buffer K.order bytes) _ _ _ _ (bits K.order (take at bytes)) c.loop-byte.invariant.begun refl (ap (λ xs. Ok (bits K.order xs)) (sym all));
-}
+returns g c =
+    let K = g.Self.BitWrite.sink in
+    let at = c.loop-byte.byte-index in
+    let bytes = c.args.bytes.now in
+    let all = take_all at bytes c.loop-byte-test.false in
+    record { writes = to_ok K (buffer K.order bytes) _ _ _ _ (bits K.order (take at bytes)) c.loop-byte.invariant.begun refl (ap (λ xs. Ok (bits K.order xs)) (sym all)) }

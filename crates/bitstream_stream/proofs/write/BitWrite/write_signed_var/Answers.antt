@@ -7,9 +7,8 @@ pub returns-in-Some : goal.returns-in-Some
 returns-in-Some g c = record { writes = rw (c.in-Some.ensures.1, c.unknown.ensures) at c.write_signed_counted.ensures.writes }
 
 pub returns-in_err-write_unsigned_var-in-None : goal.returns-in_err-write_unsigned_var-in-None
-returns-in_err-write_unsigned_var-in-None g c = record {
-  writes = probe_stops g.Self.BitWrite.sink _ _ _ _ c.in_err-write_unsigned_var-in-None.ensures.writes c.from_residual.ensures.1;
-}
+returns-in_err-write_unsigned_var-in-None g c =
+    record { writes = probe_stops g.Self.BitWrite.sink _ _ _ _ c.in_err-write_unsigned_var-in-None.ensures.writes c.from_residual.ensures.1 }
 
 pub returns-in_ok-write_unsigned_var-in-None : goal.returns-in_ok-write_unsigned_var-in-None
 returns-in_ok-write_unsigned_var-in-None g c =

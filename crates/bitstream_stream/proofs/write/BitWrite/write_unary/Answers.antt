@@ -4,16 +4,15 @@ use Rattle.bitstream_count.specs.Unary.{unary}
 use Rattle.bitstream_count.proofs.UnaryLemmas.{length-unary, unary-split}
 use Rattle.bitstream_stream.specs.Sink.{IsWithin, Writes}
 use Rattle.bitstream_stream.specs.WriteTable.{unary_word, bit}
-use Rattle.bitstream_stream.proofs.SinkParts.{probe_stops, probed, room_for, no_room_for, run_more, run_stops, last}
+use Rattle.bitstream_stream.proofs.SinkParts.{probe_stops, probed, room_for, no_room_for, lead_more, lead_stops, last}
 use Rattle.bitstream_stream.proofs.write.BitWrite.write_unary.Goals as goal
 
 pub returns-in_err-write_unsigned_var : goal.returns-in_err-write_unsigned_var
 returns-in_err-write_unsigned_var g c = record { writes = probe_stops g.Self.BitWrite.sink _ _ _ _ c.in_err-write_unsigned_var.ensures.writes c.from_residual.ensures.1 }
 
 pub returns-then-not-has_room : goal.returns-then-not-has_room
-returns-then-not-has_room g c = record {
-  writes = no_room_for g.Self.BitWrite.sink _ _ _ c.in_ok-write_unsigned_var.ensures.writes _ _ _ _ c.if-not-has_room.true c.has_room.ensures.room.1 (length-unary (g.S.Width.BITS == 1) c.args.value) refl;
-}
+returns-then-not-has_room g c =
+    record { writes = no_room_for g.Self.BitWrite.sink _ _ _ c.in_ok-write_unsigned_var.ensures.writes _ _ _ _ c.if-not-has_room.true c.has_room.ensures.room.1 (length-unary (g.S.Width.BITS == 1) c.args.value) refl }
 
 pub returns-in_err-write_unsigned_var-2 : goal.returns-in_err-write_unsigned_var-2
 returns-in_err-write_unsigned_var-2 g c =
@@ -24,7 +23,7 @@ returns-in_err-write_unsigned_var-2 g c =
     let probe = c.in_ok-write_unsigned_var.ensures.writes in
     record {
       writes = subst (λ k. Writes K (unary_word (k == 1) n) c.args.self.now c.from_residual-in_err-write_unsigned_var-2.result c.write_unsigned_var-2.new.self) c.BITS-stop.ensures
-          (run_stops K (not stop) K.order 128 0 first c.others.result (omega arith) c.others.ensures.below c.others.ensures.word (probed K _ _ _ probe) (unary_word stop n) (unary stop n) (unary stop (n - first)) (n + 1)
+          (lead_stops K (not stop) K.order 128 0 first c.others.result (omega arith) c.others.ensures.below c.others.ensures.word (probed K _ _ _ probe) (unary_word stop n) (unary stop n) (unary stop (n - first)) (n + 1)
           c.in_err-write_unsigned_var-2.ensures.writes c.from_residual-in_err-write_unsigned_var-2.ensures.1 refl (unary-split stop first (n - first) n (omega arith)) (length-unary stop n)
           (room_for K _ _ _ probe (n + 1) (n + 1) refl (c.has_room.ensures.room.0 c.if-not-has_room.false)));
     }
@@ -35,7 +34,7 @@ loop-done-init g c =
     let first = c.args.value % 128 in
     let probe = c.in_ok-write_unsigned_var.ensures.writes in
     record {
-      begun = run_more K (not (c.BITS-stop.result == 1)) K.order 128 0 first c.others.result (omega arith) c.others.ensures.below c.others.ensures.word (probed K _ _ _ probe) (first + 0) (omega arith) c.in_ok-write_unsigned_var-2.ensures.writes;
+      begun = lead_more K (not (c.BITS-stop.result == 1)) K.order 128 0 first c.others.result (omega arith) c.others.ensures.below c.others.ensures.word (probed K _ _ _ probe) (first + 0) (omega arith) c.in_ok-write_unsigned_var-2.ensures.writes;
       room = room_for K _ _ _ probe _ _ refl (c.has_room.ensures.room.0 c.if-not-has_room.false);
     }
 
@@ -48,7 +47,7 @@ returns-in_err-write_unsigned_var-3 g c =
     let split = unary-split stop at (n - at) n (omega arith) ∙ ap (λ (l : List Bool). replicate at (not stop) ++ l) (unary-split stop 128 (n - at - 128) (n - at) (omega arith)) in
     record {
       writes = subst (λ k. Writes K (unary_word (k == 1) n) c.args.self.now c.from_residual-in_err-write_unsigned_var-3.result c.write_unsigned_var-in-loop-done.new.self) c.BITS-stop.ensures
-          (run_stops K (not stop) K.order 128 at 128 c.others-in-loop-done.result (omega arith) c.others-in-loop-done.ensures.below c.others-in-loop-done.ensures.word c.loop-done.invariant.begun (unary_word stop n) (unary stop n)
+          (lead_stops K (not stop) K.order 128 at 128 c.others-in-loop-done.result (omega arith) c.others-in-loop-done.ensures.below c.others-in-loop-done.ensures.word c.loop-done.invariant.begun (unary_word stop n) (unary stop n)
           (unary stop (n - at - 128)) (n + 1) c.in_err-write_unsigned_var-3.ensures.writes c.from_residual-in_err-write_unsigned_var-3.ensures.1 refl split (length-unary stop n) c.loop-done.invariant.room);
     }
 
@@ -57,7 +56,7 @@ loop-done-preserved g c =
     let K = g.Self.BitWrite.sink in
     let at = c.args.value % 128 + 128 * c.loop-done._done in
     record {
-      begun = run_more K (not (c.BITS-stop.result == 1)) K.order 128 at 128 c.others-in-loop-done.result (omega arith) c.others-in-loop-done.ensures.below c.others-in-loop-done.ensures.word c.loop-done.invariant.begun _ (omega arith)
+      begun = lead_more K (not (c.BITS-stop.result == 1)) K.order 128 at 128 c.others-in-loop-done.result (omega arith) c.others-in-loop-done.ensures.below c.others-in-loop-done.ensures.word c.loop-done.invariant.begun _ (omega arith)
           c.in_ok-write_unsigned_var-3.ensures.writes;
       room = c.loop-done.invariant.room;
     }

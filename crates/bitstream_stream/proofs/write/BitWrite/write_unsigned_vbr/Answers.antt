@@ -25,30 +25,20 @@ loop-group-init g c =
 pub returns-in_err-write_unsigned : goal.returns-in_err-write_unsigned
 returns-in_err-write_unsigned g c =
     let K = g.Self.BitWrite.sink in
-    let within = c.requires.within in
     let inv = c.loop-group.invariant in
-    record {
-      writes = groups-stop K g.F.Width.BITS g.U.Numeric.BITS_SIZE _ (omega (arith, within)) _ _ _ _ _ inv.groups _ _ _ _ c.in-Some.ensures.first c.in_err-write_unsigned.ensures.writes refl (exit_is _ c.from_residual-in_err-write_unsigned.ensures.1) inv.room;
-    }
-
-pub loop-group-smaller : goal.loop-group-smaller
-loop-group-smaller g c = c.in-Some.ensures.first.less
+    record { writes = groups-stop K g.F.Width.BITS g.U.Numeric.BITS_SIZE _ (omega (arith, c.requires.within)) _ _ _ _ _ inv.groups _ _ _ _ c.in-Some.ensures.first c.in_err-write_unsigned.ensures.writes refl (exit_is _ c.from_residual-in_err-write_unsigned.ensures.1) inv.room }
 
 pub loop-group-preserved : goal.loop-group-preserved
 loop-group-preserved g c =
     let K = g.Self.BitWrite.sink in
-    let within = c.requires.within in
     let inv = c.loop-group.invariant in
     record {
-      groups = groups-more K g.F.Width.BITS g.U.Numeric.BITS_SIZE _ (omega (arith, within)) _ _ _ _ _ inv.groups _ _ _ c.in-Some.ensures.first c.in_ok-write_unsigned.ensures.writes refl;
+      groups = groups-more K g.F.Width.BITS g.U.Numeric.BITS_SIZE _ (omega (arith, c.requires.within)) _ _ _ _ _ inv.groups _ _ _ c.in-Some.ensures.first c.in_ok-write_unsigned.ensures.writes refl;
       room = inv.room;
     }
 
 pub returns : goal.returns
 returns g c =
     let K = g.Self.BitWrite.sink in
-    let within = c.requires.within in
     let inv = c.loop-group.invariant in
-    record {
-      writes = groups-last K g.F.Width.BITS g.U.Numeric.BITS_SIZE _ (omega (arith, within)) _ _ _ _ _ inv.groups (c.in_default.ensures.last refl) c.write_unsigned-2.ensures.writes inv.room;
-    }
+    record { writes = groups-last K g.F.Width.BITS g.U.Numeric.BITS_SIZE _ (omega (arith, c.requires.within)) _ _ _ _ _ inv.groups (c.in_default.ensures.last refl) c.write_unsigned-2.ensures.writes inv.room }

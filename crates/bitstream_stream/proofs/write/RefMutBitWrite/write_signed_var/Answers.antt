@@ -1,6 +1,5 @@
-use Rattle.std.proofs.Common.{refl}
 use Rattle.bitstream_stream.proofs.SinkLemmas.{lent}
 use Rattle.bitstream_stream.proofs.write.RefMutBitWrite.write_signed_var.Goals as goal
 
 pub returns : goal.returns
-returns g c = record { writes = lent g.W.BitWrite.sink _ _ _ _ refl c.write_signed_var.ensures.writes }
+returns g c = record { writes = lent g.W.BitWrite.sink _ _ _ _ (cc) c.write_signed_var.ensures.writes }

@@ -1,11 +1,10 @@
-use Rattle.std.proofs.Common.{Err, refl, ap, ◌∙◌}
-use Rattle.std.proofs.lemmas.Result.{err_from_is_err_and}
+use Rattle.std.proofs.Common.{refl}
+use Rattle.bitstream_stream.proofs.SinkLemmas.{exit_is}
 use Rattle.bitstream_stream.proofs.writer.BitWriter.aligned_writer.Goals as goal
 
 pub returns-in_err-byte_align : goal.returns-in_err-byte_align
 returns-in_err-byte_align g c =
-    let p = err_from_is_err_and c.from_residual.result c.from_residual.ensures.1 in
-    rw (p.1 ∙ ap Err p.2) ((refl, (λ w ok. cc), c.in_err-byte_align.ensures.writes), record { stream = tt; writes_back = tt })
+    rw (exit_is _ c.from_residual.ensures.1) ((refl, (λ w ok. cc), c.in_err-byte_align.ensures.writes), record { stream = tt; writes_back = tt })
 
 pub returns : goal.returns
 returns g c = (

@@ -16,5 +16,5 @@ returns-in-Ok-clause-pushes g c =
 
 pub returns-in-Err-clause-pushes : goal.returns-in-Err-clause-pushes
 returns-in-Err-clause-pushes g c =
-    pushes_lost _ g.E.Endianness.order _ _ _ _ _ _ c.refuse.ensures.answer c.refuse.ensures.lost
+    pushes_lost _ g.E.Endianness.order _ _ _ _ _ _ c.refuse.ensures.answer c.refuse.ensures.fails
     (pushed_fault _ g.E.Endianness.order c.args.self.now.queued c.args.self.now.queue c.args.n (g.U.UnsignedInteger.value c.args.value) _ _ _ _ _ _ _ c.in-Err.ensures.sends c.args.self.now.few (omega arith) refl)

@@ -12,5 +12,5 @@ returns-in-Ok-clause-pushes g c =
 pub returns-in-Err-clause-pushes : goal.returns-in-Err-clause-pushes
 returns-in-Err-clause-pushes g c =
     let o = g.E.Endianness.order in
-    pushes_lost _ o _ _ _ _ _ _ c.refuse.ensures.answer c.refuse.ensures.lost
+    pushes_lost _ o _ _ _ _ _ _ c.refuse.ensures.answer c.refuse.ensures.fails
     (bytes_fault _ o c.args.self.now.queued c.args.self.now.queue c.args.bytes.now _ _ _ _ _ _ _ c.in-Err.ensures c.args.self.now.few c.requires.some refl)

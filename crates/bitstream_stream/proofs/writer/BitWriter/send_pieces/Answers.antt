@@ -19,9 +19,7 @@ loop-at-init g c = (
 
 pub whole_as_front-piece : goal.whole_as_front-piece
 whole_as_front-piece g c =
-    let most = c.min.ensures in
-    let few = c.requires.few in
-    (omega (arith, most), omega (arith, few))
+    (omega (arith, c.min.ensures), omega (arith, c.requires.few))
 
 pub returns-in_err-send_shifted-clause-pushes : goal.returns-in_err-send_shifted-clause-pushes
 returns-in_err-send_shifted-clause-pushes g c =
@@ -30,7 +28,6 @@ returns-in_err-send_shifted-clause-pushes g c =
 
 pub loop-at-preserved : goal.loop-at-preserved
 loop-at-preserved g c =
-    let o = g.E.Endianness.order in
     let at = c.loop-at.at in
     let n = c.min.result in
     let bytes = c.args.bytes.now in
@@ -40,7 +37,7 @@ loop-at-preserved g c =
       k + 1,
       record {
         within = search rules;
-        written = appended_part _ o _ _ _ at n (at + n - at) bytes c.copy_from_slice.new.self step c.copy_from_slice.ensures.after inv.written c.in_ok-send_shifted.ensures.pushes;
+        written = appended_part _ g.E.Endianness.order _ _ _ at n (at + n - at) bytes c.copy_from_slice.new.self step c.copy_from_slice.ensures.after inv.written c.in_ok-send_shifted.ensures.pushes;
         queued = c.in_ok-send_shifted.ensures.queued ∙ inv.queued;
         requests = search rules;
         reaches = reaches-more g.row.N k at (length bytes) (at + n) c.requires.some c.loop-at-test.true (ap (λ m. at + m) c.min.ensures) inv.reaches;
@@ -50,6 +47,5 @@ loop-at-preserved g c =
 pub returns-clause-asks : goal.returns-clause-asks
 returns-clause-asks g c =
     let inv = c.loop-at.invariant.1 in
-    let queued = c.args.self.now.queued in
-    let all = pieces-all g.row.N queued c.loop-at.invariant.0 (length c.args.bytes.now) c.loop-at.at (λ none. let waiting = c.requires.waiting in omega (arith, none, waiting)) c.loop-at-test.false inv.within inv.reaches in
+    let all = pieces-all g.row.N c.args.self.now.queued c.loop-at.invariant.0 (length c.args.bytes.now) c.loop-at.at (λ none. let waiting = c.requires.waiting in omega (arith, none, waiting)) c.loop-at-test.false inv.within inv.reaches in
     inv.requests ∙ ap (λ n. requests_made c.args.self.now + n) (sym all)

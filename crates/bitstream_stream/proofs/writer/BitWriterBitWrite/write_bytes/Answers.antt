@@ -13,6 +13,3 @@ returns-clause-writes g c =
     let o = g.E.Endianness.order in
     inner (writer_state g.W.Target.contents g.W.Target.reference_names) (queue_sink (MayRefuse g.W.Target.contents g.W.Target.refuses) o) _ _ _ _
     (pushes_writes _ o _ _ _ _ _ c.if-self.false refl c.push_bytes.ensures.pushes)
-
-pub returns-clause-asks : goal.returns-clause-asks
-returns-clause-asks g c = c.push_bytes.ensures.asks

@@ -1,8 +1,7 @@
 use Rattle.bitstream_order.specs.Refusal.{MayRefuse}
-use Rattle.std.proofs.Common.{refl, Err, ap, ◌∙◌}
-use Rattle.std.proofs.lemmas.Result.{err_from_is_err_and}
+use Rattle.std.proofs.Common.{refl}
 use Rattle.bitstream_stream.specs.Writer.{writer_state, queue_sink, writer_sink}
-use Rattle.bitstream_stream.proofs.SinkLemmas.{inner, fails, refuses}
+use Rattle.bitstream_stream.proofs.SinkLemmas.{inner, fails, refuses, exit_is}
 use Rattle.bitstream_stream.proofs.WriterLemmas.{pushes_writes}
 use Rattle.bitstream_stream.proofs.writer.BitWriterBitWrite.write_signed_var.Goals as goal
 
@@ -12,8 +11,7 @@ returns-then-self-clause-writes g c =
 
 pub returns-in_err-check_signed-clause-writes : goal.returns-in_err-check_signed-clause-writes
 returns-in_err-check_signed-clause-writes g c =
-    let p = err_from_is_err_and c.from_residual.result c.from_residual.ensures.1 in
-    refuses (writer_sink g.W.Target.contents g.W.Target.refuses g.W.Target.reference_names g.E.Endianness.order) _ _ _ _ c.if-self.false (c.in_err-check_signed.ensures.refusal _ _) (p.1 ∙ ap Err p.2)
+    refuses (writer_sink g.W.Target.contents g.W.Target.refuses g.W.Target.reference_names g.E.Endianness.order) _ _ _ _ c.if-self.false (c.in_err-check_signed.ensures.refusal _ _) (exit_is _ c.from_residual.ensures.1)
 
 pub returns-clause-writes : goal.returns-clause-writes
 returns-clause-writes g c =

@@ -1,6 +1,6 @@
 use Rattle.std.proofs.Common.{arith}
 use Rattle.bitstream_stream.proofs.SignedLemmas.{unsigned-below}
-use Rattle.bitstream_value.proofs.NonZeroLemmas.{non_zero-stops, non_zero-takes_front, non_zero-refused, next_fits}
+use Rattle.bitstream_value.proofs.NonZeroLemmas.{non_zero-stops, non_zero-was_done, non_zero-refused, next_fits}
 use Rattle.bitstream_value.proofs.integer.non_zero.read_non_zero.Goals as goal
 
 pub returns-in_err-base : goal.returns-in_err-base
@@ -11,7 +11,7 @@ next-requires g c = next_fits (g.C.Count.number c.args.bits) _ _ (omega arith) (
 
 pub returns-in_ok-base : goal.returns-in_ok-base
 returns-in_ok-base g c = record {
-  reads = non_zero-takes_front g.N.NonZeroInteger.after _ _ _ _ _ (omega arith) (g.met.N.NonZeroInteger.after_law _ _ c.next.ensures) c.in_ok-base.ensures.reads;
+  reads = non_zero-was_done g.N.NonZeroInteger.after _ _ _ _ _ (omega arith) (g.met.N.NonZeroInteger.after_law _ _ c.next.ensures) c.in_ok-base.ensures.reads;
 }
 
 pub returns-else-bits-BITS_SIZE : goal.returns-else-bits-BITS_SIZE

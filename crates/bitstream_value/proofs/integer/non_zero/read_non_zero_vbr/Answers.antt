@@ -1,5 +1,5 @@
 use Rattle.std.proofs.Common.{arith, ◌≢◌, true, false, sym, ap, ◌∙◌}
-use Rattle.bitstream_value.proofs.NonZeroLemmas.{non_zero_vbr-stops, non_zero_vbr-takes_front, non_zero_vbr-overflows}
+use Rattle.bitstream_value.proofs.NonZeroLemmas.{non_zero_vbr-stops, non_zero_vbr-was_done, non_zero_vbr-overflows}
 use Rattle.bitstream_value.proofs.integer.non_zero.read_non_zero_vbr.Goals as goal
 
 pub returns-in_err-base : goal.returns-in_err-base
@@ -30,4 +30,4 @@ returns g c =
     let all = ap u.value c.ALL.ensures ∙ law.ALL_law in
     let other : u.value c.in_ok-base.base ≢ u.value c.ALL.result = λ e. apart (sym ((law.eq_value_law _ _).1 e) ∙ sym c.eq.ensures ∙ c.if-eq.false) in
     let below = law.known_law _ c.known.ensures in
-    record { reads = non_zero_vbr-takes_front g.N.NonZeroInteger.after _ _ _ _ _ (omega (arith, all, other, below)) (g.met.N.NonZeroInteger.after_law _ _ c.next.ensures) c.in_ok-base.ensures.reads }
+    record { reads = non_zero_vbr-was_done g.N.NonZeroInteger.after _ _ _ _ _ (omega (arith, all, other, below)) (g.met.N.NonZeroInteger.after_law _ _ c.next.ensures) c.in_ok-base.ensures.reads }

@@ -1,5 +1,5 @@
 use Rattle.std.proofs.Common.{◌≡◌, ◌++◌, length, map, take}
-use Rattle.bitstream_value.specs.Table.{moved}
+use Rattle.bitstream_value.specs.Nodes.{moved}
 use Rattle.bitstream_value.proofs.huffman.tree.join.joined.Given as goal
 
 -- the nodes of the first table, and those of the second so far

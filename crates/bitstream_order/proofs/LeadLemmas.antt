@@ -8,16 +8,16 @@ use Rattle.std.proofs.KnownBytes.{Consumes-nil, Consumes-trans}
 use Rattle.std.proofs.lemmas.Bool.{cases_lt}
 use Rattle.std.proofs.lemmas.Bool.Decides.{eqb_tells}
 use Rattle.std.proofs.lemmas.List.{length-drop, length-take-le}
-use Rattle.bitstream_count.specs.Unary.{unary, run}
-use Rattle.bitstream_count.proofs.UnaryLemmas.{run_le, others-split, unary-split, take_others, take_unary}
+use Rattle.bitstream_count.specs.Unary.{unary, lead}
+use Rattle.bitstream_count.proofs.UnaryLemmas.{lead_le, others-split, unary-split, take_others, front_is_unary}
 use Rattle.bitstream_count.specs.declared.error.Error.{Error}
 use Rattle.bitstream_number.specs.Word.{Order, High, Low, digits, word, bits}
 use Rattle.bitstream_number.proofs.WordLemmas.{length-word, bits-append}
 use Rattle.bitstream_order.specs.Parts.{first_part, piece}
 use Rattle.bitstream_order.specs.Port.{PortState, Fetched}
 use Rattle.bitstream_order.specs.Refusal.{Refusal}
-use Rattle.bitstream_order.specs.declared.unary.Run.{Run}
-use Rattle.bitstream_order.specs.TakeRun.{TakesBetween, TakesLongRun, RefusesRun, TakesRun}
+use Rattle.bitstream_order.specs.declared.unary.TakenUnary.{TakenUnary}
+use Rattle.bitstream_order.specs.TakeUnary.{TakesBetween, TakesLongUnary, RefusesUnary, TakesUnary}
 use Rattle.bitstream_order.proofs.PieceLemmas.{piece_more, first_bits, take_less}
 
 -- ---- what a count of a byte's digits is, byte by byte
@@ -45,33 +45,33 @@ agree f g h b less = elim (eqb_tells (f b) (g b)) [
   | inr other ↦ let yes : (f b == g b) ≡ true = each_holds (λ i. f i == g i) 256 h b less in let no = other.0 in cc
 ]
 
-leading_zeros_table : each (λ b. leading_zeros w8 b == run true (word High 8 b)) 256 ≡ true
+leading_zeros_table : each (λ b. leading_zeros w8 b == lead true (word High 8 b)) 256 ≡ true
 unfolding each digits count_leading_zeros
 leading_zeros_table = refl
 
-leading_ones_table : each (λ b. leading_ones w8 b == run false (word High 8 b)) 256 ≡ true
+leading_ones_table : each (λ b. leading_ones w8 b == lead false (word High 8 b)) 256 ≡ true
 unfolding each digits count_leading_zeros
 leading_ones_table = refl
 
-trailing_zeros_table : each (λ b. trailing_zeros w8 b == run true (word Low 8 b)) 256 ≡ true
+trailing_zeros_table : each (λ b. trailing_zeros w8 b == lead true (word Low 8 b)) 256 ≡ true
 unfolding each digits count_trailing_zeros
 trailing_zeros_table = refl
 
-trailing_ones_table : each (λ b. trailing_ones w8 b == run false (word Low 8 b)) 256 ≡ true
+trailing_ones_table : each (λ b. trailing_ones w8 b == lead false (word Low 8 b)) 256 ≡ true
 unfolding each digits count_trailing_zeros
 trailing_ones_table = refl
 
-pub leading_zeros_is : (b : ℕ) → b < 256 → leading_zeros w8 b ≡ run true (word High 8 b)
-leading_zeros_is = agree (leading_zeros w8) (λ b. run true (word High 8 b)) leading_zeros_table
+pub leading_zeros_is : (b : ℕ) → b < 256 → leading_zeros w8 b ≡ lead true (word High 8 b)
+leading_zeros_is = agree (leading_zeros w8) (λ b. lead true (word High 8 b)) leading_zeros_table
 
-pub leading_ones_is : (b : ℕ) → b < 256 → leading_ones w8 b ≡ run false (word High 8 b)
-leading_ones_is = agree (leading_ones w8) (λ b. run false (word High 8 b)) leading_ones_table
+pub leading_ones_is : (b : ℕ) → b < 256 → leading_ones w8 b ≡ lead false (word High 8 b)
+leading_ones_is = agree (leading_ones w8) (λ b. lead false (word High 8 b)) leading_ones_table
 
-pub trailing_zeros_is : (b : ℕ) → b < 256 → trailing_zeros w8 b ≡ run true (word Low 8 b)
-trailing_zeros_is = agree (trailing_zeros w8) (λ b. run true (word Low 8 b)) trailing_zeros_table
+pub trailing_zeros_is : (b : ℕ) → b < 256 → trailing_zeros w8 b ≡ lead true (word Low 8 b)
+trailing_zeros_is = agree (trailing_zeros w8) (λ b. lead true (word Low 8 b)) trailing_zeros_table
 
-pub trailing_ones_is : (b : ℕ) → b < 256 → trailing_ones w8 b ≡ run false (word Low 8 b)
-trailing_ones_is = agree (trailing_ones w8) (λ b. run false (word Low 8 b)) trailing_ones_table
+pub trailing_ones_is : (b : ℕ) → b < 256 → trailing_ones w8 b ≡ lead false (word Low 8 b)
+trailing_ones_is = agree (trailing_ones w8) (λ b. lead false (word Low 8 b)) trailing_ones_table
 
 -- ---- what was taken between two places
 
@@ -122,8 +122,8 @@ held_byte o byte = sym (take_all 8 (word o 8 byte) (omega (arith, length-word o 
 pub byte_waits : (o : Order) (x w : List Bool) (b : ℕ) (old mid new : PortState) → TakesBetween o x old w [] mid → Fetched mid (b ∷ []) new → TakesBetween o x old w (word o 8 (first_part o b 8 8)) new
 byte_waits o x w b old mid new h k = subst (λ y. TakesBetween o x old w y new) (held_byte o b) (between_more o x w b old mid new h k)
 
-pub run_of_byte : (o : Order) (stop : Bool) (b r : ℕ) → r ≡ run stop (word o 8 b) → r ≤ 8
-run_of_byte o stop b r is = omega (arith, is, run_le stop (word o 8 b), length-word o 8 b)
+pub lead_of_byte : (o : Order) (stop : Bool) (b r : ℕ) → r ≡ lead stop (word o 8 b) → r ≤ 8
+lead_of_byte o stop b r is = omega (arith, is, lead_le stop (word o 8 b), length-word o 8 b)
 
 -- those behind the first n
 rest_bits : (o : Order) (byte n r : ℕ) → ((k : ℕ) → n + k ≤ 8 → first_part o r 8 k ≡ piece o 8 byte n k) → (k : ℕ) → n + k ≤ 8 → take (n + k) (word o 8 byte) ≡ take n (word o 8 byte) ++ take k (word o 8 r)
@@ -141,32 +141,32 @@ rest_twice o byte n q r first then k le =
 
 module _ (o : Order) (stop : Bool) (x : List Bool) (old : PortState) where
   -- no stop bit among the bits that wait
-  pub all_others : (count byte left more : ℕ) (p : PortState) → left ≤ 8 → left ≤ run stop (word o 8 byte) → more ≡ count + left
+  pub all_others : (count byte left more : ℕ) (p : PortState) → left ≤ 8 → left ≤ lead stop (word o 8 byte) → more ≡ count + left
       → TakesBetween o x old (replicate count (not stop)) (word o left (first_part o byte 8 left)) p → TakesBetween o x old (replicate more (not stop)) [] p
   all_others count byte left more p le none sum h =
       between_as o x (replicate count (not stop)) (word o left (first_part o byte 8 left)) (replicate more (not stop)) [] old p
       (ap (λ w. replicate count (not stop) ++ w) (held_bits o byte left le ∙ take_others stop left (word o 8 byte) none) ∙ sym (others-split stop count left more (sym sum)) ∙ sym (append-nil (replicate more (not stop)))) h
 
   -- the stop bit is among them
-  pub run_ends : (count byte left r more k q z : ℕ) (p : PortState) → left ≤ 8 → r ≡ run stop (word o 8 byte) → r < left → k ≡ left - r - 1 → more ≡ count + r
+  pub lead_ends : (count byte left r more k q z : ℕ) (p : PortState) → left ≤ 8 → r ≡ lead stop (word o 8 byte) → r < left → k ≡ left - r - 1 → more ≡ count + r
       → ((k : ℕ) → r + k ≤ 8 → first_part o q 8 k ≡ piece o 8 byte r k) → ((k : ℕ) → 1 + k ≤ 8 → first_part o z 8 k ≡ piece o 8 q 1 k)
       → TakesBetween o x old (replicate count (not stop)) (word o left (first_part o byte 8 left)) p → TakesBetween o x old (unary stop more) (word o k (first_part o z 8 k)) p
-  run_ends count byte left r more k q z p le is less rest sum first then h =
+  lead_ends count byte left r more k q z p le is less rest sum first then h =
       let w = word o 8 byte in
       let behind = word o k (first_part o z 8 k) in
       let parts : left ≡ r + (1 + k) = omega arith in
-      let found : run stop w < length w = omega (arith, is, length-word o 8 byte) in
-      let next : r + 1 ≡ suc (run stop w) = omega (arith, is) in
-      let front : take (r + 1) w ≡ unary stop r = ap (λ n. take n w) next ∙ take_unary stop w found ∙ ap (unary stop) (sym is) in
+      let found : lead stop w < length w = omega (arith, is, length-word o 8 byte) in
+      let next : r + 1 ≡ suc (lead stop w) = omega (arith, is) in
+      let front : take (r + 1) w ≡ unary stop r = ap (λ n. take n w) next ∙ front_is_unary stop w found ∙ ap (unary stop) (sym is) in
       let held : word o left (first_part o byte 8 left) ≡ unary stop r ++ behind =
       held_bits o byte left le ∙ ap (λ n. take n w) parts ∙ rest_twice o byte r q z first then k (omega arith) ∙ ap (λ l. l ++ behind) front in
       between_as o x (replicate count (not stop)) (word o left (first_part o byte 8 left)) (unary stop more) behind old p
       (ap (λ l. replicate count (not stop) ++ l) held ∙ sym (append_assoc (replicate count (not stop)) (unary stop r) behind) ∙ ap (λ l. l ++ behind) (sym (unary-split stop count r more (sym sum)))) h
 
-  -- so many others that the run is too long
-  pub run_long : (count byte left r : ℕ) (p : PortState) → left ≤ 8 → r ≤ left → r ≤ run stop (word o 8 byte) → count < 2 ^ 32 → 2 ^ 32 ≤ count + r
-      → TakesBetween o x old (replicate count (not stop)) (word o left (first_part o byte 8 left)) p → TakesLongRun o stop x old p
-  run_long count byte left r p le within others small long h =
+  -- so many others that the lead is too long
+  pub lead_long : (count byte left r : ℕ) (p : PortState) → left ≤ 8 → r ≤ left → r ≤ lead stop (word o 8 byte) → count < 2 ^ 32 → 2 ^ 32 ≤ count + r
+      → TakesBetween o x old (replicate count (not stop)) (word o left (first_part o byte 8 left)) p → TakesLongUnary o stop x old p
+  lead_long count byte left r p le within others small long h =
       let w = word o 8 byte in
       let m = 2 ^ 32 - count in
       let held = take left w in
@@ -183,6 +183,6 @@ module _ (o : Order) (stop : Bool) (x : List Bool) (old : PortState) where
       }
 
 -- what the exit of a `?` returns
-pub run_refused : (may : Refusal → Type 0) (o : Order) (stop : Bool) (x : List Bool) (old new : PortState) (error : Error) (r : Result (Option Run) Error) → IsErrAnd r (λ y. y ≡ error) → RefusesRun may o stop x old error new → TakesRun may o stop x old r new
-run_refused may o stop x old new error (Ok a) is h = absurd is
-run_refused may o stop x old new error (Err y) is h = subst (λ z. RefusesRun may o stop x old z new) (sym is) h
+pub lead_refused : (may : Refusal → Type 0) (o : Order) (stop : Bool) (x : List Bool) (old new : PortState) (error : Error) (r : Result (Option TakenUnary) Error) → IsErrAnd r (λ y. y ≡ error) → RefusesUnary may o stop x old error new → TakesUnary may o stop x old r new
+lead_refused may o stop x old new error (Ok a) is h = absurd is
+lead_refused may o stop x old new error (Err y) is h = subst (λ z. RefusesUnary may o stop x old z new) (sym is) h

@@ -7,7 +7,7 @@ use Rattle.bitstream_number.specs.Word.{Order, word, bits}
 use Rattle.bitstream_order.specs.Parts.{first_part}
 use Rattle.bitstream_order.specs.Port.{PortState, Fetched, FetchRefused}
 use Rattle.bitstream_order.specs.Refusal.{Refusal}
-use Rattle.bitstream_order.specs.declared.unary.Run.{Run}
+use Rattle.bitstream_order.specs.declared.unary.TakenUnary.{TakenUnary}
 
 -- one byte was fetched, or its request refused
 abbrev pub FetchesByte : (Refusal → Type 0) → PortState → Result ℕ Error → PortState → Type 0
@@ -24,7 +24,7 @@ pub record TakesBetween (o : Order) (x : List Bool) (old : PortState) (w y : Lis
   pub word : x ++ bits o bytes ≡ w ++ y
 
 -- a run was too long: so many digits were taken, and fewer than 8 bits are left behind them
-pub record TakesLongRun (o : Order) (stop : Bool) (x : List Bool) (old new : PortState) : Type 0 where
+pub record TakesLongUnary (o : Order) (stop : Bool) (x : List Bool) (old new : PortState) : Type 0 where
   pub count : ℕ
   pub long : count ≡ 2 ^ 32
   pub left : List Bool
@@ -32,7 +32,7 @@ pub record TakesLongRun (o : Order) (stop : Bool) (x : List Bool) (old new : Por
   pub takes : TakesBetween o x old (replicate count (not stop)) left new
 
 -- a byte was refused behind digits that are not the stop digit
-pub record RefusesRun (may : Refusal → Type 0) (o : Order) (stop : Bool) (x : List Bool) (old : PortState) (error : Error) (new : PortState) : Type 0 where
+pub record RefusesUnary (may : Refusal → Type 0) (o : Order) (stop : Bool) (x : List Bool) (old : PortState) (error : Error) (new : PortState) : Type 0 where
   pub count : ℕ
   pub few : count < 2 ^ 32
   pub mid : PortState
@@ -41,8 +41,8 @@ pub record RefusesRun (may : Refusal → Type 0) (o : Order) (stop : Bool) (x : 
 
 -- A run with the bits x in front: so many digits and the stop digit, and what is left behind it;
 -- none where the run is too long; or the refusal of a byte.
-abbrev pub TakesRun : (Refusal → Type 0) → Order → Bool → List Bool → PortState → Result (Option Run) Error → PortState → Type 0
-TakesRun may o stop x old (Ok (Some r)) new =
+abbrev pub TakesUnary : (Refusal → Type 0) → Order → Bool → List Bool → PortState → Result (Option TakenUnary) Error → PortState → Type 0
+TakesUnary may o stop x old (Ok (Some r)) new =
     TakesBetween o x old (unary stop r.count) (word o r.waiting (first_part o r.left 8 r.waiting)) new
-TakesRun may o stop x old (Ok None) new = TakesLongRun o stop x old new
-TakesRun may o stop x old (Err error) new = RefusesRun may o stop x old error new
+TakesUnary may o stop x old (Ok None) new = TakesLongUnary o stop x old new
+TakesUnary may o stop x old (Err error) new = RefusesUnary may o stop x old error new

@@ -1,4 +1,4 @@
--- Tables of nodes: which tree stands where, two tables as one, and the way down to a symbol's first leaf.
+-- NodesOf of nodes: which tree stands where, two tables as one, and the way down to a symbol's first leaf.
 use Rattle.std.proofs.Common.{◌≡◌, ◌⊎◌, inl, inr, ℕ, zero, suc, ◌+◌, ◌-◌, ◌^◌, ◌<◌, ◌≤◌, Bool, true, false, eqb, List, [], ◌∷◌, ◌++◌, length, map, take, get_or, Option, Some, None, refl, sym, ap, ◌∙◌, subst, arith, length-append}
 use Rattle.std.specs.Prelude.{slice_get, is_some, if◌then◌else◌, nat_le, MatchOption}
 use Rattle.std.specs.Option.{option_map}
@@ -8,8 +8,8 @@ use Rattle.std.proofs.lemmas.List.{length-map, length-take-le}
 use Rattle.std.proofs.Math.Seq.{take-length}
 use Rattle.std.proofs.lemmas.Option.{cond_some, slice_get-map, slice_get_read, slice_get_within}
 use Rattle.bitstream_value.specs.Tree.{Tree, leaf, node, first_path, symbol_word}
-use Rattle.bitstream_value.specs.HuffmanTree.{value_of, table, tree_of}
-use Rattle.bitstream_value.specs.Table.{both, table_tree, tree_behind, tree_between, moved, FitsMoved, Joined, HasSymbol, IsFirstPlace, FindsFirst}
+use Rattle.bitstream_value.specs.HuffmanTree.{value_of, nodes_of, tree_of}
+use Rattle.bitstream_value.specs.Nodes.{both, nodes_tree, tree_behind, tree_between, moved, FitsMoved, Joined, HasSymbol, IsFirstPlace, FindsFirst}
 use Rattle.bitstream_value.specs.declared.huffman.tree.HuffmanTree.{HuffmanTree}
 use Rattle.bitstream_value.specs.declared.huffman.tree.Node.{Node}
 use Rattle.bitstream_value.specs.declared.huffman.tree.Node.TheVariants.{Leaf, Branch}
@@ -151,27 +151,27 @@ value_of-is : {T : Type 0} (o : Option T) (there : is_some o ≡ true) (x : T) �
 value_of-is None there x e = absurd cc
 value_of-is (Some y) there x e = cc
 
-pub tree_of-stands : {S A : Type 0} (code : HuffmanTree S A) → Stands (table code) (tree_of code) 0 (length (table code))
+pub tree_of-stands : {S A : Type 0} (code : HuffmanTree S A) → Stands (nodes_of code) (tree_of code) 0 (length (nodes_of code))
 unfolding tree_of
 tree_of-stands code =
-    between-Stands (table code) (length (table code)) 0 (length (table code)) (value_of (table_tree (table code)) code.is_table) (value_of-there (table_tree (table code)) code.is_table)
+    between-Stands (nodes_of code) (length (nodes_of code)) 0 (length (nodes_of code)) (value_of (nodes_tree (nodes_of code)) code.has_tree) (value_of-there (nodes_tree (nodes_of code)) code.has_tree)
 
-pub stands-table : {S : Type 0} (nodes : List (Node S)) (t : Tree S) → Stands nodes t 0 (length nodes) → table_tree nodes ≡ Some t
-stands-table nodes t h = Stands-between nodes t (length nodes) 0 (length nodes) (omega arith) h
+pub stands-nodes_of : {S : Type 0} (nodes : List (Node S)) (t : Tree S) → Stands nodes t 0 (length nodes) → nodes_tree nodes ≡ Some t
+stands-nodes_of nodes t h = Stands-between nodes t (length nodes) 0 (length nodes) (omega arith) h
 
-pub stands-is_table : {S : Type 0} (nodes : List (Node S)) (t : Tree S) → Stands nodes t 0 (length nodes) → is_some (table_tree nodes) ≡ true
-stands-is_table nodes t h = ap is_some (stands-table nodes t h)
+pub stands-has_tree : {S : Type 0} (nodes : List (Node S)) (t : Tree S) → Stands nodes t 0 (length nodes) → is_some (nodes_tree nodes) ≡ true
+stands-has_tree nodes t h = ap is_some (stands-nodes_of nodes t h)
 
-pub stands-tree_of : {S A : Type 0} (code : HuffmanTree S A) (t : Tree S) → Stands (table code) t 0 (length (table code)) → tree_of code ≡ t
+pub stands-tree_of : {S A : Type 0} (code : HuffmanTree S A) (t : Tree S) → Stands (nodes_of code) t 0 (length (nodes_of code)) → tree_of code ≡ t
 unfolding tree_of
-stands-tree_of code t h = value_of-is (table_tree (table code)) code.is_table t (stands-table (table code) t h)
+stands-tree_of code t h = value_of-is (nodes_tree (nodes_of code)) code.has_tree t (stands-nodes_of (nodes_of code) t h)
 
 pub stands-leaf : {S : Type 0} (nodes : List (Node S)) (x : S) → nodes ≡ Leaf x ∷ [] → Stands nodes (leaf x) 0 (length nodes)
 stands-leaf nodes x e = rw e (refl, refl)
 
 -- a table has a root
-pub table-some : {S A : Type 0} (code : HuffmanTree S A) → 0 < length (table code)
-table-some code = Stands-some (table code) (tree_of code) 0 (length (table code)) (tree_of-stands code)
+pub nodes_of-some : {S A : Type 0} (code : HuffmanTree S A) → 0 < length (nodes_of code)
+nodes_of-some code = Stands-some (nodes_of code) (tree_of code) 0 (length (nodes_of code)) (tree_of-stands code)
 
 -- ---- two tables as one
 
@@ -228,8 +228,8 @@ Stands-moved xs ys (node a b) low end h =
 get-end : {A : Type 0} (xs : List A) (x : A) → slice_get (xs ++ x ∷ []) (length xs) ≡ Some x
 get-end xs x = get-right xs (x ∷ []) 0 (length xs) (omega arith)
 
-table-end : {S : Type 0} (xs ys : List (Node S)) (z o : ℕ) → slice_get ((xs ++ map (moved (length xs)) ys) ++ Branch z o ∷ []) (length xs + length ys) ≡ Some (Branch z o)
-table-end xs ys z o =
+nodes_of-end : {S : Type 0} (xs ys : List (Node S)) (z o : ℕ) → slice_get ((xs ++ map (moved (length xs)) ys) ++ Branch z o ∷ []) (length xs + length ys) ≡ Some (Branch z o)
+nodes_of-end xs ys z o =
     let zs = xs ++ map (moved (length xs)) ys in
     let size : length zs ≡ length xs + length ys = length-append xs (map (moved (length xs)) ys) ∙ ap (λ n. length xs + n) (length-map ys (moved (length xs))) in
     subst (λ n. slice_get (zs ++ Branch z o ∷ []) n ≡ Some (Branch z o)) size (get-end zs (Branch z o))
@@ -259,7 +259,7 @@ module _ {S : Type 0} (xs ys : List (Node S)) (t u : Tree S) (h : Joins xs ys t 
   unfolding whole
   root-at end e =
       let place : end - 1 ≡ length xs + length ys = omega arith in
-      rw place (table-end xs ys z o)
+      rw place (nodes_of-end xs ys z o)
 
   pub zero-first : z + 1 ≡ length xs → o + 1 ≡ length xs + length ys → Stands ((xs ++ map (moved (length xs)) ys) ++ Branch z o ∷ []) (node t u) 0 (length xs + length ys + 1)
   unfolding whole
@@ -282,31 +282,31 @@ module _ {S : Type 0} (xs ys : List (Node S)) (t u : Tree S) (h : Joins xs ys t 
   }
 
 -- what `joined` makes of the tables of two trees, and a branch behind it
-module _ {S A : Type 0} (first second : HuffmanTree S A) (nodes : List (Node S)) (m n : ℕ) (h : Joined (table first) (table second) nodes m n) where
-  tables : Joins (table first) (table second) (tree_of first) (tree_of second)
+module _ {S A : Type 0} (first second : HuffmanTree S A) (nodes : List (Node S)) (m n : ℕ) (h : Joined (nodes_of first) (nodes_of second) nodes m n) where
+  tables : Joins (nodes_of first) (nodes_of second) (tree_of first) (tree_of second)
   tables = record { first = tree_of-stands first; second = tree_of-stands second }
 
-  size-with : (ys : List (Node S)) (x : Node S) → ys ≡ nodes ++ x ∷ [] → length ys ≡ length (table first) + length (table second) + 1
+  size-with : (ys : List (Node S)) (x : Node S) → ys ≡ nodes ++ x ∷ [] → length ys ≡ length (nodes_of first) + length (nodes_of second) + 1
   size-with ys x e =
       ap length e ∙ length-append nodes (x ∷ []) ∙ ap (λ zs. length zs + 1) h.nodes_are
-      ∙ ap (λ i. i + 1) (length-append (table first) (map (moved (length (table first))) (table second)) ∙ ap (λ i. length (table first) + i) (length-map (table second) (moved (length (table first)))))
+      ∙ ap (λ i. i + 1) (length-append (nodes_of first) (map (moved (length (nodes_of first))) (nodes_of second)) ∙ ap (λ i. length (nodes_of first) + i) (length-map (nodes_of second) (moved (length (nodes_of first)))))
 
-  whole-is : (ys : List (Node S)) (x : Node S) → ys ≡ nodes ++ x ∷ [] → ys ≡ (table first ++ map (moved (length (table first))) (table second)) ++ x ∷ []
+  whole-is : (ys : List (Node S)) (x : Node S) → ys ≡ nodes ++ x ∷ [] → ys ≡ (nodes_of first ++ map (moved (length (nodes_of first))) (nodes_of second)) ++ x ∷ []
   whole-is ys x e = e ∙ ap (λ zs. zs ++ x ∷ []) h.nodes_are
 
-  -- the first table is that of the side of 0
+  -- the first nodes_of is that of the side of 0
   pub joined-zero : (ys : List (Node S)) → ys ≡ nodes ++ Branch m n ∷ [] → Stands ys (node (tree_of first) (tree_of second)) 0 (length ys)
   joined-zero ys e =
-      let whole = (table first ++ map (moved (length (table first))) (table second)) ++ Branch m n ∷ [] in
+      let whole = (nodes_of first ++ map (moved (length (nodes_of first))) (nodes_of second)) ++ Branch m n ∷ [] in
       subst (λ (zs : List (Node S)). Stands zs (node (tree_of first) (tree_of second)) 0 (length ys)) (sym (whole-is ys (Branch m n) e))
-      (subst (λ i. Stands whole (node (tree_of first) (tree_of second)) 0 i) (sym (size-with ys (Branch m n) e)) (zero-first (table first) (table second) (tree_of first) (tree_of second) tables m n h.first_ends h.second_ends))
+      (subst (λ i. Stands whole (node (tree_of first) (tree_of second)) 0 i) (sym (size-with ys (Branch m n) e)) (zero-first (nodes_of first) (nodes_of second) (tree_of first) (tree_of second) tables m n h.first_ends h.second_ends))
 
   -- or that of the side of 1
   pub joined-one : (ys : List (Node S)) → ys ≡ nodes ++ Branch n m ∷ [] → Stands ys (node (tree_of second) (tree_of first)) 0 (length ys)
   joined-one ys e =
-      let whole = (table first ++ map (moved (length (table first))) (table second)) ++ Branch n m ∷ [] in
+      let whole = (nodes_of first ++ map (moved (length (nodes_of first))) (nodes_of second)) ++ Branch n m ∷ [] in
       subst (λ (zs : List (Node S)). Stands zs (node (tree_of second) (tree_of first)) 0 (length ys)) (sym (whole-is ys (Branch n m) e))
-      (subst (λ i. Stands whole (node (tree_of second) (tree_of first)) 0 i) (sym (size-with ys (Branch n m) e)) (one-first (table first) (table second) (tree_of first) (tree_of second) tables n m h.first_ends h.second_ends))
+      (subst (λ i. Stands whole (node (tree_of second) (tree_of first)) 0 i) (sym (size-with ys (Branch n m) e)) (one-first (nodes_of first) (nodes_of second) (tree_of first) (tree_of second) tables n m h.first_ends h.second_ends))
 
 -- ---- the way down
 
@@ -347,11 +347,11 @@ places-below nodes (node a b) low end k z o h after below e =
     ]
 
 -- so its places are numbers of 64 bits where those of the table are, also further on
-pub fits-moved : {S A : Type 0} (code : HuffmanTree S A) (n k : ℕ) (x : Node S) → x ≡ get_or (table code) k x → k < length (table code) → n + k < 2 ^ 64 → FitsMoved n x
+pub fits-moved : {S A : Type 0} (code : HuffmanTree S A) (n k : ℕ) (x : Node S) → x ≡ get_or (nodes_of code) k x → k < length (nodes_of code) → n + k < 2 ^ 64 → FitsMoved n x
 fits-moved code n k (Leaf x) is below small = tt
 fits-moved code n k (Branch z o) is below small =
-    let there = slice_get_read (table code) (length (table code)) k (Branch z o) refl below is in
-    let p = places-below (table code) (tree_of code) 0 (length (table code)) k z o (tree_of-stands code) (omega arith) below there in
+    let there = slice_get_read (nodes_of code) (length (nodes_of code)) k (Branch z o) refl below is in
+    let p = places-below (nodes_of code) (tree_of code) 0 (length (nodes_of code)) k z o (tree_of-stands code) (omega arith) below there in
     let z_below = p.0 in
     let o_below = p.1 in
     (omega arith, omega arith)
@@ -483,13 +483,13 @@ module _ {S : Type 0} (same : S → S → Bool) (s : S) (nodes : List (Node S)) 
             absurd cc
       ]
 
-  -- the table of a tree from some place up to `root`, in which the symbol's first leaf stands at `place`
+  -- the nodes_of of a tree from some place up to `root`, in which the symbol's first leaf stands at `place`
   pub record Seeks (t : Tree S) (root place : ℕ) : Type 0 where
     pub low : ℕ
     pub stands : Stands nodes t low (root + 1)
     pub found : IsFirstPlace same s nodes low (root + 1) place
 
-  -- a symbol that no leaf of a table has, has no word
+  -- a symbol that no leaf of a nodes_of has, has no word
   pub word-lacks : (t : Tree S) (end : ℕ) → Stands nodes t 0 end → FindsFirst same s nodes 0 end None → symbol_word same t s ≡ []
   unfolding symbol_word Lacks
   word-lacks t end h none = rw (none-in t 0 end h none) refl
@@ -544,7 +544,7 @@ module _ {S : Type 0} (same : S → S → Bool) (s : S) (nodes : List (Node S)) 
         | inr last ↦ absurd (apart place root z o h.found.has e (omega arith))
       ]
 
-  -- to the side of 0 where the table of that side has the symbol, else to the other
+  -- to the side of 0 where the nodes_of of that side has the symbol, else to the other
   pub down-first : (t : Tree S) (root place z o : ℕ) → Seeks t root place → slice_get nodes root ≡ Some (Branch z o) → z < o → place ≤ z → Down t z place false
   down-first t root place z o h e less before =
       let p = branch-parts nodes t h.low root z o h.stands e in
@@ -607,7 +607,7 @@ module _ {S : Type 0} (same : S → S → Bool) (s : S) (nodes : List (Node S)) 
   down-looked t root place z o None h e more f = down-other t root place z o h e more f
   down-looked t root place z o (Some k) h e more f = down-found t root place z o k h e more f
 
-  -- Where the zero side's table stands first, the symbol's first leaf is in it or behind it; else it is looked for there.
+  -- Where the zero side's nodes_of stands first, the symbol's first leaf is in it or behind it; else it is looked for there.
   pub down : (t : Tree S) (root place z o : ℕ) (found : Option ℕ) → Seeks t root place → slice_get nodes root ≡ Some (Branch z o)
       → (z < o → found ≡ (if nat_le place z then Some place else None)) → (o ≤ z → FindsFirst same s nodes (o + 1) (z + 1) found)
       → MatchOption found (Down t o place true) (λ k. Down t z k false)

@@ -26,8 +26,8 @@ tree_between nodes zero low end = None
 tree_between nodes (suc n) low end = tree_behind (tree_between nodes n) (slice_get nodes (end - 1)) low end
 
 -- the tree of a whole table
-abbrev pub table_tree : {S : Type 0} → List (Node S) → Option (Tree S)
-table_tree nodes = tree_between nodes (length nodes) 0 (length nodes)
+abbrev pub nodes_tree : {S : Type 0} → List (Node S) → Option (Tree S)
+nodes_tree nodes = tree_between nodes (length nodes) 0 (length nodes)
 
 -- a node whose places are n further on
 abbrev pub moved : {S : Type 0} → ℕ → Node S → Node S

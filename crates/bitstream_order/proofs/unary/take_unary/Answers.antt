@@ -1,20 +1,20 @@
 use Rattle.std.proofs.Common.{rules, arith, ◌≡◌, ◌+◌, ◌^◌, ◌≤◌, refl}
 use Rattle.bitstream_order.specs.Port.{port_state}
-use Rattle.bitstream_order.proofs.RunLemmas.{between_none, byte_waits, run_of_byte, all_others, run_ends, run_long, run_refused}
-use Rattle.bitstream_order.proofs.unary.take_run.Goals as goal
+use Rattle.bitstream_order.proofs.LeadLemmas.{between_none, byte_waits, lead_of_byte, all_others, lead_ends, lead_long, lead_refused}
+use Rattle.bitstream_order.proofs.unary.take_unary.Goals as goal
 
 pub returns-then-first-queued-clause-takes : goal.returns-then-first-queued-clause-takes
 returns-then-first-queued-clause-takes g c =
     let o = g.E.Endianness.order in
     let few = c.requires in
-    run_ends o c.args.stop _ _ 0 c.args.queue c.args.queued c.run-first.result c.run-first.result _ c.rest.result c.rest-then-first-queued.result _
-    (omega arith) c.run-first.ensures c.if-first-queued.true refl (omega arith) c.rest.ensures c.rest-then-first-queued.ensures (between_none o _ _)
+    lead_ends o c.args.stop _ _ 0 c.args.queue c.args.queued c.lead-first.result c.lead-first.result _ c.rest.result c.rest-then-first-queued.result _
+    (omega arith) c.lead-first.ensures c.if-first-queued.true refl (omega arith) c.rest.ensures c.rest-then-first-queued.ensures (between_none o _ _)
 
 pub loop-byte-init : goal.loop-byte-init
 loop-byte-init g c =
     let o = g.E.Endianness.order in
     let few = c.requires in
-    let run = c.run-first.ensures in
+    let lead = c.lead-first.ensures in
     let none = c.if-first-queued.false in
     let turn = c.add.ensures in
     record {
@@ -26,7 +26,7 @@ loop-byte-init g c =
 
 pub returns-in_err-byte-clause-takes : goal.returns-in_err-byte-clause-takes
 returns-in_err-byte-clause-takes g c =
-    run_refused _ g.E.Endianness.order c.args.stop _ _ _ _ c.from_residual.result c.from_residual.ensures.1 (record {
+    lead_refused _ g.E.Endianness.order c.args.stop _ _ _ _ c.from_residual.result c.from_residual.ensures.1 (record {
       count = c.loop-byte.count;
       few = c.loop-byte.invariant.small;
       mid = port_state g.S.Source.remaining g.S.Source.reference_names c.loop-byte.port;
@@ -38,26 +38,26 @@ pub returns-in_default-clause-takes : goal.returns-in_default-clause-takes
 returns-in_default-clause-takes g c =
     let o = g.E.Endianness.order in
     let inv = c.loop-byte.invariant in
-    let run = c.run-run.ensures in
-    let long : 2 ^ 32 ≤ c.loop-byte.count + c.run-run.result = omega (arith, c.in_default.ensures) in
-    run_long o c.args.stop _ _ c.loop-byte.count c.in_ok-byte.byte 8 c.run-run.result _ (omega arith) (run_of_byte o c.args.stop c.in_ok-byte.byte _ run) (omega arith) inv.small long
+    let lead = c.lead-lead.ensures in
+    let long : 2 ^ 32 ≤ c.loop-byte.count + c.lead-lead.result = omega (arith, c.in_default.ensures) in
+    lead_long o c.args.stop _ _ c.loop-byte.count c.in_ok-byte.byte 8 c.lead-lead.result _ (omega arith) (lead_of_byte o c.args.stop c.in_ok-byte.byte _ lead) (omega arith) inv.small long
     (byte_waits o _ _ c.in_ok-byte.byte _ _ _ inv.takes c.in_ok-byte.ensures)
 
-pub returns-then-run-lt8-clause-takes : goal.returns-then-run-lt8-clause-takes
-returns-then-run-lt8-clause-takes g c =
+pub returns-then-lead-lt8-clause-takes : goal.returns-then-lead-lt8-clause-takes
+returns-then-lead-lt8-clause-takes g c =
     let o = g.E.Endianness.order in
-    let less = c.if-run-lt8.true in
-    run_ends o c.args.stop _ _ c.loop-byte.count c.in_ok-byte.byte 8 c.run-run.result c.in-Some.more _ c.rest-then-run-lt8.result c.rest-then-run-lt8-2.result _
-    (omega arith) c.run-run.ensures less (omega arith) (search rules) c.rest-then-run-lt8.ensures c.rest-then-run-lt8-2.ensures (byte_waits o _ _ c.in_ok-byte.byte _ _ _ c.loop-byte.invariant.takes c.in_ok-byte.ensures)
+    let less = c.if-lead-lt8.true in
+    lead_ends o c.args.stop _ _ c.loop-byte.count c.in_ok-byte.byte 8 c.lead-lead.result c.in-Some.more _ c.rest-then-lead-lt8.result c.rest-then-lead-lt8-2.result _
+    (omega arith) c.lead-lead.ensures less (omega arith) (search rules) c.rest-then-lead-lt8.ensures c.rest-then-lead-lt8-2.ensures (byte_waits o _ _ c.in_ok-byte.byte _ _ _ c.loop-byte.invariant.takes c.in_ok-byte.ensures)
 
 pub loop-byte-preserved : goal.loop-byte-preserved
 loop-byte-preserved g c =
     let o = g.E.Endianness.order in
     let inv = c.loop-byte.invariant in
-    let run = c.run-run.ensures in
-    let most = run_of_byte o c.args.stop c.in_ok-byte.byte _ run in
-    let least = c.if-run-lt8.false in
-    let sum : c.in-Some.more ≡ c.loop-byte.count + c.run-run.result = search rules in
+    let lead = c.lead-lead.ensures in
+    let most = lead_of_byte o c.args.stop c.in_ok-byte.byte _ lead in
+    let least = c.if-lead-lt8.false in
+    let sum : c.in-Some.more ≡ c.loop-byte.count + c.lead-lead.result = search rules in
     let fetched = c.in_ok-byte.ensures.fetched in
     let turns = inv.turns in
     let before = inv.fetched in

@@ -2,8 +2,8 @@ use Rattle.std.proofs.Common.{◌≡◌, ◌+◌, ◌-◌, ◌^◌, ◌<◌, ◌
 use Rattle.bitstream_number.specs.Word.{word}
 use Rattle.bitstream_order.specs.Parts.{first_part}
 use Rattle.bitstream_order.specs.Port.{port_state, fetched_count}
-use Rattle.bitstream_order.specs.TakeRun.{TakesBetween}
-use Rattle.bitstream_order.proofs.unary.take_run.Given as goal
+use Rattle.bitstream_order.specs.TakeUnary.{TakesBetween}
+use Rattle.bitstream_order.proofs.unary.take_unary.Given as goal
 
 -- so many digits so far, none of which is the stop digit, and no bit waits; there was a turn for each byte fetched, and one before
 abbrev pub invariant-loop-byte : goal.invariant-loop-byte
