@@ -12,7 +12,7 @@ use Rattle.bitstream_stream.specs.Sink.{IsWithin, IsPastLimit}
 -- what the states of a sink of bytes mean, with the laws
 pub record ByteSink (S : Type 0) : Type 1 where
   pub order : Order
-  -- the second state is the first with these bytes behind it
+  -- the second state is the first with these bytes appended
   pub appends : S → List ℕ → S → Type 0
   -- the bytes that its stream holds, where it tells
   pub contents : S → Option (List ℕ)
@@ -38,8 +38,8 @@ pub record BytesAppended {S : Type 0} (K : ByteSink S) (old : S) (bytes : List �
   pub refusals : K.refusals new ≡ K.refusals old
   pub reference_names : K.reference_names new ≡ K.reference_names old
 
--- A request was refused, as the stream may refuse. A front of the bytes was sent before, and the stream is as the
--- refusal left it.
+-- A request was refused, as the stream may refuse. A beginning of the bytes, and not all, was sent before, and the
+-- stream is as the refusal left it.
 pub record ByteWriteRefused {S : Type 0} (K : ByteSink S) (old : S) (bytes : List ℕ) (error : Error) (new : S) : Type 0 where
   pub refusal : Refusal
   pub allowed : K.may refusal

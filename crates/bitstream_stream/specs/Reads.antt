@@ -12,7 +12,7 @@ use Rattle.bitstream_order.specs.Refusal.{Refusal, IsTrueEnd}
 
 -- what a state of a reader tells
 pub record ReaderState : Type 0 where
-  -- the bits of the bytes fetched that were not taken, and the bytes left in the stream, where it tells
+  -- the bits that were fetched and not taken, and the bytes left in the stream, if it tells
   pub queue : List Bool
   pub bytes : Option (List ℕ)
   -- how many bits were taken so far, and how many bytes were fetched from the stream for them
@@ -28,11 +28,11 @@ pub record ReaderState : Type 0 where
 abbrev pub Demands : ReaderState → Type 0
 Demands s = s.fetched ≡ (s.taken + 7) / 8
 
--- what was fetched and not taken is held back
+-- what was fetched and not taken is queued
 abbrev pub QueuesRest : ReaderState → Type 0
 QueuesRest s = s.failed ≡ false → s.taken + length s.queue ≡ 8 * s.fetched
 
--- a reader that has failed holds nothing back
+-- the queue of a reader that has failed is empty
 abbrev pub Empties : ReaderState → Type 0
 Empties s = s.failed ≡ true → s.queue ≡ []
 
@@ -46,7 +46,7 @@ pub record BitSource (R : Type 0) : Type 1 where
   pub holds : (r : R) → QueuesRest (state r)
   pub empties : (r : R) → Empties (state r)
 
--- the bits left to read, where the stream tells its bytes
+-- the bits left to read, if the stream tells its bytes
 abbrev pub bits_left : Order → ReaderState → Option (List Bool)
 bits_left o s = option_map (λ xs. s.queue ++ bits o xs) s.bytes
 
@@ -61,9 +61,9 @@ pub record HadFailed {A : Type 0} (entry : ReadEntry A) (old : ReaderState) (res
   pub answer : result ≡ entry.on_failed
   pub same : new ≡ old
 
--- The call takes its front, a word, and gives the front's answer: whatever bits follow the word, it is
--- this one, and no shorter beginning of the word has a front. The bits held before and those of the
--- bytes fetched are the word and then the bits held now.
+-- The call takes its front, a word, and gives the front's answer. The word alone decides it, whatever bits
+-- follow, and no proper beginning of the word has a front. The old queue and the bits of the bytes fetched are
+-- the word and then the new queue.
 pub record ReadDone {A : Type 0} (o : Order) (entry : ReadEntry A) (old : ReaderState) (result : Result A Error) (new : ReaderState) : Type 0 where
   pub fine : old.failed ≡ false
   pub word : List Bool
@@ -80,9 +80,9 @@ pub record ReadDone {A : Type 0} (o : Order) (entry : ReadEntry A) (old : Reader
   pub reference_names : new.reference_names ≡ old.reference_names
   pub failed : new.failed ≡ is_run_too_long result
 
--- A request was refused, as the stream may refuse, and the reader has failed. The bits held were too few
--- for the call, and so were those with the bytes fetched for it; at a true end so were all bits left. The
--- stream lost these bytes, and then is as the refusal left it.
+-- A request was refused, as the stream may refuse, and the reader has failed. The queue was too short for the
+-- call, and so it was with the bytes fetched before; at a true end so were all bits left. The stream lost these
+-- bytes, and is as the refusal left it.
 pub record ReadRefused {A : Type 0} (o : Order) (may : Refusal → Type 0) (entry : ReadEntry A) (old : ReaderState) (result : Result A Error) (new : ReaderState) : Type 0 where
   pub fine : old.failed ≡ false
   pub refusal : Refusal
@@ -100,7 +100,7 @@ pub record ReadRefused {A : Type 0} (o : Order) (may : Refusal → Type 0) (entr
   pub failed : new.failed ≡ true
 
 -- Memory that the call asked for itself was refused, and the reader has failed. The bits that were taken
--- until then were too few for the call: so a call for no bits never lacks memory.
+-- until then were too few for the call, so a call for no bits is never refused memory.
 pub record MemoryRefused {A : Type 0} (o : Order) (entry : ReadEntry A) (old : ReaderState) (result : Result A Error) (new : ReaderState) : Type 0 where
   pub fine : old.failed ≡ false
   pub answer : result ≡ Err OutOfMemory
@@ -116,7 +116,7 @@ pub record MemoryRefused {A : Type 0} (o : Order) (entry : ReadEntry A) (old : R
   pub reference_names : new.reference_names ≡ old.reference_names
   pub failed : new.failed ≡ true
 
--- one read, by what the call means; `grows` where the call asks for memory of its own
+-- one read, by what the call means; `grows` says whether the call asks for memory of its own
 pub data ReadOutcome {R A : Type 0} (K : BitSource R) (grows : Bool) (entry : ReadEntry A) (old : R) (result : Result A Error) (new : R) : Type 0 where
   had_failed : HadFailed entry (K.state old) result (K.state new) → ReadOutcome K grows entry old result new
   was_done : ReadDone K.order entry (K.state old) result (K.state new) → ReadOutcome K grows entry old result new
@@ -131,7 +131,7 @@ Reads K entry old result new = ReadOutcome K false entry old result new
 abbrev pub ReadsGrowing : {R A : Type 0} → BitSource R → ReadEntry A → R → Result A Error → R → Type 0
 ReadsGrowing K entry old result new = ReadOutcome K true entry old result new
 
--- the same reader, which has failed and holds nothing back
+-- the same reader, which has failed and has an empty queue
 abbrev pub failed_reader : ReaderState → ReaderState
 failed_reader s = record s { failed = true; queue = [] }
 
@@ -176,13 +176,13 @@ ConstAnswer gives err (Ok true) result = result ≡ Ok tt
 ConstAnswer gives err (Ok false) result = result ≡ Err err
 ConstAnswer gives err (Err x) result = IsErrAnd result (gives x)
 
--- a call that answers `err` where a word is not what it should be, and turns any other refusal into its own type
+-- a call that answers `err` if a word is not what it should be, and turns any other error into its own type
 pub record ReadsConst {R E : Type 0} (K : BitSource R) (gives : Error → E → Type 0) (entry : ReadEntry Bool) (err : E) (old : R) (result : Result (Unit {0}) E) (new : R) : Type 0 where
   pub plain : Result Bool Error
   pub reads : Reads K entry old plain new
   pub answer : ConstAnswer gives err plain result
 
--- what a call answers where all the bits left are known: its front's answer, or the end
+-- what a call answers if all bits left are known: its front's answer, or the end
 abbrev pub sure_answer : {A : Type 0} → Front A → Result A Error
 sure_answer TooFew = Err EndOfInput
 sure_answer (Takes n answer) = answer

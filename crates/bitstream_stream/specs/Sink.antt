@@ -26,9 +26,9 @@ IsFullLimit (Some most) = (n : ℕ) × (most + 1 ≡ 8 * n)
 -- what the states of a sink mean, with the laws
 pub record Sink (S : Type 0) : Type 1 where
   pub order : Order
-  -- the second state is the first with these bits behind it
+  -- the second state is the first with these bits appended
   pub appends : S → List Bool → S → Type 0
-  -- the bytes that its stream holds, where it tells; and those it would, with these bits written behind the state
+  -- the bytes that its stream holds, if it tells; and those that it would hold with these bits written after the state
   pub contents : S → Option (List ℕ)
   pub fills : S → List Bool → Option (List ℕ) → Type 0
   -- how many bits were written
@@ -63,9 +63,9 @@ pub record Kept {S : Type 0} (K : Sink S) (old new : S) : Type 0 where
   pub refusals : K.refusals new ≡ K.refusals old
   pub reference_names : K.reference_names new ≡ K.reference_names old
 
--- A request was refused, as the stream may refuse, and the sink has failed. The word x would have made a
--- byte full. The bytes that a front of it filled were sent before the request, and no bit waits: the stream
--- is as the refusal left it.
+-- A request was refused, as the stream may refuse, and the sink has failed. The word x would have filled a
+-- byte. Only bytes that a beginning of it filled were sent before, the queue is empty, and the stream is as the
+-- refusal left it.
 pub record WriteRefused {S : Type 0} (K : Sink S) (old : S) (x : List Bool) (error : Error) (new : S) : Type 0 where
   pub refusal : Refusal
   pub allowed : K.may refusal

@@ -100,8 +100,8 @@ EndsAligned {W} {E} K old new stream = (aligned : BitWriter W E) × Writes {T = 
 abbrev pub EndsUnaligned : {W E A : Type 0} → Sink (BitWriter W E) → BitWriter W E → Result A Error → BitWriter W E → Type 0
 EndsUnaligned K old result new = Writes {T = Unit {0}} K align old (seen (λ _. tt) result) new
 
--- What a flush does. The writer had failed; or the stream passed on what it holds back itself, and all else
--- is as it was; or the stream refused that, as it may refuse, and the writer has failed and nothing is queued.
+-- What a flush does. The writer had failed; or the stream passed on what it buffers itself, and all else is as
+-- it was; or the stream refused that, as it may refuse, and the writer has failed with an empty queue.
 pub data Flushes (may : Refusal → Type 0) (old : WriterState) (result : Result (Unit {0}) Error) (new : WriterState) : Type 0 where
   had_failed : old.failed ≡ true → result ≡ Err Failed → new ≡ old → Flushes may old result new
   was_done : old.failed ≡ false → result ≡ Ok tt → Sent old.port [] new.port → new ≡ record old { port = new.port } → Flushes may old result new
