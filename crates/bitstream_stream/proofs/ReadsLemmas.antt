@@ -1,6 +1,6 @@
 -- How reads compose.
 use Rattle.std.specs.Prelude.{if◌then◌else◌}
-use Rattle.std.proofs.Common.{◌≡◌, ℕ, ◌+◌, ◌*◌, ◌/◌, ◌<◌, ◌≤◌, Bool, true, false, List, [], ◌∷◌, ◌++◌, length, Option, Some, None, Result, Ok, Err, refl, sym, ap, ap₂, ◌∙◌, subst, append_assoc, append-nil, length-append, arith, inl, inr, ◌⊎◌}
+use Rattle.std.proofs.Common.{◌≡◌, ℕ, ◌+◌, ◌<◌, Bool, true, false, List, [], ◌∷◌, ◌++◌, length, Option, Some, None, Result, Ok, Err, refl, sym, ap, ap₂, ◌∙◌, subst, append_assoc, append-nil, length-append, arith, inl, inr, ◌⊎◌}
 use Rattle.std.proofs.KnownBytes.{Consumes-nil, Consumes-trans}
 use Rattle.std.proofs.Math.Seq.{drop-append_seam}
 use Rattle.std.proofs.lemmas.List.{nil_from_length}
@@ -16,7 +16,7 @@ use Rattle.bitstream_order.specs.TakeBits.{seen}
 use Rattle.bitstream_order.specs.Fault.{read_refusal_of}
 use Rattle.bitstream_stream.proofs.EntryLemmas.{Same, chain-ok, chain-err, chain-none, chain-failed}
 use Rattle.bitstream_stream.proofs.SinkLemmas.{exit_is}
-use Rattle.bitstream_stream.specs.Reads.{ReaderState, BitSource, Demands, QueuesRest, HadFailed, ReadDone, MemoryRefused, ReadOutcome, had_failed, was_done, was_refused, memory_refused, Reads, ReadsGrowing, TakesBytes, is_run_too_long, failed_reader}
+use Rattle.bitstream_stream.specs.Reads.{ReaderState, BitSource, Demands, QueuesRest, HadFailed, ReadDone, MemoryRefused, ReadOutcome, had_failed, was_done, was_refused, memory_refused, Reads, ReadsGrowing, is_run_too_long, failed_reader}
 
 -- ---- lists
 
@@ -132,10 +132,6 @@ Took-memory_refused o e w held s t h few = record {
   failed = refl;
 }
 
--- a word that the held bits begin with fetches nothing
-nothing_gone : (a b p q f g m : ℕ) → a + b ≡ 8 * f → f ≡ (a + 7) / 8 → p ≤ b → q ≡ a + p → g ≡ (q + 7) / 8 → g ≡ f + m → m ≡ 0
-nothing_gone a b p q f g m holds whole le taken demand more = omega arith
-
 -- What the bits held before were, where the rest of them was too few for what came behind a word: they were
 -- too few for the word itself, or they are the word and the bits held now.
 pub Took-held : (o : Order) (w : List Bool) (s t : ReaderState) → Demands s → QueuesRest s → Demands t → Took o s w t
@@ -144,8 +140,7 @@ Took-held o w s t demands holds later h = elim (cut s.queue (bits o h.gone) w t.
   | inl short ↦ inl short
   | inr all ↦
       let size : length s.queue ≡ length w + length all.0 = ap (λ l. length l) all.1 ∙ length-append w all.0 in
-      let none : length h.gone ≡ 0 =
-      nothing_gone s.taken (length s.queue) (length w) t.taken s.fetched t.fetched (length h.gone) (holds h.fine) demands (omega arith) h.taken later h.fetched in
+      let none : length h.gone ≡ 0 = omega (arith, size, holds h.fine, demands, h.taken, later, h.fetched) in
       let same : all.0 ++ bits o h.gone ≡ all.0 = ap (λ g. all.0 ++ bits o g) (nil_from_length h.gone none) ∙ append-nil all.0 in
       inr (all.1 ∙ ap (λ l. w ++ l) (sym same ∙ all.2))
 ]
@@ -354,23 +349,6 @@ Reads-growing (was_refused h) = was_refused h
 Reads-growing (memory_refused g h) = memory_refused refl h
 
 -- ---- a new reader
-
-least_bytes : (f p g w : ℕ) → f ≡ (p + 7) / 8 → f ≡ 0 + g → p ≡ 0 + w → (8 * g < w + 8) × (w ≤ 8 * g)
-least_bytes f p g w demand fetched taken = (omega arith, omega arith)
-
--- a new reader's stream lost the bytes of the front, where a call answered with a value
-pub Reads-taken_ok : {R A : Type 0} {K : BitSource R} {grows : Bool} {e : ReadEntry A} {a : A} {s t : R} → (K.state s).failed ≡ false → (K.state s).queue ≡ [] → (K.state s).taken ≡ 0 → (K.state s).fetched ≡ 0 → ReadOutcome K grows e s (Ok a) t
-    → TakesBytes K.order e (K.state s).bytes (Ok a) (K.state t).bytes
-Reads-taken_ok fine held taken fetched (had_failed h) = let p = h.failed in cc
-Reads-taken_ok {K = K} {e = e} {s = s} {t = t} fine held taken fetched (was_done h) = record {
-  gone = h.gone;
-  loses = h.loses;
-  len = length h.word;
-  least = least_bytes (K.state t).fetched (K.state t).taken (length h.gone) (length h.word) (K.demands t) (h.fetched ∙ ap (λ n. n + length h.gone) fetched) (h.taken ∙ ap (λ n. n + length h.word) taken);
-  front = ap (λ l. e.reads 0 l) (ap (λ l. l ++ bits K.order h.gone) (sym held) ∙ h.parts) ∙ ap (λ p. e.reads p (h.word ++ h.rest)) (sym taken) ∙ h.decides h.rest;
-}
-Reads-taken_ok fine held taken fetched (was_refused h) = let p = h.answer in cc
-Reads-taken_ok fine held taken fetched (memory_refused g h) = let p = h.answer in cc
 
 -- ---- memory of the call's own
 

@@ -1,5 +1,5 @@
 -- A word written in parts.
-use Rattle.std.proofs.Common.{◌≡◌, ℕ, ◌+◌, ◌%◌, ◌^◌, ◌<◌, ◌≤◌, IsTrue, Bool, false, List, [], ◌∷◌, ◌++◌, length, replicate, Result, Ok, Err, refl, sym, ◌∙◌, ap, subst, append-nil, append_assoc, length-append, arith}
+use Rattle.std.proofs.Common.{◌≡◌, ℕ, ◌+◌, ◌^◌, ◌<◌, ◌≤◌, IsTrue, Bool, false, List, [], ◌∷◌, ◌++◌, length, replicate, Result, Ok, Err, refl, sym, ◌∙◌, ap, subst, append-nil, append_assoc, length-append, arith}
 use Rattle.std.specs.Result.{IsErrAnd}
 use Rattle.std.proofs.lemmas.List.{replicate-append-replicate}
 use Rattle.bitstream_number.specs.Word.{Order, word}
@@ -16,10 +16,6 @@ pub record Begun {S : Type 0} (K : Sink S) (old : S) (x : List Bool) (new : S) :
   pub was_sound : K.failed old ≡ false
   pub within : IsWithin K.limit (K.len old + length x)
   pub done : Appended K old x new
-
--- what a fault behind some bits says of them all
-fault_full : (a b x y z n : ℕ) → b ≡ a + x → 8 ≤ b % 8 + y → n ≡ x + (y + z) → 8 ≤ a % 8 + n
-fault_full a b x y z n at full is = omega arith
 
 module _ {S : Type 0} (K : Sink S) where
   pub appended_none : (s : S) → K.failed s ≡ false → Appended K s [] s
@@ -41,7 +37,7 @@ module _ {S : Type 0} (K : Sink S) where
         refusal = k.refusal;
         allowed = k.allowed;
         answer = k.answer;
-        full = fault_full (K.len old) (K.len mid) (length x) (length y) (length z) (length word) at k.full (ap length whole ∙ length-append x (y ++ z) ∙ ap (λ (n : ℕ). length x + n) (length-append y z));
+        full = omega (arith, at, k.full, ap length whole ∙ length-append x (y ++ z) ∙ ap (λ (n : ℕ). length x + n) (length-append y z));
         front = x ++ k.front;
         back = k.back ++ z;
         parts = whole ∙ ap (λ (l : List Bool). x ++ (l ++ z)) k.parts ∙ ap (λ (l : List Bool). x ++ l) (append_assoc k.front k.back z) ∙ sym (append_assoc x k.front (k.back ++ z));

@@ -19,8 +19,7 @@ use Rattle.std.proofs.lemmas.Nat.Bits.{ones_shr}
 use Rattle.bitstream_order.proofs.TakeLemmas.{word-none}
 use Rattle.bitstream_number.specs.Word.{Order, High, Low, digits, word}
 use Rattle.bitstream_number.proofs.WordLemmas.{word_cat}
-use Rattle.bitstream_stream.specs.WriteTable.{unsigned}
-use Rattle.bitstream_stream.proofs.WriteLemmas.{unsigned-fits, word-bit}
+use Rattle.bitstream_stream.proofs.WriteLemmas.{word-bit}
 use Rattle.bitstream_stream.proofs.BytesWritten.{word-zeros, reverse-replicate, appended_more}
 
 -- ---- bits that are all the same
@@ -48,10 +47,6 @@ ones_number size n all v le greatest is =
 
 pub ones_others : (size n all v : ℕ) → n ≤ size → all ≡ 2 ^ size - 1 → v ≡ all / 2 ^ (size - n) → (o : Order) → word o n v ≡ replicate n (not false)
 ones_others size n all v le greatest is o = ap (word o n) (ones_number size n all v le greatest is) ∙ word-ones o n
-
--- they are accepted
-pub accepts_others : (stop : Bool) (o : Order) (size n v len : ℕ) → n ≤ size → v < 2 ^ n → ((o : Order) → word o n v ≡ replicate n (not stop)) → unsigned o size n v len ≡ Ok (replicate n (not stop))
-accepts_others stop o size n v len le small is = unsigned-fits o size n v len le small ∙ ap Ok (is o)
 
 bit_small : (b : Bool) (n : ℕ) → n ≡ bool_byte b → n < 2 ^ 1
 bit_small true n e = omega arith

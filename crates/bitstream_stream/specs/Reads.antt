@@ -1,5 +1,5 @@
 -- What one read does to a reader.
-use Rattle.std.specs.Prelude.{◌≡◌, ℕ, ◌+◌, ◌*◌, ◌/◌, ◌<◌, ◌≤◌, Bool, true, false, if◌then◌else◌, List, [], ◌∷◌, ◌++◌, length, Option, option_map, Some, Result, Ok, Err}
+use Rattle.std.specs.Prelude.{◌≡◌, ℕ, ◌+◌, ◌*◌, ◌/◌, Bool, true, false, if◌then◌else◌, List, [], ◌∷◌, ◌++◌, length, Option, option_map, Some, Result, Ok, Err}
 use Rattle.std.specs.Borrow.{GName, MutBor}
 use Rattle.std.specs.Result.{IsErrAnd}
 use Rattle.std.specs.Io.KnownBytes.{Consumes}
@@ -160,15 +160,6 @@ inner_source f K = record {
   holds = λ s. K.holds (f s);
   empties = λ s. K.empties (f s);
 }
-
--- A new reader's stream lost these bytes to calls that answered: they are those of the front, and no
--- more than it needs.
-pub record TakesBytes {A : Type 0} (o : Order) (entry : ReadEntry A) (old : Option (List ℕ)) (result : Result A Error) (new : Option (List ℕ)) : Type 0 where
-  pub gone : List ℕ
-  pub loses : Consumes old new gone
-  pub len : ℕ
-  pub least : (8 * length gone < len + 8) × (len ≤ 8 * length gone)
-  pub front : entry.reads 0 (bits o gone) ≡ Takes len result
 
 -- the answer of a call that compares, and whose own error is of another type
 abbrev pub ConstAnswer : {E : Type 0} → (Error → E → Type 0) → E → Result Bool Error → Result (Unit {0}) E → Type 0
