@@ -137,10 +137,16 @@ fn writes_codes<W: BitWrite>(writer: &mut W) -> Result<(), Error> {
 /// The signs.
 const SIGNS: [Option<bool>; 3] = [Some(true), None, Some(false)];
 
-/// What the words, the bytes and the codes are.
+/// What the words, the bytes and the codes are, big-endian.
 const WRITTEN: [u8; 31] = [
     0xce, 0x75, 0x80, 0x8f, 0x69, 0x80, 0, 0, 0, 0, 0, 0, 0, 0, 0, 0, 0, 0, 0, 0, 0, 0x06, 0x82,
     0x40, 0x81, 0xff, 0x30, 0xb1, 0xed, 0x30, 0xd0,
+];
+
+/// What they are little-endian.
+const WRITTEN_LOW: [u8; 31] = [
+    0x33, 0xbb, 0x01, 0x3d, 0xa6, 0x01, 0, 0, 0, 0, 0, 0, 0, 0, 0, 0, 0, 0, 0, 0, 0, 0xa0, 0x91,
+    0x00, 0x18, 0xff, 0x03, 0x1b, 0xde, 0x03, 0x0b,
 ];
 
 /// Writes numbers as runs, short and long, by each stop bit.
@@ -228,18 +234,18 @@ fn reads_each<R: BitRead>(reader: &mut R) -> Result<bool, Error> {
     Ok(words && bytes && codes && runs && ends(reader))
 }
 
-/// Whether a reader and a writer of one's own do what the library's do.
-fn inherits(alloc: Global) -> Result<bool, Error> {
+/// Whether a reader and a writer of one's own do what the library's do, whose bytes begin with these.
+fn inherits<E: Endianness + Drop>(alloc: Global, begins: &[u8]) -> Result<bool, Error> {
     let mut plain = Vec::new(alloc);
-    writes_each(&mut BitWriter::<_, BE>::new(&mut plain))?;
+    writes_each(&mut BitWriter::<_, E>::new(&mut plain))?;
     let mut own = Vec::new(alloc);
     writes_each(&mut OwnWriter {
-        inner: BitWriter::<_, BE>::new(&mut own),
+        inner: BitWriter::<_, E>::new(&mut own),
     })?;
-    let written = plain.as_slice().starts_with(&WRITTEN) && own.as_slice() == plain.as_slice();
-    let read = reads_each(&mut BitReader::<_, BE>::new(plain.as_slice()))?;
+    let written = plain.as_slice().starts_with(begins) && own.as_slice() == plain.as_slice();
+    let read = reads_each(&mut BitReader::<_, E>::new(plain.as_slice()))?;
     let inherited = reads_each(&mut OwnReader {
-        inner: BitReader::<_, BE>::new(plain.as_slice()),
+        inner: BitReader::<_, E>::new(plain.as_slice()),
     })?;
     Ok(written && read && inherited)
 }
@@ -288,8 +294,9 @@ fn inherits_bytes(alloc: Global, bytes: &[u8]) -> Result<bool, Error> {
 
 #[test]
 fn inherited_calls_are_the_same(rt: HostRuntime) -> Result<(), Fail> {
-    let same = inherits(rt.alloc())?;
+    let high = inherits::<BE>(rt.alloc(), &WRITTEN)?;
+    let low = inherits::<LE>(rt.alloc(), &WRITTEN_LOW)?;
     let same_bytes = inherits_bytes(rt.alloc(), &WRITTEN)?;
-    assert!(rt; same && same_bytes);
+    assert_eq!(rt; (high, low, same_bytes), (true, true, true));
     Ok(())
 }

@@ -26,27 +26,38 @@ fn writes_behind<W: BitWrite>(writer: &mut W, place: u32, bytes: &[u8]) -> Resul
     writer.byte_align()
 }
 
-/// Reads so many bits and then bytes, and tells whether they are these: 20 of them as a primitive, with
-/// none behind it, and any other number as a vector.
+/// What bytes are read as.
+#[derive(Clone, Copy, Drop)]
+enum Form {
+    /// A primitive of 20 bytes, and then a buffer of none.
+    Primitive,
+    /// A vector.
+    Vector,
+}
+
+/// Reads so many bits and then bytes, and tells whether they are these.
 fn reads_behind<R: BitRead>(
     alloc: Global,
     reader: &mut R,
+    form: Form,
     place: u32,
     bytes: &[u8],
 ) -> Result<bool, Error> {
     let _: u8 = reader.read_unsigned_var(place)?;
-    if bytes.len() != 20 {
-        let read = reader.read_to_vec(alloc, bytes.len())?;
-        return Ok(read.as_slice() == bytes);
+    match form {
+        Form::Primitive => {
+            let read: [u8; 20] = reader.read_to()?;
+            reader.read_bytes(&mut [])?;
+            Ok(read.as_slice() == bytes)
+        }
+        Form::Vector => Ok(reader.read_to_vec(alloc, bytes.len())?.as_slice() == bytes),
     }
-    let read: [u8; 20] = reader.read_to()?;
-    reader.read_bytes(&mut [])?;
-    Ok(read.as_slice() == bytes)
 }
 
 /// Whether so many bits and these bytes behind them are read as they were written, by so many requests.
 fn goes_in<E: Endianness>(
     alloc: Global,
+    form: Form,
     place: u32,
     bytes: &[u8],
     requests: u64,
@@ -58,21 +69,23 @@ fn goes_in<E: Endianness>(
         requests: 0,
         refused: 0,
     };
-    let same = reads_behind(alloc, &mut BitReader::<_, E>::new(&mut count), place, bytes)?;
+    let mut reader = BitReader::<_, E>::new(&mut count);
+    let same = reads_behind(alloc, &mut reader, form, place, bytes)?;
+    let _ = reader;
     Ok(same && count.requests == requests)
 }
 
 #[test]
 fn long_bytes_go_in_pieces(rt: HostRuntime) -> Result<(), Fail> {
-    for (place, len, requests) in [
-        (0, 20, 1),
-        (1, 20, 1 + 3),
-        (0, 9000, 3),
-        (3, 9000, 1 + 4 + 4 + 1),
+    for (form, place, len, requests) in [
+        (Form::Primitive, 0, 20, 1),
+        (Form::Primitive, 1, 20, 1 + 3),
+        (Form::Vector, 0, 9000, 3),
+        (Form::Vector, 3, 9000, 1 + 4 + 4 + 1),
     ] {
         let bytes = pattern(rt.alloc(), len)?;
-        let high = goes_in::<BE>(rt.alloc(), place, bytes.as_slice(), requests)?;
-        let low = goes_in::<LE>(rt.alloc(), place, bytes.as_slice(), requests)?;
+        let high = goes_in::<BE>(rt.alloc(), form, place, bytes.as_slice(), requests)?;
+        let low = goes_in::<LE>(rt.alloc(), form, place, bytes.as_slice(), requests)?;
         assert!(rt; high && low, "{len} bytes behind {place} bits");
     }
     Ok(())
@@ -107,10 +120,13 @@ fn bytes_grow<R: ByteRead>(alloc: Global, served: u32, reader: &mut R) -> bool {
 }
 
 #[test]
-fn each_growth_may_lack_memory(rt: HostRuntime) {
+fn false_lengths_end(rt: HostRuntime) {
     let mut short = BitReader::<_, BE>::new([7u8; 10].as_slice());
-    let fails = fails_at_the_end(rt.alloc(), &mut short);
-    assert!(rt; fails);
+    assert!(rt; fails_at_the_end(rt.alloc(), &mut short));
+}
+
+#[test]
+fn each_growth_may_lack_memory(rt: HostRuntime) {
     for served in 0..4 {
         let mut bits = BitReader::<_, BE>::new(Endless { byte: 0xa5 });
         let mut bytes = ByteReader::<_, BE>::new(Endless { byte: 0xa5 });
