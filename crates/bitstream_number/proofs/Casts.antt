@@ -54,6 +54,6 @@ negative-is w v k some h below =
     let top = pow_pos (hbits w) in
     rw p.0 (not-is w (2 ^ (k - 1) - 1 - v) (fits_step (2 ^ (k - 1)) (2 ^ hbits w) v p.1 top) ∙ negative_step v (2 ^ (k - 1)) below)
 
--- the bits that were read, where r was made of them
+-- the bits that were read, if r was made of them
 pub cast_back : (w : Width) (n : ℕ) (r : ℤ) → n < 2 ^ bit_len w → r ≡ cast_signed w n → cast_unsigned w (cast_signed w (cast_unsigned w r)) ≡ n
 cast_back w n r h e = ap (λ z. cast_unsigned w (cast_signed w (cast_unsigned w z))) e ∙ ap (λ m. cast_unsigned w (cast_signed w m)) (of_z-to_z w n h) ∙ of_z-to_z w n h

@@ -51,7 +51,7 @@ unsigned-can_rem (suc n) h = omega arith
 
 -- ---- signed types
 
--- the numbers of a type are twice as many as those that are not negative
+-- a type has twice as many numbers as it has numbers that are not negative
 pub half-one : (w : Width) → 2 ^ bit_len w ≡ 2 * 2 ^ hbits w
 half-one w8 = refl
 half-one w16 = refl
@@ -89,7 +89,7 @@ signed-bits w (negsuc n) h =
     let below : n < 2 ^ bit_len w = omega arith in
     rw mod-eq_of_lt (suc-step (2 ^ bit_len w) n)
 
--- the number that the bits of a type are
+-- the signed number whose two's complement the bits of a type are
 pub signed-wrap : (w : Width) (m : ℕ) → cast_signed w m ≡ signed_from (bit_len w) m
 signed-wrap w8 m = rw (suc-step (2 ^ 8) m) refl
 signed-wrap w16 m = rw (suc-step (2 ^ 16) m) refl

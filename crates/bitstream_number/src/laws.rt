@@ -1,14 +1,14 @@
-//! What holds of words, bytes and numbers, whatever reads or writes them.
+//! Laws of words, bytes and numbers, whatever reads or writes them.
 //!
-//! Each function states a law by its contract. Those of words alone have nothing to do; those of
-//! numbers make the calls that the law speaks of, for any type of their bound.
+//! The contract of each function is a law. A law of words alone has an empty body. A law of numbers
+//! makes the calls that it is about, for any type of its bound.
 
 ghost use Rattle.std.specs.Prelude.{◌≡◌, ℕ, ℤ, pos, ◌+◌, ◌*◌, ◌%◌, ◌^◌, ◌<◌, ◌≤◌, ◌+ℤ◌, ◌*ℤ◌, ◌≤ℤ◌, ◌<ℤ◌, Bool, List, ◌++◌, length};
 ghost use Rattle.bitstream_number.specs.Word.{Order, High, Low, word, number, bits, bytes, FitsSignedBits, signed_word, signed_number, zig, zag};
 
 use crate::number::{Numeric, Primitive, SignedInteger, UnsignedInteger};
 
-/// A word of n bits has n bits, and gives back the number that it was made of, modulo 2^n.
+/// The word of a number at n bits has n bits, and gives the number back, modulo 2^n.
 pub fn words_hold_numbers()
     ensures length { (o : Order) (n v : ℕ) → length (word o n v) ≡ n }
     ensures number { (o : Order) (n v : ℕ) → number o (word o n v) ≡ v % 2 ^ n }
@@ -19,7 +19,7 @@ pub fn words_hold_numbers()
         → signed_number o (signed_word o n x) ≡ x }
 {}
 
-/// To read some bits as one number is to read them as two.
+/// The number of two words, one after the other, is made of the two words' numbers.
 pub fn words_split()
     ensures high { (first second : List Bool) → number High (first ++ second)
         ≡ number High first * 2 ^ length second + number High second }
@@ -27,19 +27,19 @@ pub fn words_split()
         ≡ number Low first + number Low second * 2 ^ length first }
 {}
 
-/// A number's bytes have the bits of its word.
+/// The bits of a number's bytes are the number's word.
 pub fn bytes_are_words()
     ensures { (o : Order) (n v : ℕ) → bits o (bytes o n v) ≡ word o (8 * n) v }
 {}
 
-/// Each number of either sign has a number of its own in the order 0, -1, 1, -2, 2, .., and none is
-/// left out.
+/// Every signed number has a place of its own in the order 0, -1, 1, -2, 2, .. (zigzag), and every
+/// place is taken.
 pub fn zigzags_go_back()
     ensures signed { (x : ℤ) → zag (zig x) ≡ x }
     ensures unsigned { (n : ℕ) → zig (zag n) ≡ n }
 {}
 
-/// To mask a value by the lowest bits is to take it modulo a power of 2.
+/// Masking a value with its lowest bits takes it modulo a power of 2.
 pub fn masks_are_remainders<U: UnsignedInteger>(value: U, bits: u32) -> U
     requires some { 1 ≤ bits }
     requires within { bits ≤ U.BITS_SIZE }
@@ -48,7 +48,7 @@ pub fn masks_are_remainders<U: UnsignedInteger>(value: U, bits: u32) -> U
     value & (U::ALL >> (U::BITS_SIZE - bits))
 }
 
-/// Where one value stands above the bits of another, the two joined by `|` are their sum.
+/// If one value lies above the bits of another, `|` of the two is their sum.
 pub fn ors_are_sums<U: UnsignedInteger>(high: U, low: U) -> U
     requires { (n : ℕ) × (U.value high % 2 ^ n ≡ 0) × (U.value low < 2 ^ n) }
     ensures { U.value result ≡ U.value high + U.value low }
@@ -56,7 +56,7 @@ pub fn ors_are_sums<U: UnsignedInteger>(high: U, low: U) -> U
     high | low
 }
 
-/// A shift by the type's size or more leaves nothing.
+/// A shift by the type's size or more leaves 0.
 pub fn shifts_past_the_size_are_zero<U: UnsignedInteger>(value: U, by: u32) -> (U, U)
     requires { U.BITS_SIZE ≤ by }
     ensures left { U.value result.0 ≡ 0 }
@@ -66,7 +66,7 @@ pub fn shifts_past_the_size_are_zero<U: UnsignedInteger>(value: U, by: u32) -> (
     (value.shl_default(by), value.shr_default(by))
 }
 
-/// A signed value shifted to the right is divided by a power of 2 and rounded down.
+/// A right shift of a signed value divides it by a power of 2 and rounds down.
 pub fn signed_shifts_round_down<S: SignedInteger>(value: S, by: u32) -> S
     requires { by < S.BITS_SIZE }
     ensures below { (S.integer result *ℤ pos (2 ^ by)) ≤ℤ S.integer value }
@@ -75,7 +75,7 @@ pub fn signed_shifts_round_down<S: SignedInteger>(value: S, by: u32) -> S
     value >> by
 }
 
-/// An unsigned value that is turned into bytes, in either order, comes back from them.
+/// An unsigned value comes back from its bytes, in either byte order.
 pub fn unsigned_bytes_go_back<U: UnsignedInteger>(value: U) -> (U, U)
     ensures high { U.value result.0 ≡ U.value value }
     ensures low { U.value result.1 ≡ U.value value }
@@ -88,7 +88,7 @@ pub fn unsigned_bytes_go_back<U: UnsignedInteger>(value: U) -> (U, U)
     (high, low)
 }
 
-/// A signed value that is turned into bytes, in either order, comes back from them.
+/// A signed value comes back from its bytes, in either byte order.
 pub fn signed_bytes_go_back<S: SignedInteger>(value: S) -> (S, S)
     ensures high { S.integer result.0 ≡ S.integer value }
     ensures low { S.integer result.1 ≡ S.integer value }
@@ -101,7 +101,7 @@ pub fn signed_bytes_go_back<S: SignedInteger>(value: S) -> (S, S)
     (high, low)
 }
 
-/// Bytes that are turned into a value, in either order, come back from it.
+/// Bytes come back from the value that is made of them, in either byte order.
 pub fn values_go_back<V: Primitive>(high: V::Bytes, low: V::Bytes) -> (V::Bytes, V::Bytes)
     ensures high { V.Bytes.items result.0 ≡ V.Bytes.items high }
     ensures low { V.Bytes.items result.1 ≡ V.Bytes.items low }

@@ -1,4 +1,4 @@
-//! Numbers: the integer types with what generic code may count on, and the laws of their bits,
+//! The integer types as numbers, with what generic code may count on, and the laws of their bits,
 //! words and bytes.
 #![tactic(auto)]
 

@@ -27,7 +27,7 @@ pub trait Numeric: Primitive
     + BitXor<Self, Output = Self>
     + Not<Output = Self>
     + Sub<Self, Output = Self> {
-    /// How many bits a value has.
+    /// The number of bits of a value.
     const BITS_SIZE: u32;
 
     ghost BITS_SIZE: { ℕ };
@@ -42,23 +42,22 @@ pub trait Numeric: Primitive
 
     ghost ONE: { Self };
 
-    // The number of a value, the numbers that the type has, and what it keeps of a number.
+    // The number of a value, the numbers in the type's range, and a number wrapped into that range.
     ghost integer: { Self → ℤ };
 
     ghost fits: { ℤ → Type 0 };
 
     ghost wrap: { ℤ → ℤ };
 
-    /// Does nothing when the program runs. Its contract says that a value's number is one that the
-    /// type has.
+    /// Does nothing at run time. Its contract says that the value's number is in the type's range.
     fn known(self)
         ensures { fits (integer self) };
 
-    /// Returns the value of a byte's number. `i8` keeps it modulo 256.
+    /// Converts from a byte. `i8` takes the byte as a two's complement.
     fn from_u8(u: u8) -> Self
         ensures { integer result ≡ wrap (pos u) };
 
-    /// Returns the byte of this number, which is from 0 to 255.
+    /// Converts to a byte. The number must be from 0 to 255.
     fn to_u8(self) -> u8
         requires { (n : ℕ) × (n < 256) × (integer self ≡ pos n) }
         ensures { integer self ≡ pos result };
@@ -78,7 +77,7 @@ pub trait Numeric: Primitive
     ghost order_law: { (a b : Self)
         → Self.partial_cmp a b ≡ Some (int_cmp (integer a) (integer b)) };
 
-    // The operators on bits may always be used, and a shift below the size.
+    // The bitwise operators can always be computed, and so can a shift by less than the size.
     ghost can_shl_law: { (a : Self) (k : ℕ) → k < BITS_SIZE → Self.can_shl a k };
 
     ghost can_shr_law: { (a : Self) (k : ℕ) → k < BITS_SIZE → Self.can_shr a k };
@@ -91,20 +90,20 @@ pub trait Numeric: Primitive
 
     ghost can_not_law: { (a : Self) → Self.can_not a };
 
-    // A difference that fits may be computed, and is exact.
+    // A difference that fits in the type can be computed, and is exact.
     ghost can_sub_law: { (a b : Self) → fits (integer a -ℤ integer b) → Self.can_sub a b };
 
     ghost sub_law: { (a b r : Self) → Self.sub_gives a b r → fits (integer a -ℤ integer b)
         → integer r ≡ integer a -ℤ integer b };
 
-    // A remainder by a number other than 0 and -1 may be computed.
+    // A remainder by a number other than 0 and -1 can be computed.
     ghost can_rem_law: { (a b : Self) → fits (integer a) → fits (integer b)
         → integer b ≢ pos 0 → integer b ≢ negsuc 0 → Self.can_rem a b };
 
     ghost rem_law: { (a b r : Self) → Self.rem_gives a b r
         → integer r ≡ int_rem (integer a) (integer b) };
 
-    // An operator with `=` asks and gives what the one without does.
+    // An assigning operator (`<<=`, ..) requires and gives what the plain one does.
     ghost can_shl_assign_law: { (a : Self) (k : ℕ) → Self.can_shl a k → Self.can_shl_assign a k };
 
     ghost shl_assign_law: { (a : Self) (k : ℕ) (r : Self) → Self.shl_assign_gives a k r

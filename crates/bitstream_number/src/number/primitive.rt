@@ -3,9 +3,9 @@
 ghost use Rattle.std.specs.Prelude.{refl, ◌≡◌, ℕ, List, length};
 ghost use Rattle.std.specs.Borrow.{sem, Lends, Array, u8 as byte};
 
-/// Bytes in a place of a fixed size. An array of bytes is one.
+/// A buffer of a fixed number of bytes, as an array of bytes is.
 pub trait Buffer: Copy {
-    // The bytes in a buffer, and the buffer of some bytes.
+    // The bytes in a buffer, and the buffer that holds given bytes.
     ghost items: { Self → List ℕ };
 
     ghost of: { List ℕ → Self };
@@ -14,7 +14,7 @@ pub trait Buffer: Copy {
     fn bytes(&self) -> &[u8]
         ensures { result.now ≡ items self.now };
 
-    /// Returns the bytes, to be written.
+    /// Returns the bytes as a mutable slice.
     fn bytes_mut(&mut self) -> &mut [u8]
         ensures value { result.now ≡ items self.old }
         ensures* writes_back { sem 𝓛 (Lends Self.row (Array byte 0) self.entry result of) };
@@ -38,41 +38,41 @@ impl<const N: usize> Buffer for [u8; N] {
     ghost items_law = { λ bs. refl };
 }
 
-/// A value of a fixed number of bytes: an integer, or an array of bytes, which is its own bytes in
-/// either order.
+/// A value of a fixed number of bytes: an integer, or an array of bytes. An array has the same
+/// bytes in either byte order: its own.
 pub trait Primitive: Sized {
-    /// A buffer for its bytes.
+    /// The buffer that holds the bytes of a value.
     type Bytes: Buffer;
 
-    /// How many bytes it has.
+    /// The number of bytes of a value.
     const BYTES: usize;
 
     ghost BYTES: { ℕ };
 
-    // The bytes of a value, highest first and lowest first.
+    // The bytes of a value, big-endian and little-endian.
     ghost be_bytes: { Self → List ℕ };
 
     ghost le_bytes: { Self → List ℕ };
 
-    /// Returns a buffer of its size, to be filled.
+    /// Returns a buffer of `BYTES` bytes, to be filled.
     fn buffer() -> Self::Bytes
         ensures { length (Self.Bytes.items result) ≡ BYTES };
 
-    /// Returns its bytes, the highest first.
+    /// Returns the bytes of the value, most significant byte first (big-endian).
     fn to_be_bytes(self) -> Self::Bytes
         ensures bytes { Self.Bytes.items result ≡ be_bytes self }
         ensures len { length (Self.Bytes.items result) ≡ BYTES };
 
-    /// Returns its bytes, the lowest first.
+    /// Returns the bytes of the value, least significant byte first (little-endian).
     fn to_le_bytes(self) -> Self::Bytes
         ensures bytes { Self.Bytes.items result ≡ le_bytes self }
         ensures len { length (Self.Bytes.items result) ≡ BYTES };
 
-    /// Returns the value that has these bytes, the highest first.
+    /// Returns the value with these bytes, most significant byte first (big-endian).
     fn from_be_bytes(bytes: Self::Bytes) -> Self
         ensures { be_bytes result ≡ Self.Bytes.items bytes };
 
-    /// Returns the value that has these bytes, the lowest first.
+    /// Returns the value with these bytes, least significant byte first (little-endian).
     fn from_le_bytes(bytes: Self::Bytes) -> Self
         ensures { le_bytes result ≡ Self.Bytes.items bytes };
 
@@ -83,7 +83,7 @@ pub trait Primitive: Sized {
         bytes.bytes()
     }
 
-    /// Returns the bytes in a buffer, to be written.
+    /// Returns the bytes in a buffer as a mutable slice.
     final fn as_bytes_mut(bytes: &mut Self::Bytes) -> &mut [u8]
         ensures value { result.now ≡ Self.Bytes.items bytes.old }
         ensures* writes_back { sem 𝓛

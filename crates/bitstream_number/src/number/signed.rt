@@ -10,20 +10,20 @@ use crate::number::width::Width;
 
 /// A signed integer type: `i8`, `i16`, `i32`, `i64` or `i128`.
 pub trait SignedInteger: Numeric {
-    /// The unsigned type of as many bits.
+    /// The unsigned type of the same size.
     type Unsigned: UnsignedInteger<Signed = Self>;
 
-    /// Returns whether the number is below 0.
+    /// Returns whether the number is negative.
     fn is_negative(self) -> bool
         ensures { IsTrue result ↔ (Self.integer self <ℤ pos 0) };
 
-    /// Returns the number, which is not below 0, in the unsigned type.
+    /// Converts a number that is not negative to the unsigned type.
     fn as_non_negative(self) -> Self::Unsigned
         requires { pos 0 ≤ℤ Self.integer self }
         ensures { pos (Self.Unsigned.value result) ≡ Self.integer self };
 
-    /// Returns the sum of the number, which is below 0, and 2^(bits - 1): its two's complement in
-    /// so many bits without the sign bit.
+    /// Returns the two's complement of a negative number in the given number of bits, without its
+    /// sign bit: the number plus 2^(bits - 1).
     fn as_negative(self, bits: u32) -> Self::Unsigned
         requires some { 1 ≤ bits }
         requires within { bits ≤ Self.BITS_SIZE }
@@ -31,7 +31,7 @@ pub trait SignedInteger: Numeric {
         requires above { pos 0 ≤ℤ (Self.integer self +ℤ pos (2 ^ (bits - 1))) }
         ensures { pos (Self.Unsigned.value result) ≡ Self.integer self +ℤ pos (2 ^ (bits - 1)) };
 
-    /// Returns what [`as_negative`](SignedInteger::as_negative) does at as many bits as B says.
+    /// Does what [`as_negative`](SignedInteger::as_negative) does, for `B::BITS` bits.
     fn as_negative_fixed<B: Width>(self) -> Self::Unsigned
         requires some { 1 ≤ B.BITS }
         requires within { B.BITS ≤ Self.BITS_SIZE }

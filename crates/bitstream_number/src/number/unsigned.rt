@@ -20,22 +20,22 @@ use crate::number::width::Width;
 /// assert_eq!(rt; UnsignedInteger::shl_default(3u8, 8), 0);
 /// ```
 pub trait UnsignedInteger: Numeric {
-    /// The value whose highest bit alone is 1.
+    /// The value with its most significant bit set, and no other.
     const MSB_BIT: Self;
 
     ghost MSB_BIT: { Self };
 
-    /// The value whose lowest bit alone is 1.
+    /// The value with its least significant bit set, and no other.
     const LSB_BIT: Self;
 
     ghost LSB_BIT: { Self };
 
-    /// The value whose bits are all 1, the greatest one.
+    /// The value with all bits set: the greatest one.
     const ALL: Self;
 
     ghost ALL: { Self };
 
-    /// The signed type of as many bits.
+    /// The signed type of the same size.
     type Signed: Copy;
 
     // The number of a value, the value of a number, and the number of a signed value.
@@ -45,20 +45,20 @@ pub trait UnsignedInteger: Numeric {
 
     ghost signed: { Self.Signed → ℤ };
 
-    /// Returns the number, whose highest bit is 0, in the signed type.
+    /// Converts a number to the signed type. Its most significant bit must be 0.
     fn as_non_negative(self) -> Self::Signed
         requires { value self < 2 ^ (Self.BITS_SIZE - 1) }
         ensures { signed result ≡ pos (value self) };
 
-    /// Returns the number less 2^(bits - 1), which is below 0: the number whose two's complement in
-    /// so many bits is a sign bit and then these.
+    /// Returns the negative number whose two's complement, in the given number of bits, is this
+    /// number with the sign bit above it: this number minus 2^(bits - 1).
     fn as_negative(self, bits: u32) -> Self::Signed
         requires some { 1 ≤ bits }
         requires within { bits ≤ Self.BITS_SIZE }
         requires below { value self < 2 ^ (bits - 1) }
         ensures { signed result ≡ pos (value self) -ℤ pos (2 ^ (bits - 1)) };
 
-    /// Returns what [`as_negative`](UnsignedInteger::as_negative) does at as many bits as B says.
+    /// Does what [`as_negative`](UnsignedInteger::as_negative) does, for `B::BITS` bits.
     fn as_negative_fixed<B: Width>(self) -> Self::Signed
         requires some { 1 ≤ B.BITS }
         requires within { B.BITS ≤ Self.BITS_SIZE }
@@ -68,16 +68,16 @@ pub trait UnsignedInteger: Numeric {
         self.as_negative(B::BITS)
     }
 
-    /// Returns the value shifted to the left, or `None` where that is by its size or more.
+    /// Shifts to the left. Returns `None` if `rhs` is the type's size or more.
     fn checked_shl(self, rhs: u32) -> Option<Self>
         ensures { SomeIff result (rhs < Self.BITS_SIZE)
             (of ((value self * 2 ^ rhs) % 2 ^ Self.BITS_SIZE)) };
 
-    /// Returns the value shifted to the right, or `None` where that is by its size or more.
+    /// Shifts to the right. Returns `None` if `rhs` is the type's size or more.
     fn checked_shr(self, rhs: u32) -> Option<Self>
         ensures { SomeIff result (rhs < Self.BITS_SIZE) (of (value self / 2 ^ rhs)) };
 
-    /// Returns the value shifted to the left, which is 0 where that is by its size or more.
+    /// Shifts to the left. Returns 0 if `rhs` is the type's size or more.
     fn shl_default(self, rhs: u32) -> Self
         ensures { value result ≡ (value self * 2 ^ rhs) % 2 ^ Self.BITS_SIZE }
     {
@@ -87,7 +87,7 @@ pub trait UnsignedInteger: Numeric {
         }
     }
 
-    /// Returns the value shifted to the right, which is 0 where that is by its size or more.
+    /// Shifts to the right. Returns 0 if `rhs` is the type's size or more.
     fn shr_default(self, rhs: u32) -> Self
         ensures { value result ≡ value self / 2 ^ rhs }
     {
@@ -109,7 +109,7 @@ pub trait UnsignedInteger: Numeric {
     ghost order_value_law: { (a b : Self)
         → Self.partial_cmp a b ≡ Some (nat_cmp (value a) (value b)) };
 
-    // The number of a byte, and that a value is one of the type's.
+    // The number of a byte, and that a value is in the type's range.
     ghost byte_law: { (x : Self) (u : ℕ) → Self.integer x ≡ Self.wrap (pos u) → u < 256
         → value x ≡ u };
 

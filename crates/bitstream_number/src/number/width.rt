@@ -1,4 +1,4 @@
-//! Numbers of bits that types stand for.
+//! Numbers of bits as types.
 
 ghost use Rattle.std.specs.Prelude.{ℕ};
 
@@ -8,15 +8,15 @@ mod sealed {
     impl<const N: u32> Sealed for super::Bits<N> {}
 }
 
-/// A number of bits that a type stands for. `Bits<N>` alone is one.
+/// A number of bits, as a type. `Bits<N>` is the only one.
 pub trait Width: sealed::Sealed {
-    /// How many bits the type stands for.
+    /// The number of bits.
     const BITS: u32;
 
     ghost BITS: { ℕ };
 }
 
-/// N bits, as a type: a trait's method takes it where a function would take a const parameter.
+/// N bits, as a type. A method of a trait takes it in place of a const parameter.
 pub struct Bits<const N: u32>;
 
 impl<const N: u32> Width for Bits<N> {
