@@ -1,4 +1,4 @@
--- A signed number fits n bits where nothing but its sign stands above the lowest n - 1.
+-- A signed number fits n bits if nothing but its sign stands above the lowest n - 1.
 use Rattle.std.specs.Prelude.{ℤ, pos, negsuc, ◌≢◌}
 use Rattle.std.specs.Int.{int_shr}
 use Rattle.std.proofs.Common.{◌≡◌, ℕ, ◌-◌, ◌*◌, ◌/◌, ◌^◌, ◌<◌, ◌≤◌, ◌⊎◌, inl, inr, ap, sym, ◌∙◌, arith, mod-lt}

@@ -41,7 +41,7 @@ lead_le true (false ∷ bits) = omega (arith, lead_le true bits)
 lead_le false (true ∷ bits) = omega (arith, lead_le false bits)
 lead_le false (false ∷ bits) = omega arith
 
--- bits that come before a stop digit
+-- bits that come before a stop bit
 lead_front : (stop : Bool) (front back : List Bool) → length front ≤ lead stop (front ++ back) → lead stop front ≡ length front
 lead_front stop [] back h = refl
 lead_front true (true ∷ front) back h = absurd (omega arith)
@@ -68,7 +68,7 @@ front_is_unary false (false ∷ bits) h = refl
 
 -- ---- reading
 
--- digits that come before the stop digit are too few
+-- digits that come before the stop bit are too few
 pub short_front : (stop : Bool) (front back : List Bool) → length front ≤ lead stop (front ++ back) → length front < 2 ^ 32 → read_unary stop front ≡ TooFew
 short_front stop front back none few =
     let all : lead stop front ≡ length front = lead_front stop front back none in
@@ -90,7 +90,7 @@ begins_unary stop k front b back small is =
     let less : length front < k + 1 = omega (arith, front_length front b back (unary stop k) is, length-unary stop k) in
     short_front stop front (b ∷ back) (omega (arith, all, less)) (omega (arith, less, small))
 
--- digits that are not the stop digit are too few
+-- digits that are not the stop bit are too few
 pub others_short : (stop : Bool) (n : ℕ) → n < 2 ^ 32 → read_unary stop (replicate n (not stop)) ≡ TooFew
 others_short stop n few = short_front stop (replicate n (not stop)) [] (omega (arith, length-replicate n (not stop), lead-others stop n [])) (omega (arith, length-replicate n (not stop), few))
 

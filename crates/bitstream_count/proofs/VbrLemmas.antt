@@ -253,7 +253,7 @@ module _ (o : Order) (field : ℕ) (some : 0 < field) where
       let size : k ≡ n = cc in
       (ap₂ found size fits.1, omega (arith, ltb-true x limit fits.0, fits.1))
 
-  -- a number is answered only where its word stands at the front
+  -- a number is answered only if the bits begin with its word
   pub read_vbr_only : (width limit : ℕ) (bits : List Bool) (n v : ℕ) → 2 ≤ field → read_vbr o field width limit bits ≡ found n v → IsAccepted o field width limit (take n bits) v × (n ≤ length bits)
   read_vbr_only width limit bits n v wide e =
       let parts = below_found limit (groups_at (div_ceil width (field - 1)) o field bits) n v e in

@@ -1,4 +1,4 @@
--- What a call means: an entry of the table of reads, or of the table of writes.
+-- What a call means: an entry of the read table or of the write table.
 use Rattle.std.specs.Prelude.{ℕ, ◌+◌, Bool, List, length, take, drop, nat_le, if◌then◌else◌, Result, Ok, Err}
 use Rattle.bitstream_count.specs.declared.error.Error.{Error}
 use Rattle.bitstream_count.specs.declared.error.Error.TheVariants.{Failed}
@@ -8,20 +8,21 @@ pub data Front (A : Type 0) : Type 0 where
   TooFew : Front A
   Takes : (n : ℕ) → (answer : Result A Error) → Front A
 
--- a read call: its front of the bits to read, behind so many bits taken before; and its answer on a failed reader
+-- a read call: its front of the bits left, which may depend on the number of bits taken before; and its answer on a
+-- failed reader
 pub record ReadEntry (A : Type 0) : Type 0 where
   pub reads : ℕ → List Bool → Front A
   pub on_failed : Result A Error
 
--- a write call: its word behind so many bits written before, or its refusal
+-- a write call: its word, which may depend on the number of bits written before, or its error
 abbrev pub WriteEntry : Type 0
 WriteEntry = ℕ → Result (List Bool) Error
 
--- n bits, whose answer is g of them
+-- n bits, answered as g of them
 abbrev pub word_front : {A : Type 0} → ℕ → (List Bool → Result A Error) → List Bool → Front A
 word_front n g bits = if nat_le n (length bits) then Takes n (g (take n bits)) else TooFew
 
--- a call, which answers Failed on a failed reader
+-- a read call with this front, which answers `Failed` on a failed reader
 abbrev pub call : {A : Type 0} → (ℕ → List Bool → Front A) → ReadEntry A
 call f = record { reads = f; on_failed = Err Failed }
 
@@ -29,31 +30,31 @@ call f = record { reads = f; on_failed = Err Failed }
 abbrev pub takes : {A : Type 0} → ℕ → (List Bool → Result A Error) → ReadEntry A
 takes n g = call (λ _ bits. word_front n g bits)
 
--- a refusal that takes nothing
+-- an error that takes no bits
 abbrev pub refuses : {A : Type 0} → Error → ReadEntry A
 refuses e = call (λ _ _. Takes 0 (Err e))
 
--- no call at all
+-- no call at all: it takes no bits, and answers this value on a failed reader too
 abbrev pub gives : {A : Type 0} → A → ReadEntry A
 gives a = record { reads = λ _ _. Takes 0 (Ok a); on_failed = Ok a }
 
--- a front behind n bits
+-- a front behind n bits, which it takes too
 abbrev pub longer : {A : Type 0} → ℕ → Front A → Front A
 longer n TooFew = TooFew
 longer n (Takes m answer) = Takes (n + m) answer
 
--- one front, and behind it another that may depend on its answer; an error ends both
+-- one front and then another, which may depend on its answer; an error ends both
 abbrev pub front_then : {A B : Type 0} → Front A → (ℕ → A → Front B) → Front B
 front_then TooFew f = TooFew
 front_then (Takes n (Ok a)) f = longer n (f n a)
 front_then (Takes n (Err e)) f = Takes n (Err e)
 
--- one result, and from its value another; an error stays
+-- one result and then another, made from its value; an error stays
 abbrev pub result_then : {A B : Type 0} → Result A Error → (A → Result B Error) → Result B Error
 result_then (Ok a) f = f a
 result_then (Err e) f = Err e
 
--- one call and then, unless it refuses, another that may depend on its answer
+-- one call and then, unless it answers an error, another, which may depend on its answer
 unfoldable pub chain : {A B : Type 0} → ReadEntry A → (A → ReadEntry B) → ReadEntry B
 chain e f = record {
   reads = λ p bits. front_then (e.reads p bits) (λ n a. (f a).reads (p + n) (drop n bits));

@@ -1,4 +1,4 @@
--- The kind of an input or output error that stands for each error.
+-- The kind of the `io::Error` for each error.
 use Rattle.std.specs.declared.io.ErrorKind.{ErrorKind}
 use Rattle.std.specs.declared.io.ErrorKind.TheVariants.{InvalidInput, InvalidData, StorageFull, UnexpectedEof, Other}
 use Rattle.std.specs.declared.io.ErrorKind.TheVariants as kinds

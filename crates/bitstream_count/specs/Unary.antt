@@ -1,19 +1,20 @@
--- Numbers as runs of one digit.
+-- Unary numbers.
 use Rattle.std.specs.Prelude.{ℕ, suc, ◌+◌, ◌^◌, Bool, not, List, [], ◌∷◌, ◌++◌, length, replicate, Ok, Err, nat_lt, if◌then◌else◌}
 use mathlib.Core.Bool.{beq}
 use Rattle.bitstream_count.specs.declared.error.Error.TheVariants.{RunTooLong}
 use Rattle.bitstream_count.specs.Entry.{Front, TooFew, Takes}
 
--- k digits that are not the stop digit, and then that
+-- k bits that are not the stop bit, and then the stop bit
 abbrev pub unary : Bool → ℕ → List Bool
 unary stop k = replicate k (not stop) ++ stop ∷ []
 
--- how many digits stand before the first stop digit, or in all
+-- the number of bits before the first stop bit, or of all bits if there is none
 abbrev pub lead : Bool → List Bool → ℕ
 lead stop [] = 0
 lead stop (b ∷ bits) = if beq b stop then 0 else suc (lead stop bits)
 
--- the number whose word the bits begin with. A run of 2^32 digits or more is too long: it takes just these.
+-- the front of a unary read: the number whose word the bits begin with. A run of 2^32 bits or more is too long: it
+-- takes just these.
 abbrev pub read_unary : Bool → List Bool → Front ℕ
 read_unary stop bits =
     let k = lead stop bits in

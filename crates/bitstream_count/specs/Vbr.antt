@@ -1,12 +1,12 @@
--- Numbers of variable width: in groups of bits.
+-- Numbers of variable width: words made of groups of bits.
 use Rattle.std.specs.Prelude.{◌≡◌, ℕ, zero, suc, ◌+◌, ◌-◌, ◌*◌, ◌/◌, ◌%◌, ◌^◌, ◌<◌, List, Bool, ◌++◌, length, take, drop, Ok, Err, nat_lt, if◌then◌else◌}
 use Rattle.std.specs.Int.{div_ceil}
 use Rattle.bitstream_number.specs.Word.{Order, word, number}
 use Rattle.bitstream_count.specs.declared.error.Error.TheVariants.{VariableWidthOverflow}
 use Rattle.bitstream_count.specs.Entry.{Front, TooFew, Takes}
 
--- The word is a group of `field` bits and `more` further groups. A group is a digit that says whether another
--- follows, and below it `field - 1` digits of v, the lowest digits of v in the first group.
+-- The word is a group of `field` bits and `more` further groups. A group is a bit that says whether another group
+-- follows, and below it `field - 1` digits of v. The first group has the lowest digits of v.
 abbrev pub IsGroups : Order → ℕ → ℕ → List Bool → ℕ → Type 0
 IsGroups o field zero w v = (v < 2 ^ (field - 1)) × (w ≡ word o field v)
 IsGroups o field (suc more) w v =
@@ -20,33 +20,34 @@ IsGroups o field (suc more) w v =
 abbrev pub Vbr : Order → ℕ → List Bool → ℕ → Type 0
 Vbr o field w v = (more : ℕ) × IsGroups o field more w v
 
--- so it is accepted as a number below the limit of a type of `width` bits: each group begins within the type
+-- the word spells v and is accepted for a type of `width` bits: v is below the limit, and each group begins within the
+-- type
 abbrev pub IsAccepted : Order → ℕ → ℕ → ℕ → List Bool → ℕ → Type 0
 IsAccepted o field width limit w v =
     (more : ℕ) × IsGroups o field more w v × (more * (field - 1) < width) × (v < limit)
 
 -- ---- writing
 
--- the groups of v until its rest is 0, and at most `more` beside the first
+-- the groups of v, up to the one that holds the rest of v, and at most `more` beside the first
 unfoldable pub groups : ℕ → Order → ℕ → ℕ → List Bool
 groups zero o field v = word o field v
 groups (suc more) o field v =
     let all = word o field (2 ^ (field - 1) + v % 2 ^ (field - 1)) ++ groups more o field (v / 2 ^ (field - 1)) in
     if nat_lt v (2 ^ (field - 1)) then word o field v else all
 
--- what is written for v
+-- the word that is written for v
 abbrev pub vbr_word : Order → ℕ → ℕ → List Bool
 vbr_word o field v = groups v o field v
 
 -- ---- reading
 
--- a group whose digits are low, before others
+-- a group with these low digits, before the front of the other groups
 abbrev pub before : ℕ → ℕ → Front ℕ → Front ℕ
 before field low TooFew = TooFew
 before field low (Takes n (Ok high)) = Takes (field + n) (Ok (low + 2 ^ (field - 1) * high))
 before field low (Takes n (Err e)) = Takes (field + n) (Err e)
 
--- the groups at the front, up to the last one or up to `room` of them
+-- the front of groups: up to the last one, or `VariableWidthOverflow` behind `room` of them
 unfoldable pub groups_at : ℕ → Order → ℕ → List Bool → Front ℕ
 groups_at zero o field bits = Takes 0 (Err VariableWidthOverflow)
 groups_at (suc room) o field bits =
@@ -55,12 +56,13 @@ groups_at (suc room) o field bits =
     if nat_lt (length bits) field then TooFew
     else if nat_lt first (2 ^ (field - 1)) then Takes field (Ok first) else all
 
--- a number below the limit
+-- a front with its number below the limit, else `VariableWidthOverflow`
 abbrev pub below : ℕ → Front ℕ → Front ℕ
 below limit TooFew = TooFew
 below limit (Takes n (Ok v)) = Takes n (if nat_lt v limit then Ok v else Err VariableWidthOverflow)
 below limit (Takes n (Err e)) = Takes n (Err e)
 
--- a number below the limit of a type of `width` bits: so many groups as begin within the type
+-- the front of a variable-width read: a number below the limit of a type of `width` bits, in at most the groups that
+-- begin within the type
 abbrev pub read_vbr : Order → ℕ → ℕ → ℕ → List Bool → Front ℕ
 read_vbr o field width limit bits = below limit (groups_at (div_ceil width (field - 1)) o field bits)

@@ -1,6 +1,6 @@
-//! Why a value and a count do not go together.
+//! Why a value does not fit a count of bits.
 
-/// Why a value is not one of a count's.
+/// Why a value does not fit a count of bits.
 #[derive(Clone, Copy, Debug, PartialEq, Eq, Drop, thiserror::Error)]
 pub enum CheckedError {
     /// The count has more bits than the value's type.

@@ -1,4 +1,4 @@
-//! Numbers of bits, and values that are known to fit one.
+//! Counts of bits, and values that are known to fit one.
 
 mod bit_count;
 mod checked;

@@ -1,4 +1,4 @@
-//! Why a call on a stream of bits is refused.
+//! The errors of calls on streams of bits.
 ghost use Rattle.std.specs.Prelude.{◌≡◌};
 ghost use Rattle.std.specs.IoError.{error_kind};
 ghost use Rattle.bitstream_count.specs.Kind.{kind_of};
@@ -9,12 +9,12 @@ use std::alloc::{AllocError, AllocFailed};
 use std::io;
 use std::io::ErrorKind;
 
-/// Why a call is refused.
+/// Why a call did not succeed.
 ///
 /// After `EndOfInput`, `Stream`, `OutOfMemory` and `RunTooLong`, and after a `Place` from the
 /// stream's end, a bit reader or writer has failed: each later call that reads or writes a value
 /// answers `Failed`. After `VariableWidthOverflow` the reader goes on behind the groups that it
-/// took. After any other refusal of a single call nothing has changed.
+/// took. After any other error of a single call nothing has changed.
 #[derive(Debug, Drop, thiserror::Error)]
 pub enum Error {
     /// More bits were to be read than the type has.
@@ -23,34 +23,34 @@ pub enum Error {
     /// More bits were to be written than the type has, or a value has more bits than its count.
     #[error(transparent)]
     Checked(CheckedError),
-    /// A signed value at no bits.
+    /// A signed value of 0 bits.
     #[error("signed values need at least 1 bit for sign")]
     NoSignBit,
-    /// A `bool` at another number of bits than 1.
+    /// A `bool` of any number of bits but 1.
     #[error("booleans require exactly 1 bit")]
     BoolWidth,
-    /// A `NonZero` at as many bits as its type has, or more.
+    /// A `NonZero` of its type's size in bits, or of more.
     #[error("bit count must be less than the type's size in bits")]
     NonZeroWidth,
-    /// A variable-width value that its type does not hold.
+    /// A variable-width value outside its type's range.
     #[error("variable bit rate overflow")]
     VariableWidthOverflow,
-    /// A sum that the counter's type does not hold.
+    /// A count above the limit of the counter's type.
     #[error("bitstream accumulator overflow")]
     CounterOverflow,
     /// A unary value of 2^32 or more.
     #[error("unary run too long")]
     RunTooLong,
-    /// The stream refused a read as an end.
+    /// The stream refused a read with `UnexpectedEof`.
     #[error("end of input")]
     EndOfInput,
-    /// The stream refused with this kind.
+    /// The stream refused a request with this kind.
     #[error("stream fault")]
     Stream(ErrorKind),
     /// Memory was refused.
     #[error("out of memory")]
     OutOfMemory,
-    /// A place before the first bit, or past the greatest one.
+    /// A position before the first bit, or past the greatest one.
     #[error("bit position out of range")]
     Place,
     /// The reader or writer had failed before.
@@ -59,7 +59,7 @@ pub enum Error {
 }
 
 impl Error {
-    /// Returns the kind of `io::Error` that stands for this error.
+    /// Returns the kind of the `io::Error` that stands for this error.
     pub fn kind(&self) -> ErrorKind
         ensures { result ≡ kind_of self.now }
     {

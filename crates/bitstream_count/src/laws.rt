@@ -1,7 +1,7 @@
-//! What holds of counts and of words that say their own length, whatever uses them.
+//! Laws of counts, and of unary and variable-width words, whatever uses them.
 //!
-//! Each function states a law by its contract. Those of counts make the calls that the law speaks of;
-//! those of words have nothing to do.
+//! The contract of each function is a law. A law of counts makes the calls that it is about. A law
+//! of words has an empty body.
 
 ghost use Rattle.std.specs.Hash as fed;
 ghost use Rattle.std.specs.List.{fold};
@@ -16,14 +16,14 @@ ghost use Rattle.bitstream_count.specs.Vbr.{Vbr, IsAccepted, vbr_word, read_vbr}
 use crate::count::{BitCount, FixedBitCount, FixedSignedBitCount, SignedBitCount};
 use std::hash::{Hash, Hasher};
 
-/// Two counts are equal exactly where their numbers are.
+/// Two counts are equal exactly if their numbers are.
 pub fn equal_counts_are_equal_numbers<const MAX: u32>(a: &BitCount<MAX>, b: &BitCount<MAX>) -> bool
     ensures { IsTrue result ↔ (a.now ≡ b.now) }
 {
     a == b
 }
 
-/// Two signed counts are equal exactly where their numbers are.
+/// Two signed counts are equal exactly if their numbers are.
 pub fn equal_signed_counts_are_equal_numbers<const MAX: u32>(
     a: &SignedBitCount<MAX>,
     b: &SignedBitCount<MAX>,
@@ -57,7 +57,7 @@ pub fn counts_go_back<const MAX: u32>(count: BitCount<MAX>) -> Result<BitCount<M
     BitCount::try_from(u32::from(count))
 }
 
-/// A signed count comes back from its number, and from the count that it is.
+/// A signed count comes back from its number, and from the `BitCount` of the same number of bits.
 pub fn signed_counts_go_back<const MAX: u32>(
     count: SignedBitCount<MAX>,
 ) -> (
@@ -76,7 +76,7 @@ pub fn signed_counts_go_back<const MAX: u32>(
     )
 }
 
-/// A fixed count comes back from the count that it is.
+/// A fixed count comes back from the `BitCount` of the same number of bits.
 pub fn fixed_counts_go_back<const BITS: u32>(
     count: FixedBitCount<BITS>,
 ) -> Result<FixedBitCount<BITS>, BitCount<BITS>>
@@ -85,7 +85,7 @@ pub fn fixed_counts_go_back<const BITS: u32>(
     FixedBitCount::try_from(BitCount::from(count))
 }
 
-/// A fixed signed count comes back from the signed count that it is.
+/// A fixed signed count comes back from the `SignedBitCount` of the same number of bits.
 pub fn fixed_signed_counts_go_back<const BITS: u32>(
     count: FixedSignedBitCount<BITS>,
 ) -> Result<FixedSignedBitCount<BITS>, SignedBitCount<BITS>>
@@ -94,7 +94,7 @@ pub fn fixed_signed_counts_go_back<const BITS: u32>(
     FixedSignedBitCount::try_from(SignedBitCount::from(count))
 }
 
-/// No unary word begins another one of the same stop digit.
+/// No unary word is the beginning of another one with the same stop bit.
 pub fn unary_words_begin_no_other()
     ensures { (stop : Bool) (j k : ℕ) (x y : List Bool)
         → unary stop j ++ x ≡ unary stop k ++ y → j ≡ k }
@@ -106,8 +106,8 @@ pub fn unary_words_read_back()
         → read_unary stop (unary stop k ++ rest) ≡ Takes (length (unary stop k)) (Ok k) }
 {}
 
-/// A number is answered only where its unary word is the front of the bits, and a run is too long
-/// only where 2^32 digits that are not the stop digit are.
+/// A number is answered only if the bits begin with its unary word. `RunTooLong` is answered only
+/// if they begin with 2^32 bits that are not the stop bit.
 pub fn unary_words_alone_are_read()
     ensures number { (stop : Bool) (bits : List Bool) (n k : ℕ)
         → read_unary stop bits ≡ Takes n (Ok k)
@@ -118,29 +118,28 @@ pub fn unary_words_alone_are_read()
         × (take n bits ≡ replicate n (not stop)) }
 {}
 
-/// No word of variable width begins another one of its field size.
+/// No word of variable width is the beginning of another one with groups of the same size.
 pub fn variable_width_words_begin_no_other()
     ensures { (o : Order) (field : ℕ) (u v x y : List Bool) (a b : ℕ) → 0 < field
         → Vbr o field u a → Vbr o field v b → u ++ x ≡ v ++ y → (u ≡ v) × (a ≡ b) }
 {}
 
-/// A word of variable width that is accepted is read again, whatever follows it.
+/// An accepted word of variable width is read back, whatever follows it.
 pub fn variable_width_words_read_back()
     ensures { (o : Order) (field width limit : ℕ) (w : List Bool) (v : ℕ) (rest : List Bool) → 2 ≤ field
         → IsAccepted o field width limit w v
         → read_vbr o field width limit (w ++ rest) ≡ Takes (length w) (Ok v) }
 {}
 
-/// A number of variable width is read only where an accepted word of it stands at the front of the
-/// bits.
+/// A number of variable width is answered only if the bits begin with an accepted word of it.
 pub fn variable_width_words_alone_are_read()
     ensures { (o : Order) (field width limit : ℕ) (bits : List Bool) (n v : ℕ) → 2 ≤ field
         → read_vbr o field width limit bits ≡ Takes n (Ok v)
         → IsAccepted o field width limit (take n bits) v × (n ≤ length bits) }
 {}
 
-/// Of the words of variable width that are accepted for a number, the one that is written is shorter
-/// than each other one; so it is for a number of either sign.
+/// Of all variable-width words that are accepted for a number, the one that is written is the
+/// shortest. The same holds for signed numbers.
 pub fn variable_width_words_are_shortest()
     ensures accepted { (o : Order) (field width limit v : ℕ) → 2 ≤ field → 0 < width
         → limit ≤ 2 ^ width → v < limit → IsAccepted o field width limit (vbr_word o field v) v }

@@ -1,4 +1,4 @@
-//! Numbers of bits of unsigned values.
+//! Counts of bits for unsigned values.
 
 ghost use Rattle.std.specs.Prelude.{◌≡◌, ℕ, ◌+◌, ◌-◌, ◌^◌, ◌<◌, ◌≤◌, false, min, Option, Some, MatchResult, decimal};
 ghost use Rattle.std.specs.Fmt.{styled_decimal};
@@ -13,7 +13,7 @@ use std::fmt;
 use std::marker::Model;
 use std::ops::RangeInclusive;
 
-/// A number of bits from 0 to MAX.
+/// A count of bits, from 0 to MAX.
 ///
 /// # Examples
 ///
@@ -50,7 +50,7 @@ impl<const MAX: u32> BitCount<MAX> {
         BitCount { bits: BITS }
     }
 
-    /// Returns a count of so many bits more, or `None` where that is above NEW_MAX.
+    /// Returns a count of `bits` more bits, or `None` if that is above NEW_MAX.
     pub fn checked_add<const NEW_MAX: u32>(self, bits: u32) -> Option<BitCount<NEW_MAX>>
         ensures { SomeIff result (self.entry + bits ≤ NEW_MAX) (self.entry + bits) }
     {
@@ -60,7 +60,7 @@ impl<const MAX: u32> BitCount<MAX> {
         }
     }
 
-    /// Returns a count of so many bits fewer, or `None` where that is below 0 or above NEW_MAX.
+    /// Returns a count of `bits` fewer bits, or `None` if that is below 0 or above NEW_MAX.
     pub fn checked_sub<const NEW_MAX: u32>(self, bits: u32) -> Option<BitCount<NEW_MAX>>
         ensures { SomeIff result ((bits ≤ self.entry) × (self.entry - bits ≤ NEW_MAX))
             (self.entry - bits) }
@@ -71,8 +71,8 @@ impl<const MAX: u32> BitCount<MAX> {
         }
     }
 
-    /// Returns a count of the bits that f makes of this number of them, or `None` where f returns
-    /// that or a number above NEW_MAX.
+    /// Applies `f` to the number of bits, and returns a count of what it returns; or `None` if `f`
+    /// returns `None` or a number above NEW_MAX.
     pub fn try_map<const NEW_MAX: u32, F: FnOnce(u32) -> Option<u32>>(
         self,
         f: F,
@@ -87,14 +87,14 @@ impl<const MAX: u32> BitCount<MAX> {
         }
     }
 
-    /// Returns the greatest number of bits, MAX.
+    /// Returns MAX, the greatest number of bits.
     pub fn max(&self) -> u32
         ensures { result ≡ MAX }
     {
         MAX
     }
 
-    /// Returns this count, or one of the given bits where they are fewer.
+    /// Returns the smaller of this count and a count of `bits`.
     pub fn min(self, bits: u32) -> Self
         ensures { result ≡ min self.entry bits }
     {
@@ -103,26 +103,26 @@ impl<const MAX: u32> BitCount<MAX> {
         }
     }
 
-    /// Returns the number 0, with this count.
+    /// Returns the value 0 with this count.
     pub fn none<U: UnsignedInteger>(self) -> CheckedUnsigned<MAX, U>
         requires { self ≤ U.BITS_SIZE }
         ensures count { result.0 ≡ self.entry }
         ensures value { U.value result.1 ≡ 0 }
     {
-        Checked::of_unsigned(self, U::ZERO)
+        Checked::of(self, U::ZERO)
     }
 
-    /// Returns the greatest number of so many bits, 2^n - 1, with this count.
+    /// Returns the greatest value of this number of bits, 2^n - 1, with this count.
     pub fn all<U: UnsignedInteger>(self) -> CheckedUnsigned<MAX, U>
         requires { self ≤ U.BITS_SIZE }
         ensures count { result.0 ≡ self.entry }
         ensures value { U.value result.1 ≡ 2 ^ self.entry - 1 }
     {
-        Checked::of_unsigned(self, lowest_bits(self.bits))
+        Checked::of(self, lowest_bits(self.bits))
     }
 
-    /// Returns the numbers of so many bits that U has: 0 to 2^n - 1, or all of U where n is its
-    /// size or more.
+    /// Returns the range of the values of this number of bits: 0 to 2^n - 1, or all of U if n is
+    /// its size or more.
     pub fn range<U: UnsignedInteger>(&self) -> RangeInclusive<U>
         ensures start { U.value result.start ≡ 0 }
         ensures end { U.value result.end ≡ 2 ^ (min self.now U.BITS_SIZE) - 1 }
@@ -134,7 +134,7 @@ impl<const MAX: u32> BitCount<MAX> {
 }
 
 impl BitCount<4294967295> {
-    /// Returns a count of so many bits, known only when the program runs.
+    /// Returns a count of a number of bits that is known only at run time.
     pub fn unknown(bits: u32) -> Self
         ensures { result ≡ bits }
     {
@@ -168,11 +168,11 @@ impl<const MAX: u32> TryFrom<u32> for BitCount<MAX> {
     ghost try_from_gives = { λ n r. MatchResult r
         (λ c. (n ≤ MAX) × (c ≡ n)) (λ e. (MAX < n) × (e ≡ n)) };
 
-    /// Returns a count of so many bits.
+    /// Returns a count of the given number of bits.
     ///
     /// # Errors
     ///
-    /// The number again where it is above MAX.
+    /// The number itself, if it is above MAX.
     fn try_from(bits: u32) -> Result<BitCount<MAX>, u32> {
         BitCount::of(bits).ok_or(bits)
     }

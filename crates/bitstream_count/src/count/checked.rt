@@ -14,10 +14,10 @@ use bitstream_number::number::{Numeric, SignedInteger, UnsignedInteger};
 use std::alloc::AllocError;
 use std::marker::Model;
 
-/// A kind of count of bits, and which values of T a count of it holds: the bound of a function over
-/// any [`Checked`]. The four kinds of this crate alone are such.
+/// A type of counts, and the values of type T that such a count holds: the bound of a function over
+/// any [`Checked`]. Only the four types of counts of this crate implement it.
 pub trait Holds<T>: Sealed {
-    // Whether a value is one that a count holds.
+    // That a count holds a value.
     ghost holds: { Self → T → Type 0 };
 }
 
@@ -37,7 +37,7 @@ impl<const BITS: u32, S: SignedInteger> Holds<S> for FixedSignedBitCount<BITS> {
     ghost holds = { λ _ v. HoldsSigned S.BITS_SIZE BITS (S.integer v) };
 }
 
-/// A value with a count of bits that holds it. The value's type has so many bits.
+/// A value with a count of bits that holds it. The count is not above the size of the value's type.
 ///
 /// # Examples
 ///
@@ -90,6 +90,17 @@ pub type CheckedUnsignedFixed<const BITS: u32, T> = Checked<FixedBitCount<BITS>,
 /// A signed value that BITS bits hold.
 pub type CheckedSignedFixed<const BITS: u32, T> = Checked<FixedSignedBitCount<BITS>, T>;
 
+impl<C: Holds<T>, T> Checked<C, T> {
+    /// Returns the value with a count that holds it, which the caller proves.
+    pub fn of(count: C, value: T) -> Self
+        requires { C.holds count value }
+        ensures count { result.0 ≡ count }
+        ensures value { result.1 ≡ value }
+    {
+        Checked { count, value }
+    }
+}
+
 impl<C: Holds<T> + Copy, T: Copy> Checked<C, T> {
     /// Returns the count and the value.
     pub fn into_count_value(self) -> (C, T)
@@ -117,11 +128,12 @@ impl<C: Holds<T> + Copy, T: Copy> Checked<C, T> {
     }
 }
 
-/// Returns the value as it is kept at so many bits, which is 0 at 0 bits.
+/// Checks a value against a number of bits, and returns what is kept of it: at 0 bits any value is
+/// accepted, and 0 is kept.
 ///
 /// # Errors
 ///
-/// `ExcessiveBits` where U has fewer bits, `ExcessiveValue` where the value takes more.
+/// `ExcessiveBits` if U has fewer bits, else `ExcessiveValue` if the value needs more.
 fn check_unsigned<U: UnsignedInteger>(bits: u32, value: U) -> Result<U, CheckedError>
     ensures { MatchResult result
         (λ v. AcceptsUnsigned U.BITS_SIZE bits (U.value value)
@@ -146,11 +158,11 @@ fn negative_one<S: SignedInteger>() -> S
     S::ZERO - S::ONE
 }
 
-/// Returns the value, where so many bits hold it.
+/// Checks a value against a number of bits, and returns it.
 ///
 /// # Errors
 ///
-/// `ExcessiveBits` where S has fewer bits, `ExcessiveValue` where the value takes more.
+/// `ExcessiveBits` if S has fewer bits, else `ExcessiveValue` if the value needs more.
 fn check_signed<S: SignedInteger>(bits: u32, value: S) -> Result<S, CheckedError>
     requires { 1 ≤ bits }
     ensures { MatchResult result
@@ -169,21 +181,12 @@ fn check_signed<S: SignedInteger>(bits: u32, value: S) -> Result<S, CheckedError
 }
 
 impl<const MAX: u32, U: UnsignedInteger> Checked<BitCount<MAX>, U> {
-    pub(crate) fn of_unsigned(count: BitCount<MAX>, value: U) -> Self
-        requires within { count ≤ U.BITS_SIZE }
-        requires below { U.value value < 2 ^ count }
-        ensures count { result.0 ≡ count.entry }
-        ensures value { result.1 ≡ value }
-    {
-        Checked { count, value }
-    }
-
     /// Returns the value with this count. At 0 bits any value is accepted, and 0 is kept.
     ///
     /// # Errors
     ///
-    /// `ExcessiveBits` where U has fewer bits than the count, else `ExcessiveValue` where the value
-    /// takes more.
+    /// `ExcessiveBits` if U has fewer bits than the count, else `ExcessiveValue` if the value needs
+    /// more.
     pub fn new(count: BitCount<MAX>, value: U) -> Result<Self, CheckedError>
         ensures { MatchResult result
             (λ c. AcceptsUnsigned U.BITS_SIZE count.entry (U.value value) × (c.0 ≡ count.entry)
@@ -194,11 +197,11 @@ impl<const MAX: u32, U: UnsignedInteger> Checked<BitCount<MAX>, U> {
         Ok(Checked { count, value })
     }
 
-    /// Returns the value with a count of BITS bits, which the type has.
+    /// Returns the value with a count of BITS bits, which is not above the type's size.
     ///
     /// # Errors
     ///
-    /// `ExcessiveValue` where the value takes more.
+    /// `ExcessiveValue` if the value needs more bits.
     pub fn new_fixed<const BITS: u32>(value: U) -> Result<Self, CheckedError>
         requires some { BITS ≤ MAX }
         requires within { BITS ≤ U.BITS_SIZE }
@@ -216,8 +219,8 @@ impl<const MAX: u32, S: SignedInteger> Checked<SignedBitCount<MAX>, S> {
     ///
     /// # Errors
     ///
-    /// `ExcessiveBits` where S has fewer bits than the count, else `ExcessiveValue` where the value
-    /// takes more.
+    /// `ExcessiveBits` if S has fewer bits than the count, else `ExcessiveValue` if the value needs
+    /// more.
     pub fn new(count: SignedBitCount<MAX>, value: S) -> Result<Self, CheckedError>
         ensures { MatchResult result
             (λ c. HoldsSigned S.BITS_SIZE count.entry (S.integer value)
@@ -228,11 +231,11 @@ impl<const MAX: u32, S: SignedInteger> Checked<SignedBitCount<MAX>, S> {
         Ok(Checked { count, value })
     }
 
-    /// Returns the value with a count of BITS bits, which the type has.
+    /// Returns the value with a count of BITS bits, which is not above the type's size.
     ///
     /// # Errors
     ///
-    /// `ExcessiveValue` where the value takes more.
+    /// `ExcessiveValue` if the value needs more bits.
     pub fn new_fixed<const BITS: u32>(value: S) -> Result<Self, CheckedError>
         requires some { 1 ≤ BITS }
         requires most { BITS ≤ MAX }
@@ -246,12 +249,11 @@ impl<const MAX: u32, S: SignedInteger> Checked<SignedBitCount<MAX>, S> {
 }
 
 impl<const BITS: u32, U: UnsignedInteger> Checked<FixedBitCount<BITS>, U> {
-    /// Returns the value with a count of BITS bits, which the type has. At 0 bits any value is
-    /// accepted, and 0 is kept.
+    /// Returns the value with a count of BITS bits, which is not above the type's size.
     ///
     /// # Errors
     ///
-    /// `ExcessiveValue` where the value takes more.
+    /// `ExcessiveValue` if the value needs more bits.
     pub fn new_fixed(value: U) -> Result<Self, CheckedError>
         requires { BITS ≤ U.BITS_SIZE }
         ensures { MatchResult result
@@ -266,11 +268,11 @@ impl<const BITS: u32, U: UnsignedInteger> Checked<FixedBitCount<BITS>, U> {
 }
 
 impl<const BITS: u32, S: SignedInteger> Checked<FixedSignedBitCount<BITS>, S> {
-    /// Returns the value with a count of BITS bits, which the type has.
+    /// Returns the value with a count of BITS bits, which is not above the type's size.
     ///
     /// # Errors
     ///
-    /// `ExcessiveValue` where the value takes more.
+    /// `ExcessiveValue` if the value needs more bits.
     pub fn new_fixed(value: S) -> Result<Self, CheckedError>
         requires some { 1 ≤ BITS }
         requires within { BITS ≤ S.BITS_SIZE }

@@ -1,4 +1,4 @@
-//! Numbers of bits that a type states.
+//! Counts of bits whose number is part of the type.
 
 ghost use Rattle.std.specs.Prelude.{◌≡◌, ◌≢◌, ◌≤◌, MatchResult};
 
@@ -27,7 +27,7 @@ impl<const BITS: u32, const MAX: u32> TryFrom<BitCount<MAX>> for FixedBitCount<B
     ///
     /// # Errors
     ///
-    /// The count again where it is of another number of bits.
+    /// The count itself, if it is of another number of bits.
     fn try_from(count: BitCount<MAX>) -> Result<FixedBitCount<BITS>, BitCount<MAX>> {
         if count.bits() == BITS {
             Ok(FixedBitCount)
@@ -37,7 +37,7 @@ impl<const BITS: u32, const MAX: u32> TryFrom<BitCount<MAX>> for FixedBitCount<B
     }
 }
 
-/// A count of BITS bits, at least 1, of which one is the sign.
+/// A count of BITS bits, at least 1, the sign bit included.
 #[derive(Copy, Clone, Debug)]
 pub struct FixedSignedBitCount<const BITS: u32> {
     ghost some: { 1 ≤ BITS },
@@ -60,7 +60,7 @@ impl<const BITS: u32, const MAX: u32> TryFrom<SignedBitCount<MAX>> for FixedSign
     ///
     /// # Errors
     ///
-    /// The count again where it is of another number of bits.
+    /// The count itself, if it is of another number of bits.
     fn try_from(
         count: SignedBitCount<MAX>,
     ) -> Result<FixedSignedBitCount<BITS>, SignedBitCount<MAX>> {

@@ -1,11 +1,11 @@
-//! Counts of bits, whatever their greatest number is.
+//! The traits of counts of bits, whatever their greatest number is.
 
 ghost use Rattle.std.specs.Prelude.{◌≡◌, ℕ, ◌<◌, ◌≤◌, MatchOption};
 ghost use Rattle.bitstream_count.specs.Counts.{IsOutOfRange};
 
 use crate::count::sealed::Sealed;
 
-/// A number of bits from 0 to `MAX`. `BitCount<MAX>` alone is one.
+/// A count of bits, from 0 to `MAX`. `BitCount<MAX>` is the only one.
 pub trait Count: Sealed + Copy {
     /// The greatest number of bits.
     const MAX: u32;
@@ -14,17 +14,17 @@ pub trait Count: Sealed + Copy {
 
     ghost number: { Self → ℕ };
 
-    /// Returns how many bits it counts.
+    /// Returns the number of bits.
     fn bits(self) -> u32
         ensures value { result ≡ number self }
         ensures bound { result ≤ MAX };
 
-    /// Returns a count of so many bits, or `None` where that is above `MAX`.
+    /// Returns a count of the given number of bits, or `None` if that is above `MAX`.
     fn of(bits: u32) -> Option<Self>
         ensures { MatchOption result (MAX < bits) (λ n. (bits ≤ MAX) × (number n ≡ bits)) };
 }
 
-/// A number of bits from 1 to `MAX`, of which one is the sign. `SignedBitCount<MAX>` alone is one.
+/// A count of bits, from 1 to `MAX`, the sign bit included. `SignedBitCount<MAX>` is the only one.
 pub trait SignedCount: Sealed + Copy {
     /// The greatest number of bits.
     const MAX: u32;
@@ -33,13 +33,13 @@ pub trait SignedCount: Sealed + Copy {
 
     ghost number: { Self → ℕ };
 
-    /// Returns how many bits it counts, the sign's among them.
+    /// Returns the number of bits, the sign bit included.
     fn bits(self) -> u32
         ensures value { result ≡ number self }
         ensures some { 1 ≤ result }
         ensures bound { result ≤ MAX };
 
-    /// Returns a count of so many bits, or `None` where that is 0 or above `MAX`.
+    /// Returns a count of the given number of bits, or `None` if that is 0 or above `MAX`.
     fn of(bits: u32) -> Option<Self>
         ensures { MatchOption result (IsOutOfRange 1 MAX bits)
             (λ n. (1 ≤ bits) × (bits ≤ MAX) × (number n ≡ bits)) };

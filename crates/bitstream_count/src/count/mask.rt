@@ -1,4 +1,4 @@
-//! Splits of numbers at a count of bits.
+//! Splits of numbers into lowest bits and the bits above.
 
 ghost use Rattle.std.specs.Prelude.{◌≡◌, ℕ, ◌+◌, ◌-◌, ◌*◌, ◌%◌, ◌^◌, ◌≤◌, min};
 
@@ -8,7 +8,7 @@ use crate::count::kinds::Count;
 use bitstream_number::number::{Numeric, UnsignedInteger};
 use std::marker::{Model, PhantomData};
 
-/// A split of numbers of type U into their lowest bits and those above.
+/// A split of the numbers of type U into their lowest bits and the bits above.
 ///
 /// # Examples
 ///
@@ -33,7 +33,7 @@ impl<const MAX: u32, U: UnsignedInteger> Model for LsbMask<MAX, U> {
     ghost invariant = { λ a. a.count ≤ U.BITS_SIZE };
 }
 
-/// Returns the number whose lowest bits, so many of them, are 1, and no others.
+/// Returns the number with the given number of lowest bits set, and no others.
 pub(crate) fn lowest_bits<U: UnsignedInteger>(bits: u32) -> U
     requires { bits ≤ U.BITS_SIZE }
     ensures { U.value result ≡ 2 ^ bits - 1 }
@@ -42,7 +42,7 @@ pub(crate) fn lowest_bits<U: UnsignedInteger>(bits: u32) -> U
 }
 
 impl<const MAX: u32> BitCount<MAX> {
-    /// Returns a split at this number of bits, or at the type's size where that is less.
+    /// Returns a split at this number of bits, or at the type's size if that is less.
     pub fn mask_lsb<U: UnsignedInteger>(self) -> LsbMask<MAX, U>
         ensures { result ≡ min self.entry U.BITS_SIZE }
     {
@@ -54,7 +54,7 @@ impl<const MAX: u32> BitCount<MAX> {
 }
 
 impl<const MAX: u32, U: UnsignedInteger> LsbMask<MAX, U> {
-    /// Returns the number above the lowest bits, and the number that the lowest bits are.
+    /// Returns the number of the bits above, and the number of the lowest bits.
     pub fn split(&self, v: U) -> (U, CheckedUnsigned<MAX, U>)
         ensures count { result.1.0 ≡ self.now }
         ensures split { U.value v ≡ U.value result.0 * 2 ^ self.now + U.value result.1.1 }
@@ -63,6 +63,6 @@ impl<const MAX: u32, U: UnsignedInteger> LsbMask<MAX, U> {
         let bits = self.count.bits();
         let high = v.shr_default(bits);
         let low = v & lowest_bits(bits);
-        (high, Checked::of_unsigned(self.count, low))
+        (high, Checked::of(self.count, low))
     }
 }

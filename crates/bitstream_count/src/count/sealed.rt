@@ -1,10 +1,10 @@
-//! What keeps the traits of counts to the types of this crate.
+//! Seals the traits of counts: only the types of this crate implement them.
 
 use crate::count::bit_count::BitCount;
 use crate::count::fixed::{FixedBitCount, FixedSignedBitCount};
 use crate::count::signed_bit_count::SignedBitCount;
 
-/// A kind of count of this crate.
+/// A type of counts of this crate.
 pub trait Sealed {}
 
 impl<const MAX: u32> Sealed for BitCount<MAX> {}

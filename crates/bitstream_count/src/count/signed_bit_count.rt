@@ -1,4 +1,4 @@
-//! Numbers of bits of signed values.
+//! Counts of bits for signed values.
 
 ghost use Rattle.std.specs.Prelude.{◌≡◌, ℕ, pos, ◌+◌, ◌-◌, ◌^◌, ◌<◌, ◌≤◌, ◌-ℤ◌, false, min, Option, Some, MatchResult, decimal};
 ghost use Rattle.std.specs.Fmt.{styled_decimal};
@@ -13,7 +13,7 @@ use std::fmt;
 use std::marker::Model;
 use std::ops::RangeInclusive;
 
-/// A number of bits from 1 to MAX, of which one is the sign.
+/// A count of bits, from 1 to MAX, the sign bit included.
 ///
 /// # Examples
 ///
@@ -41,7 +41,7 @@ impl<const MAX: u32> Model for SignedBitCount<MAX> {
 }
 
 impl<const MAX: u32> BitCount<MAX> {
-    /// Returns a count of as many bits, of which one is the sign, or `None` where they are 0.
+    /// Returns a signed count of the same number of bits, or `None` if that is 0.
     pub fn signed_count(&self) -> Option<SignedBitCount<MAX>>
         ensures { SomeIff result (0 < self.now) self.now }
     {
@@ -66,7 +66,7 @@ impl<const MAX: u32> SignedBitCount<MAX> {
         }
     }
 
-    /// Returns a count of so many bits more, or `None` where that is above NEW_MAX.
+    /// Returns a count of `bits` more bits, or `None` if that is above NEW_MAX.
     pub fn checked_add<const NEW_MAX: u32>(self, bits: u32) -> Option<SignedBitCount<NEW_MAX>>
         ensures { SomeIff result (self.entry + bits ≤ NEW_MAX) (self.entry + bits) }
     {
@@ -74,7 +74,7 @@ impl<const MAX: u32> SignedBitCount<MAX> {
         sum.signed_count()
     }
 
-    /// Returns a count of so many bits fewer, or `None` where that is below 1 or above NEW_MAX.
+    /// Returns a count of `bits` fewer bits, or `None` if that is below 1 or above NEW_MAX.
     pub fn checked_sub<const NEW_MAX: u32>(self, bits: u32) -> Option<SignedBitCount<NEW_MAX>>
         ensures { SomeIff result ((bits < self.entry) × (self.entry - bits ≤ NEW_MAX))
             (self.entry - bits) }
@@ -83,8 +83,8 @@ impl<const MAX: u32> SignedBitCount<MAX> {
         left.signed_count()
     }
 
-    /// Returns a count of the bits that f makes of this number of them, or `None` where f returns
-    /// that, 0 or a number above NEW_MAX.
+    /// Applies `f` to the number of bits, and returns a count of what it returns; or `None` if `f`
+    /// returns `None`, 0 or a number above NEW_MAX.
     pub fn try_map<const NEW_MAX: u32, F: FnOnce(u32) -> Option<u32>>(
         self,
         f: F,
@@ -97,29 +97,29 @@ impl<const MAX: u32> SignedBitCount<MAX> {
         made.signed_count()
     }
 
-    /// Returns the greatest number of bits, MAX.
+    /// Returns MAX, the greatest number of bits.
     pub fn max(&self) -> u32
         ensures { result ≡ MAX }
     {
         MAX
     }
 
-    /// Returns a count of as many bits, the sign's among them.
+    /// Returns a `BitCount` of the same number of bits, the sign bit included.
     pub fn count(&self) -> BitCount<MAX>
         ensures { result ≡ self.now }
     {
         self.count
     }
 
-    /// Returns a count of the bits beside the sign's, one fewer.
+    /// Returns a `BitCount` of the bits without the sign bit: one fewer.
     pub fn unsigned_count(&self) -> BitCount<MAX>
         ensures { result ≡ self.now - 1 }
     {
         self.count.min(self.count.bits() - 1)
     }
 
-    /// Returns the numbers of so many bits that S has: -2^(n-1) to 2^(n-1) - 1, or all of S where n
-    /// is its size or more.
+    /// Returns the range of the values of this number of bits: -2^(n-1) to 2^(n-1) - 1, or all of S
+    /// if n is its size or more.
     pub fn range<S: SignedInteger>(&self) -> RangeInclusive<S>
         ensures start { S.integer result.start ≡ pos 0 -ℤ pos (2 ^ (min self.now S.BITS_SIZE - 1)) }
         ensures end { S.integer result.end ≡ pos (2 ^ (min self.now S.BITS_SIZE - 1) - 1) }
@@ -154,11 +154,11 @@ impl<const MAX: u32> TryFrom<BitCount<MAX>> for SignedBitCount<MAX> {
 
     ghost try_from_gives = { λ c r. MatchResult r (λ s. (0 < c) × (s ≡ c)) (λ _. c ≡ 0) };
 
-    /// Returns a count of as many bits, of which one is the sign.
+    /// Returns a signed count of the same number of bits.
     ///
     /// # Errors
     ///
-    /// `()` where they are 0.
+    /// `()` if that is 0.
     fn try_from(count: BitCount<MAX>) -> Result<SignedBitCount<MAX>, ()> {
         count.signed_count().ok_or(())
     }
@@ -170,11 +170,11 @@ impl<const MAX: u32> TryFrom<u32> for SignedBitCount<MAX> {
     ghost try_from_gives = { λ n r. MatchResult r
         (λ c. (1 ≤ n) × (n ≤ MAX) × (c ≡ n)) (λ e. IsOutOfRange 1 MAX n × (e ≡ n)) };
 
-    /// Returns a count of so many bits.
+    /// Returns a count of the given number of bits.
     ///
     /// # Errors
     ///
-    /// The number again where it is 0 or above MAX.
+    /// The number itself, if it is 0 or above MAX.
     fn try_from(bits: u32) -> Result<SignedBitCount<MAX>, u32> {
         SignedBitCount::of(bits).ok_or(bits)
     }
