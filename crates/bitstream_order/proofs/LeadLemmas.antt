@@ -163,7 +163,7 @@ module _ (o : Order) (stop : Bool) (x : List Bool) (old : PortState) where
       between_as o x (replicate count (not stop)) (word o left (first_part o byte 8 left)) (unary stop more) behind old p
       (ap (λ l. replicate count (not stop) ++ l) held ∙ sym (append_assoc (replicate count (not stop)) (unary stop r) behind) ∙ ap (λ l. l ++ behind) (sym (unary-split stop count r more (sym sum)))) h
 
-  -- so many others that the lead is too long
+  -- enough other bits that the lead is too long
   pub lead_long : (count byte left r : ℕ) (p : PortState) → left ≤ 8 → r ≤ left → r ≤ lead stop (word o 8 byte) → count < 2 ^ 32 → 2 ^ 32 ≤ count + r
       → TakesBetween o x old (replicate count (not stop)) (word o left (first_part o byte 8 left)) p → TakesLongUnary o stop x old p
   lead_long count byte left r p le within others small long h =

@@ -3,15 +3,15 @@ use Rattle.std.specs.Prelude.{◌≡◌, ℕ, ◌<◌, List, length, Option, Som
 use Rattle.std.specs.declared.io.ErrorKind.{ErrorKind}
 use Rattle.std.specs.declared.io.ErrorKind.TheVariants.{UnexpectedEof}
 
--- A refused request: with which kind, for how many bytes, and what the stream told before it and after it of
--- its bytes: those left to read, or those that it holds.
+-- A refused request: its kind, the number of bytes asked for, and what the stream told before it and after it of its
+-- bytes (those left to read, or those that it holds).
 pub record Refusal : Type 0 where
   pub kind : ErrorKind
   pub wanted : ℕ
   pub before : Option (List ℕ)
   pub after : Option (List ℕ)
 
--- an end, with fewer bytes left than were asked for
+-- an end with fewer bytes left than were asked for
 pub record IsTrueEnd (refusal : Refusal) : Type 0 where
   pub left : List ℕ
   pub kind : refusal.kind ≡ UnexpectedEof
@@ -30,7 +30,7 @@ pub record MayRefuse {S : Type 0} (known : S → Option (List ℕ)) (refuses : S
 abbrev pub TrueEnds : (Refusal → Type 0) → Type 0
 TrueEnds may = (refusal : Refusal) → may refusal → IsTrueEnd refusal
 
--- a source that refuses where fewer bytes are left than were asked for, as an end, and nowhere else
+-- a source that refuses only if fewer bytes are left than were asked for, and as an end
 abbrev pub RefusesAtEnd : {S : Type 0} → (S → Option (List ℕ)) → (S → ℕ → ErrorKind → S → Type 0) → Type 0
 RefusesAtEnd {S} remaining refuses = (before after : S) (wanted : ℕ) (kind : ErrorKind) → refuses before wanted kind after
     → (xs : List ℕ) × (remaining before ≡ Some xs) × (kind ≡ UnexpectedEof) × (length xs < wanted)

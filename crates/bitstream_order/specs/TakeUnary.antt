@@ -1,4 +1,4 @@
--- What is taken from a port up to a stop digit.
+-- What is taken from a port up to a stop bit.
 use Rattle.std.specs.Prelude.{◌≡◌, ℕ, ◌+◌, ◌^◌, ◌<◌, ◌++◌, Bool, not, List, [], ◌∷◌, length, replicate, Option, Some, None, Result, Ok, Err}
 use Rattle.std.specs.Io.KnownBytes.{Consumes}
 use Rattle.bitstream_count.specs.declared.error.Error.{Error}
@@ -9,7 +9,7 @@ use Rattle.bitstream_order.specs.Port.{PortState, Fetched, FetchRefused}
 use Rattle.bitstream_order.specs.Refusal.{Refusal}
 use Rattle.bitstream_order.specs.declared.unary.TakenUnary.{TakenUnary}
 
--- one byte was fetched, or its request refused
+-- one byte was fetched, or its request was refused
 abbrev pub FetchesByte : (Refusal → Type 0) → PortState → Result ℕ Error → PortState → Type 0
 FetchesByte may old (Ok byte) new = Fetched old (byte ∷ []) new
 FetchesByte may old (Err error) new = FetchRefused may error old 1 new
@@ -23,7 +23,7 @@ pub record TakesBetween (o : Order) (x : List Bool) (old : PortState) (w y : Lis
   pub reference_names : new.reference_names ≡ old.reference_names
   pub word : x ++ bits o bytes ≡ w ++ y
 
--- a run was too long: so many digits were taken, and fewer than 8 bits are left behind them
+-- a run was too long: its 2^32 bits were taken, and fewer than 8 bits are left behind them
 pub record TakesLongUnary (o : Order) (stop : Bool) (x : List Bool) (old new : PortState) : Type 0 where
   pub count : ℕ
   pub long : count ≡ 2 ^ 32
@@ -31,7 +31,7 @@ pub record TakesLongUnary (o : Order) (stop : Bool) (x : List Bool) (old new : P
   pub few : length left < 8
   pub takes : TakesBetween o x old (replicate count (not stop)) left new
 
--- a byte was refused behind digits that are not the stop digit
+-- a byte was refused behind bits that are not the stop bit
 pub record RefusesUnary (may : Refusal → Type 0) (o : Order) (stop : Bool) (x : List Bool) (old : PortState) (error : Error) (new : PortState) : Type 0 where
   pub count : ℕ
   pub few : count < 2 ^ 32
@@ -39,8 +39,8 @@ pub record RefusesUnary (may : Refusal → Type 0) (o : Order) (stop : Bool) (x 
   pub takes : TakesBetween o x old (replicate count (not stop)) [] mid
   pub refused : FetchRefused may error mid 1 new
 
--- A run with the bits x in front: so many digits and the stop digit, and what is left behind it;
--- none where the run is too long; or the refusal of a byte.
+-- A unary read with the bits x in front: its word was taken, and the bits behind it are left; or the run was too long;
+-- or a byte was refused.
 abbrev pub TakesUnary : (Refusal → Type 0) → Order → Bool → List Bool → PortState → Result (Option TakenUnary) Error → PortState → Type 0
 TakesUnary may o stop x old (Ok (Some r)) new =
     TakesBetween o x old (unary stop r.count) (word o r.waiting (first_part o r.left 8 r.waiting)) new

@@ -1,7 +1,8 @@
-//! Orders of bits, streams that count what was asked of them, and the words that go through them.
+//! Orders of bits, streams with counts of their requests, and the kernels that move words.
 #![tactic(auto)]
 
 pub mod gather;
+pub mod growing;
 pub mod lent;
 pub mod order;
 pub mod port;

@@ -1,11 +1,11 @@
-//! A stream, with counts of what was asked of it that clauses alone read.
-ghost use Rattle.std.specs.Prelude.{◌≡◌, ◌*◌, [], ◌∷◌, OnOk};
+//! A stream, with counts of its requests that only contracts see.
+ghost use Rattle.std.specs.Prelude.{◌≡◌, ◌*◌, [], ◌∷◌, IfSome, Ok, OnOk};
 ghost use Rattle.std.specs.Io.KnownBytes.{Keeps};
-ghost use Rattle.std.specs.Io.Seek.{SeekMoves};
+ghost use Rattle.std.specs.Io.Seek.{StaysAt, SeekMoves};
 ghost use Rattle.std.specs.IoError.{error_kind};
 ghost use Rattle.bitstream_order.specs.Fault.{read_refusal_of, refusal_of};
 ghost use Rattle.bitstream_order.specs.Refusal.{Refusal, MayRefuse};
-ghost use Rattle.bitstream_order.specs.Port.{port_state, fetched_count, port_stream, with_stream, Fetches, Sends, Seeks};
+ghost use Rattle.bitstream_order.specs.Port.{port_state, fetched_count, port_stream, with_stream, Fetches, Sends, Seeks, Places};
 
 use crate::refusals::Refusals;
 use crate::seek::SeekSource;
@@ -17,8 +17,8 @@ use std::io;
 use std::io::{ErrorKind, SeekFrom};
 use std::snapshot::Snapshot;
 
-/// The one holder of a stream: nothing else asks the stream for bytes or sends bytes to it.
-/// The counts take no bytes when the program runs.
+/// The one holder of a stream: nothing else asks the stream for bytes or sends bytes to it. The
+/// counts take no memory at run time.
 #[derive(Drop)]
 pub struct Port<S> {
     stream: S,
@@ -28,7 +28,7 @@ pub struct Port<S> {
     refusals: Refusals,
 }
 
-/// Returns the error for a request that the stream refused and that was no read.
+/// Returns the error for a refused request that is not a read.
 fn refusal(error: io::Error) -> Error
     ensures { result ≡ refusal_of (error_kind error) }
 {
@@ -38,7 +38,7 @@ fn refusal(error: io::Error) -> Error
     }
 }
 
-/// Returns the error for a read that the stream refused.
+/// Returns the error for a refused read.
 fn read_refusal(error: io::Error) -> Error
     ensures { result ≡ read_refusal_of (error_kind error) }
 {
@@ -48,7 +48,7 @@ fn read_refusal(error: io::Error) -> Error
     }
 }
 
-/// Notes a refused request for bytes.
+/// Records a refused request for bytes.
 fn note_read<S: Source>(
     refusals: &mut Refusals,
     _before: &Snapshot<S>,
@@ -68,7 +68,7 @@ fn note_read<S: Source>(
     refusals.push(0);
 }
 
-/// Notes a refused request to send bytes.
+/// Records a refused request to send bytes.
 fn note_write<S: Target>(
     refusals: &mut Refusals,
     _before: &Snapshot<S>,
@@ -92,7 +92,7 @@ impl<S> Port<S> {
     ghost use Rattle.std.specs.Borrow.{Lends, sem};
     ghost use Rattle.bitstream_order.specs.contracts.port.Port.{the_row};
 
-    /// Returns a port to a stream of which nothing was asked yet.
+    /// Returns a new port to a stream: nothing was asked of the stream yet.
     pub fn new(stream: S) -> Port<S>
         ensures stream { result.stream ≡ stream }
         ensures fetched { result.fetched.count ≡ 0 }
@@ -109,7 +109,7 @@ impl<S> Port<S> {
         }
     }
 
-    /// Lends the stream. What is done to it there is not counted.
+    /// Lends the stream. What is done to it then is not counted.
     pub fn lend(&mut self) -> &mut S
         ensures value { result.now ≡ port_stream self.old }
         ensures* writes_back { sem 𝓛
@@ -118,7 +118,28 @@ impl<S> Port<S> {
         &mut self.stream
     }
 
-    /// Returns a tally of the bits of all bytes that were fetched.
+    /// Returns the stream, to be looked at.
+    pub fn stream(&self) -> &S
+        ensures { result.now ≡ port_stream self.now }
+    {
+        &self.stream
+    }
+
+    /// Forgets what was asked of the stream, which stays as it is.
+    pub fn restart(&mut self)
+        ensures stream { port_stream self.new ≡ port_stream self.old }
+        ensures fetched { self.new.fetched.count ≡ 0 }
+        ensures sent { self.new.sent.count ≡ 0 }
+        ensures requests { self.new.requests.count ≡ 0 }
+        ensures refusals { self.new.refusals.list ≡ [] }
+    {
+        self.fetched = Tally::new();
+        self.sent = Tally::new();
+        self.requests = Tally::new();
+        self.refusals = Refusals::new();
+    }
+
+    /// Returns a tally of the bits of all fetched bytes.
     pub fn fetched_bits(&self) -> Tally
         ensures { result.count ≡ 8 * fetched_count self.now }
     {
@@ -127,7 +148,7 @@ impl<S> Port<S> {
         bits
     }
 
-    /// Gives the stream up.
+    /// Returns the stream.
     pub fn into_inner(self) -> S
         ensures { result ≡ port_stream self }
     {
@@ -136,12 +157,12 @@ impl<S> Port<S> {
 }
 
 impl<S: Source> Port<S> {
-    /// Makes one request, which fills the buffer.
+    /// Fills the buffer by one request.
     ///
     /// # Errors
     ///
-    /// `EndOfInput` where the stream refuses with `UnexpectedEof`, `OutOfMemory` where it refuses with
-    /// that kind, and else `Stream` with its kind. No byte is counted as fetched then.
+    /// `EndOfInput` if the stream refuses with `UnexpectedEof`, `OutOfMemory` if it refuses with
+    /// that kind, else `Stream` with its kind. No byte is counted as fetched then.
     #[inline(always)]
     pub fn fetch(&mut self, buf: &mut [u8]) -> Result<(), Error>
         ensures fetches { Fetches (MayRefuse S.remaining S.refuses)
@@ -170,12 +191,12 @@ impl<S: Source> Port<S> {
 }
 
 impl<S: Target> Port<S> {
-    /// Makes one request, which sends the bytes.
+    /// Sends the bytes by one request.
     ///
     /// # Errors
     ///
-    /// `OutOfMemory` where the stream refuses with that kind, and else `Stream` with its kind. No byte
-    /// is counted as sent then.
+    /// `OutOfMemory` if the stream refuses with that kind, else `Stream` with its kind. No byte is
+    /// counted as sent then.
     #[inline(always)]
     pub fn send(&mut self, bytes: &[u8]) -> Result<(), Error>
         ensures { Sends (MayRefuse S.contents S.refuses)
@@ -202,11 +223,12 @@ impl<S: Target> Port<S> {
         }
     }
 
-    /// Makes one request, which sends no bytes: the stream passes on what it holds back itself.
+    /// Flushes the stream by one request, which sends no bytes: the stream passes on what it has
+    /// buffered itself.
     ///
     /// # Errors
     ///
-    /// As [`send`](Port::send) has them. The stream holds the same bytes then too.
+    /// As [`send`](Port::send). The stream holds the same bytes then too.
     pub fn flush(&mut self) -> Result<(), Error>
         ensures sends { Sends (MayRefuse S.contents S.refuses)
             (port_state S.contents S.reference_names self.old) [] result
@@ -228,13 +250,13 @@ impl<S: Target> Port<S> {
 }
 
 impl<S: SeekSource> Port<S> {
-    /// Makes one request, which goes to a place, and returns how many bytes lie before it. From
-    /// there on the bytes fetched are counted anew.
+    /// Seeks by one request, and returns the new position in bytes. From there on the fetched bytes
+    /// are counted anew.
     ///
     /// # Errors
     ///
-    /// `OutOfMemory` where the stream refuses with that kind, and else `Stream` with its kind. The
-    /// stream stays where it was then.
+    /// `OutOfMemory` if the stream refuses with that kind, else `Stream` with its kind. The
+    /// position stays as it was then.
     pub fn seek(&mut self, to: SeekFrom) -> Result<u64, Error>
         ensures seeks { Seeks (MayRefuse S.remaining S.refuses)
             (port_state S.remaining S.reference_names self.old) result
@@ -250,6 +272,32 @@ impl<S: SeekSource> Port<S> {
                 self.fetched = Tally::new();
                 Ok(at)
             }
+            Err(refused) => {
+                note_read(&mut self.refusals, &before, &self.stream, 0, &refused);
+                Err(refusal(refused))
+            }
+        }
+    }
+
+    /// Asks for the position in bytes by one request: a seek by 0 bytes. The fetched bytes stay
+    /// counted as they are.
+    ///
+    /// # Errors
+    ///
+    /// `OutOfMemory` if the stream refuses with that kind, else `Stream` with its kind.
+    pub fn position(&mut self) -> Result<u64, Error>
+        ensures places { Places (MayRefuse S.remaining S.refuses)
+            (port_state S.remaining S.reference_names self.old) result
+            (port_state S.remaining S.reference_names self.new) }
+        ensures stays { StaysAt (S.position (port_stream self.old)) (S.position (port_stream self.new)) }
+        ensures answer { OnOk result (IfSome (S.position (port_stream self.old))
+            (λ position. result ≡ Ok position)) }
+        ensures bytes { Keeps (S.bytes (port_stream self.old)) (S.bytes (port_stream self.new)) }
+    {
+        let before = Snapshot::of(&self.stream);
+        self.requests.add(1);
+        match self.stream.seek(SeekFrom::Current(0)) {
+            Ok(at) => Ok(at),
             Err(refused) => {
                 note_read(&mut self.refusals, &before, &self.stream, 0, &refused);
                 Err(refusal(refused))

@@ -1,4 +1,4 @@
-//! Sources that go to other places.
+//! Sources that can seek.
 ghost use Rattle.std.specs.Prelude.{◌≡◌, ℕ, List, IfErr, Option};
 ghost use Rattle.std.specs.Io.KnownBytes.{Keeps};
 ghost use Rattle.std.specs.Io.Seek.{SeekMoves};
@@ -9,20 +9,19 @@ use crate::source::Source;
 use std::io;
 use std::io::{Read, Seek, SeekFrom};
 
-/// A source that can go to another place: any `Read` that is a `Seek`, or such a source that is
-/// [`Lent`].
+/// A source that can seek: any `Read + Seek`, or such a source that is [`Lent`].
 pub trait SeekSource: Source {
-    // How many bytes lie before the next one, where the source tells.
+    // The position in bytes, if the source tells it.
     ghost position: { Self → Option ℕ };
 
-    // All bytes from position 0 on, where the source tells.
+    // All bytes from position 0 on, if the source tells them.
     ghost bytes: { Self → Option (List ℕ) };
 
-    /// Makes one request: goes to a place, and returns how many bytes lie before it.
+    /// Seeks by one request, and returns the new position in bytes.
     ///
     /// # Errors
     ///
-    /// The source's own, as [`Seek::seek`] has them. It stays where it was then.
+    /// The source's own, as [`Seek::seek`] has them. The position stays as it was then.
     fn seek(&mut self, to: SeekFrom) -> io::Result<u64>
         ensures moves { SeekMoves (position self.old) (position self.new)
             (bytes self.old) to result }

@@ -1,9 +1,9 @@
-//! Words to the bytes of a stream.
+//! Sends words to a stream.
 ghost use Rattle.std.specs.Prelude.{◌≡◌, ℕ, ◌+◌, ◌^◌, ◌<◌, ◌≤◌, IfOk};
 ghost use Rattle.bitstream_order.specs.Refusal.{MayRefuse};
 ghost use Rattle.bitstream_number.specs.Word.{word};
 ghost use Rattle.bitstream_order.specs.Port.{port_state, requests_count};
-ghost use Rattle.bitstream_order.specs.SendBits.{SendsFront};
+ghost use Rattle.bitstream_order.specs.Send.{SendsFront};
 
 use crate::order::Endianness;
 use crate::port::Port;
@@ -11,12 +11,12 @@ use crate::target::Target;
 use bitstream_count::error::Error;
 use bitstream_number::number::{Numeric, Primitive, UnsignedInteger};
 
-/// Sends as many bytes as a queue of bits makes with the n bits of a value behind it, and returns how
-/// many of the n have gone then: all but fewer than 8. It makes one request.
+/// Sends the whole bytes that a queue of bits and then the n bits of a value make, by one request.
+/// Returns how many of the n bits were sent: all but fewer than 8.
 ///
 /// # Errors
 ///
-/// As [`Port::send`]: none of these bits are counted as sent then.
+/// As [`Port::send`]. None of these bits is counted as sent then.
 #[inline(always)]
 pub fn send_front<T: Target, E: Endianness, U: UnsignedInteger>(
     port: &mut Port<T>,
@@ -37,6 +37,7 @@ pub fn send_front<T: Target, E: Endianness, U: UnsignedInteger>(
     ensures rest { IfOk result (λ done. n < done + 8) }
     ensures requests { requests_count port.new ≡ requests_count port.old + 1 }
 {
+    // The queue and then the word, as the first bits of one value. Its first bytes are the full ones.
     let bytes = E::to_bytes(E::behind(queue, queued, E::to_front(value, n)));
     let count = (queued + n) / 8;
     match port.send(&U::as_bytes(&bytes)[..count as usize]) {

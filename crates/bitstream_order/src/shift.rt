@@ -1,4 +1,4 @@
-//! Bytes that are moved behind a queue of bits.
+//! Shifts bytes behind a queue of bits.
 ghost use Rattle.std.specs.Prelude.{◌≡◌, ◌+◌, ◌-◌, ◌^◌, ◌<◌, ◌≤◌, length, take, drop};
 ghost use Rattle.bitstream_number.specs.Word.{bits};
 ghost use Rattle.bitstream_order.specs.Shift.{Shifts};
@@ -6,10 +6,10 @@ ghost use Rattle.bitstream_order.specs.Shift.{Shifts};
 use crate::order::Endianness;
 use bitstream_number::number::{Numeric, Primitive, UnsignedInteger};
 
-/// Puts the bits of a queue before those of some bytes, in place, as many bytes at a time as U has,
-/// and leaves the rest, which are fewer. Returns how many bytes were shifted, and the bits that are
-/// left behind them, as many as were queued. From one value to the next it carries the whole value
-/// before, whose last bits count.
+/// Shifts bytes in place behind a queue of bits, a value of type U at a time, and leaves the last
+/// bytes, which are fewer than U has. Returns how many bytes were shifted, and the bits that are
+/// left over, as many as were queued. Each turn carries the whole value of the turn before, of
+/// which the last bits count.
 #[inline(always)]
 fn shift_values<E: Endianness, U: UnsignedInteger>(
     queue: u8,
@@ -27,6 +27,7 @@ fn shift_values<E: Endianness, U: UnsignedInteger>(
     ensures most { length bytes.old < result.0 + U.BYTES }
     ensures len { length bytes.new ≡ length bytes.old }
 {
+    // The queue stands as the last bits of a value before the first one.
     let rest = U::BITS_SIZE - queued;
     let mut before = E::put(U::ZERO, rest, U::from_u8(queue), queued);
     let mut at = 0;
@@ -35,6 +36,7 @@ fn shift_values<E: Endianness, U: UnsignedInteger>(
         let mut part = U::buffer();
         U::as_bytes_mut(&mut part).copy_from_slice(&bytes[at..end]);
         let value = E::of_bytes::<U>(part);
+        // The last bits of the value before it, and then this value but for its own last bits.
         let shifted = E::to_bytes(E::carry(before, queued, value));
         bytes[at..end].copy_from_slice(U::as_bytes(&shifted));
         before = value;
@@ -43,8 +45,8 @@ fn shift_values<E: Endianness, U: UnsignedInteger>(
     (at, E::cut(before, U::BITS_SIZE, rest, queued))
 }
 
-/// Puts the bits of a queue before those of some bytes, in place, and returns the bits that are left
-/// behind them, as many as were queued.
+/// Shifts bytes in place behind a queue of bits, and returns the bits that are left over, as many
+/// as were queued.
 #[inline(always)]
 pub fn shift<E: Endianness>(queue: u8, queued: u32, bytes: &mut [u8]) -> u8
     requires some { 1 ≤ queued }

@@ -1,13 +1,14 @@
-//! Bytes in memory, as a source that refuses at their end alone.
+//! Bytes in memory, as a source that refuses only at their end.
 ghost use Rattle.std.specs.Prelude.{◌≡◌, [], length};
 
 use crate::source::Source;
 use std::io;
 use std::io::ErrorKind;
 
-/// Bytes in memory, which are read from their front. A request is refused exactly where fewer bytes
-/// are left than it asks for, as an end, and takes nothing then. So a reader over it answers by its
-/// bytes alone, which std does not tell of a `&[u8]` that is read as a stream.
+/// Bytes in memory, which are read from their front. A request is refused exactly if fewer bytes
+/// are left than it asks for: with `UnexpectedEof`, and without taking any. So the bytes alone
+/// decide what a reader over it answers. (Of a `&[u8]` that is read as a stream std does not tell
+/// this.)
 ///
 /// # Examples
 ///
@@ -42,7 +43,8 @@ fn copy_all<const N: usize>(to: &mut [u8], from: &[u8])
     to[..N].copy_from_slice(&from[..N]);
 }
 
-/// Copies bytes. As many as a word may have are copied by a constant length, so with no call.
+/// Copies bytes. Up to 16, as many as a word may have, are copied by a constant length, so without
+/// a call.
 #[inline(always)]
 fn copy(to: &mut [u8], from: &[u8])
     requires { length to.old ≡ length from.now }

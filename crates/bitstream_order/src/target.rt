@@ -1,4 +1,4 @@
-//! Where bytes go.
+//! Targets of bytes.
 ghost use Rattle.std.specs.Prelude.{◌≡◌, ℕ, List, [], ◌∷◌, IfErr, OnOk, Option, length};
 ghost use Rattle.std.specs.Borrow.{GName};
 ghost use Rattle.std.specs.Io.KnownBytes.{Appends, Keeps};
@@ -9,33 +9,35 @@ use crate::lent::Lent;
 use std::io;
 use std::io::Write;
 
-/// Where bytes go: any `Write`, or a target that is [`Lent`].
+/// A target of bytes: any `Write`, or a target that is [`Lent`].
 pub trait Target {
-    // The bytes that the target holds, where it tells.
+    // The bytes that the target holds, if it tells them.
     ghost contents: { Self → Option (List ℕ) };
 
     // The names of the references through which the target is reached. A request keeps them.
     ghost reference_names: { Self → List GName };
 
-    // How a request to send so many bytes may be refused, with which kind. Of a `Write` std tells
-    // nothing.
+    // How a request to send a number of bytes may be refused, and with which kind. Of a `Write` std
+    // tells nothing.
     ghost refuses: { Self → ℕ → ErrorKind → Self → Type 0 };
 
     // What a flush that succeeded did. Of a `Write` std tells nothing.
     ghost flushes: { Self → Self → Type 0 };
 
-    /// Makes one request, which writes all bytes.
+    /// Writes all bytes by one request.
     ///
     /// # Errors
     ///
-    /// The target's own, as [`Write::write_all`] has them. Which bytes went then, it need not tell.
+    /// The target's own, as [`Write::write_all`] has them. The target need not tell which bytes
+    /// went then.
     fn write_all(&mut self, bytes: &[u8]) -> io::Result<()>
         ensures bytes { OnOk result (Appends (contents self.old) (contents self.new) bytes.now) }
         ensures reference_names { reference_names self.new ≡ reference_names self.old }
         ensures refused { IfErr result
             (λ e. refuses self.old (length bytes.now) (error_kind e) self.new) };
 
-    /// Makes one request for no bytes: has the target pass on what it holds back itself.
+    /// Flushes the target by one request, which sends no bytes: the target passes on what it has
+    /// buffered itself.
     ///
     /// # Errors
     ///

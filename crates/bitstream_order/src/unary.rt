@@ -1,4 +1,4 @@
-//! Runs of digits from the bytes of a stream.
+//! Takes unary words from the bytes of a stream.
 ghost use Rattle.std.specs.Prelude.{◌≡◌, ◌+◌, ◌-◌, ◌<◌, ◌≤◌, IfOk, IfSome, OnOk};
 ghost use Rattle.bitstream_number.specs.Word.{word};
 ghost use Rattle.bitstream_order.specs.Parts.{first_part};
@@ -12,11 +12,11 @@ use crate::source::Source;
 use crate::tally::Tally;
 use bitstream_count::error::Error;
 
-/// Makes one request, for one byte, and returns it.
+/// Fetches one byte by one request.
 ///
 /// # Errors
 ///
-/// As [`Port::fetch`]: no byte was fetched then.
+/// As [`Port::fetch`]. No byte is fetched then.
 #[inline(always)]
 fn fetch_byte<S: Source>(port: &mut Port<S>) -> Result<u8, Error>
     ensures { FetchesByte (MayRefuse S.remaining S.refuses)
@@ -28,24 +28,24 @@ fn fetch_byte<S: Source>(port: &mut Port<S>) -> Result<u8, Error>
     Ok(byte[0])
 }
 
-/// A run of bits before a stop bit, and what is left of the byte that holds the stop bit.
+/// A unary word that was taken, and what is left of the byte that holds its stop bit.
 #[derive(Clone, Copy, Drop)]
 pub struct TakenUnary {
-    /// How many bits came before the stop bit.
+    /// The number of bits before the stop bit.
     pub count: u32,
     /// A byte whose first bits are those left.
     pub left: u8,
-    /// How many bits are left.
+    /// The number of bits left.
     pub waiting: u32,
 }
 
 /// Takes bits up to and with the first one that is `stop`: the first `queued` bits of a byte, and
-/// then those of the bytes of the stream, one byte a turn. Returns the run; or `None` where 2^32 bits
-/// came before any stop bit.
+/// then those of the bytes of the stream, one byte a turn. Returns `None` if 2^32 bits come before
+/// any stop bit.
 ///
 /// # Errors
 ///
-/// As [`Port::fetch`]: the bits of the bytes that were fetched until then are taken.
+/// As [`Port::fetch`]. The bits of all bytes that were fetched before are taken then.
 #[inline(always)]
 pub fn take_unary<S: Source, E: Endianness>(
     port: &mut Port<S>,
@@ -63,6 +63,8 @@ pub fn take_unary<S: Source, E: Endianness>(
     ensures turns { OnOk result (turns.new.count
         ≡ turns.old.count + (fetched_count port.new - fetched_count port.old) + 1) }
 {
+    // The first turn is the queue. The bits behind the queued ones mean nothing, so a stop bit there
+    // is none.
     turns.add(1);
     let first = E::lead(queue, stop);
     if first < queued {
@@ -77,6 +79,7 @@ pub fn take_unary<S: Source, E: Endianness>(
         let byte = fetch_byte(port)?;
         turns.add(1);
         let lead = E::lead(byte, stop);
+        // A sum that a `u32` does not hold is a run of 2^32 bits or more.
         let Some(more) = count.checked_add(lead) else {
             return Ok(None);
         };

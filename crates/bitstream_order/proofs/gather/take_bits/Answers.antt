@@ -1,7 +1,7 @@
 use Rattle.std.proofs.Common.{arith, ◌≡◌, ◌+◌, ◌/◌, length, take, drop, ap, sym, ◌∙◌}
 use Rattle.std.proofs.lemmas.List.{take-append-drop, length-take-le}
 use Rattle.bitstream_number.specs.Word.{bits}
-use Rattle.bitstream_order.specs.TakeBits.{unused}
+use Rattle.bitstream_order.specs.Gather.{unused}
 use Rattle.bitstream_order.proofs.PartLemmas.{first_below}
 use Rattle.bitstream_order.proofs.TakeLemmas.{takes_bits}
 use Rattle.bitstream_order.proofs.gather.take_bits.Goals as goal

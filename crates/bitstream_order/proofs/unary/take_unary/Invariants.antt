@@ -5,7 +5,8 @@ use Rattle.bitstream_order.specs.Port.{port_state, fetched_count}
 use Rattle.bitstream_order.specs.TakeUnary.{TakesBetween}
 use Rattle.bitstream_order.proofs.unary.take_unary.Given as goal
 
--- so many digits so far, none of which is the stop digit, and no bit waits; there was a turn for each byte fetched, and one before
+-- the bits so far, none of which is the stop bit, and no bit is queued; there was a turn for each byte fetched, and one
+-- before
 abbrev pub invariant-loop-byte : goal.invariant-loop-byte
 invariant-loop-byte g l =
     let o = g.E.Endianness.order in
