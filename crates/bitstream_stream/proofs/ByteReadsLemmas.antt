@@ -13,7 +13,7 @@ use Rattle.bitstream_count.specs.Entry.{Front, TooFew, Takes}
 use Rattle.bitstream_number.specs.Word.{Order, High, Low}
 use Rattle.bitstream_order.specs.Parts.{value_bytes}
 use Rattle.bitstream_order.specs.Port.{PortState, Fetches}
-use Rattle.bitstream_order.specs.TakeBits.{seen}
+use Rattle.bitstream_order.specs.Gather.{seen}
 use Rattle.bitstream_order.proofs.FaultLemmas.{end_few}
 use Rattle.bitstream_stream.specs.ByteReader.{byte_reader_state}
 use Rattle.bitstream_stream.specs.ByteReads.{ByteReaderState, ByteSource, byte_front, given_bytes, skipped_bytes, BytesTaken, ByteReadDone, ByteReadOutcome, was_done, was_refused, memory_refused, ByteReads, ByteReadsGrowing}

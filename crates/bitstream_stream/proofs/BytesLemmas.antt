@@ -19,7 +19,7 @@ use Rattle.bitstream_count.specs.Entry.{ReadEntry, TooFew, chain, gives, takes}
 use Rattle.bitstream_order.specs.Port.{PortState, Fetched}
 use Rattle.bitstream_order.specs.Shift.{Shifts}
 use Rattle.bitstream_order.specs.Pieces.{pieces}
-use Rattle.bitstream_order.specs.TakeBits.{TakesWord, seen}
+use Rattle.bitstream_order.specs.Gather.{TakesWord, seen}
 use Rattle.bitstream_stream.specs.Reads.{BitSource, ReadOutcome, failed_reader, had_failed}
 use Rattle.bitstream_stream.specs.ReadTable.{unsigned_entry, bytes_entry, skip_entry}
 use Rattle.bitstream_stream.proofs.EntryLemmas.{Same, Same-trans, word_front-some, word_front-none, chain_takes, map_takes}

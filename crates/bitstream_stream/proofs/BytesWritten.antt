@@ -1,5 +1,5 @@
 -- Bytes behind the queue of a writer, and zeros.
-use Rattle.std.proofs.Common.{◌≡◌, ℕ, zero, suc, ◌+◌, ◌-◌, ◌*◌, ◌^◌, ◌<◌, ◌≤◌, Bool, true, false, List, [], ◌∷◌, ◌++◌, length, take, drop, replicate, reverse, Result, Ok, Err, refl, sym, ap, ◌∙◌, subst, arith, add-one}
+use Rattle.std.proofs.Common.{◌≡◌, ℕ, zero, suc, ◌+◌, ◌-◌, ◌*◌, ◌%◌, ◌^◌, ◌<◌, ◌≤◌, Bool, true, false, List, [], ◌∷◌, ◌++◌, length, take, drop, replicate, reverse, Result, Ok, Err, refl, sym, ap, ◌∙◌, subst, arith, add-one}
 use Rattle.std.proofs.Math.Nat.{zero-div}
 use mathlib.Core.List.{reverse-cons}
 use Rattle.bitstream_number.specs.Word.{Order, High, Low, digits, word, number, bits}
@@ -11,13 +11,15 @@ use Rattle.bitstream_order.specs.Port.{PortState, Sent, SendRefused}
 use Rattle.bitstream_order.specs.Refusal.{Refusal}
 use Rattle.bitstream_order.specs.Shift.{Shifts}
 use Rattle.bitstream_stream.specs.Carries.{WriterState}
-use Rattle.bitstream_stream.specs.Sink.{Appended, WriteRefused}
+use Rattle.bitstream_stream.specs.Sink.{Appended, WriteRefused, Writes}
 use Rattle.bitstream_stream.specs.Writer.{queue_sink, Pushes}
+use Rattle.bitstream_stream.specs.Alignment.{to_boundary}
+use Rattle.bitstream_stream.specs.WriteTable.{align}
 use Rattle.bitstream_stream.proofs.SinkParts.{WriteRefused-behind, WriteRefused-within, WriteRefused-longer}
 pub use Rattle.bitstream_stream.proofs.SinkParts.{appended_none, appended_more}
 use Rattle.bitstream_stream.proofs.WriteLemmas.{replicate-more}
 use Rattle.std.proofs.lemmas.List.{replicate-append-replicate, take-append-drop, take-replicate}
-use Rattle.bitstream_stream.proofs.WriterLemmas.{pushed_fault}
+use Rattle.bitstream_stream.proofs.WriterLemmas.{pushed_fault, pushes_writes}
 
 -- ---- one request
 
@@ -102,3 +104,11 @@ module _ (may : Refusal → Type 0) (o : Order) where
   pub zeros-stop : (a n : ℕ) (x : Error) (s t : WriterState) (r : Result (Unit {0}) Error) → IsErrAnd r (λ e. e ≡ x) → a ≤ n → WriteRefused (queue_sink may o) s (replicate a false) x t → Pushes may o (replicate n false) s r t
   zeros-stop a n x s t (Ok done) e le h = absurd e
   zeros-stop a n x s t (Err y) e le h = rw (e, zeros-split a (n - a) n (omega arith)) (WriteRefused-longer (queue_sink may o) s t x (replicate a false) (replicate (n - a) false) h)
+
+  -- a number 0 of as many bits as are missing in the queue's byte is an alignment
+  pub pushes_align : (n : ℕ) (s : WriterState) (r : Result (Unit {0}) Error) (t : WriterState) → n ≡ (8 - s.queued) % 8 → s.queued < 8 → s.failed ≡ false → Pushes may o (word o n 0) s r t
+      → Writes (queue_sink may o) align s r t
+  pushes_align n s r t is few sound h =
+      let same : to_boundary (8 * s.port.sent + s.queued) ≡ n = omega arith in
+      let entry : align (8 * s.port.sent + s.queued) ≡ Ok (replicate n false) = ap (λ (k : ℕ). Ok (replicate k false)) same in
+      pushes_writes may o (replicate n false) align s r t sound entry (pushes_zeros n s r t h)

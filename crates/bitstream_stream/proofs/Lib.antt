@@ -8,6 +8,7 @@ pub mod GroupLemmas
 pub mod LawLemmas
 pub mod LentLemmas
 pub mod LentWalk
+pub mod PlaceLemmas
 pub mod ReaderLemmas
 pub mod ReadsLemmas
 pub mod Rows

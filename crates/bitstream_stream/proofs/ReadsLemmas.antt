@@ -12,7 +12,7 @@ use Rattle.bitstream_count.specs.declared.error.Error.TheVariants.{OutOfMemory, 
 use Rattle.bitstream_count.specs.Entry.{Front, ReadEntry, TooFew, Takes, longer, chain, gives}
 use Rattle.bitstream_number.specs.Word.{Order, bits}
 use Rattle.bitstream_number.proofs.WordLemmas.{bits-append}
-use Rattle.bitstream_order.specs.TakeBits.{seen}
+use Rattle.bitstream_order.specs.Gather.{seen}
 use Rattle.bitstream_order.specs.Fault.{read_refusal_of}
 use Rattle.bitstream_stream.proofs.EntryLemmas.{Same, chain-ok, chain-err, chain-none, chain-failed}
 use Rattle.bitstream_stream.proofs.SinkLemmas.{exit_is}

@@ -7,7 +7,7 @@ use Rattle.bitstream_number.proofs.WordLemmas.{length-word}
 use Rattle.bitstream_count.specs.Entry.{WriteEntry}
 use Rattle.bitstream_count.specs.declared.error.Error.{Error}
 use Rattle.bitstream_order.specs.Parts.{piece, put_number}
-use Rattle.bitstream_order.specs.SendBits.{SendsBits}
+use Rattle.bitstream_order.specs.Send.{SendsBits}
 use Rattle.bitstream_order.specs.Port.{PortState, SendRefused}
 use Rattle.bitstream_order.specs.Refusal.{Refusal}
 use Rattle.bitstream_order.proofs.TakeLemmas.{word-none}
@@ -19,6 +19,8 @@ use Rattle.bitstream_stream.proofs.WriteLemmas.{word-bit}
 use mir.Val.{bool_byte}
 use Rattle.bitstream_stream.specs.Carries.{WriterState, Carries}
 use Rattle.bitstream_stream.specs.Writer.{writer_state, AddsBits, queue_sink, Pushes}
+use Rattle.bitstream_stream.specs.Ways as flushes
+use Rattle.bitstream_stream.specs.Ways.{Flushes}
 use Rattle.bitstream_stream.specs.declared.writer.BitWriter.{BitWriter}
 use Rattle.std.specs.Borrow.{GName}
 
@@ -96,6 +98,12 @@ pushed_fault may o queued queue n v k error p r old new q h few full broken =
 pub pushes_lost : (may : Refusal → Type 0) (o : Order) (x : List Bool) (error : Error) (result : Result (Unit {0}) Error) (p : PortState) (old new : WriterState) → result ≡ Err error → new ≡ record { port = p; queued = 0; queue = 0; failed = true }
     → WriteRefused (queue_sink may o) old x error (record { port = p; queued = 0; queue = 0; failed = true }) → Pushes may o x old result new
 pushes_lost may o x error result p old new answer is h = rw answer (subst (λ s. WriteRefused (queue_sink may o) old x error s) (sym is) h)
+
+-- a flush that was refused, and the writer was made to fail
+pub flushes_lost : (may : Refusal → Type 0) (error : Error) (result : Result (Unit {0}) Error) (p : PortState) (old new : WriterState) → old.failed ≡ false → result ≡ Err error → new ≡ record { port = p; queued = 0; queue = 0; failed = true }
+    → SendRefused may error old.port 0 p → Flushes may old result new
+flushes_lost may error result p old new sound answer is h =
+    flushes.was_refused error sound answer (subst (λ (s : WriterState). SendRefused may error old.port 0 s.port) (sym is) h) (ap (λ (s : WriterState). s.queued) is) (ap (λ (s : WriterState). s.failed) is)
 
 -- what a push does is what the call does
 pub pushes_writes : (may : Refusal → Type 0) (o : Order) (x : List Bool) (e : WriteEntry) (old : WriterState) (result : Result (Unit {0}) Error) (new : WriterState) → old.failed ≡ false → e ((queue_sink may o).len old) ≡ Ok x

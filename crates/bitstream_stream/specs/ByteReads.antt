@@ -11,7 +11,7 @@ use Rattle.bitstream_order.specs.Refusal.{Refusal, IsTrueEnd}
 
 -- what a state of a reader of bytes tells
 pub record ByteReaderState : Type 0 where
-  -- the bytes left in the stream, where it tells them, and how many were taken so far
+  -- the bytes left in the stream, if it tells them, and the number of bytes taken so far
   pub bytes : Option (List ℕ)
   pub taken : ℕ
   -- the requests of the stream that were refused, the last one first
@@ -30,11 +30,11 @@ pub record ByteSource (R : Type 0) : Type 1 where
 abbrev pub ByteReadEntry : Type 0 → Type 0
 ByteReadEntry A = List ℕ → Front A
 
--- n bytes, whose answer is g of them
+-- n bytes, answered as g of them
 abbrev pub byte_front : {A : Type 0} → ℕ → (List ℕ → Result A Error) → ByteReadEntry A
 byte_front n g bytes = if nat_le n (length bytes) then Takes n (g (take n bytes)) else TooFew
 
--- n bytes, which are the answer
+-- n bytes, answered as they are
 unfoldable pub given_bytes : ℕ → ByteReadEntry (List ℕ)
 given_bytes n = byte_front n (λ bytes. Ok bytes)
 

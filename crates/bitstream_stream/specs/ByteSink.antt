@@ -14,9 +14,9 @@ pub record ByteSink (S : Type 0) : Type 1 where
   pub order : Order
   -- the second state is the first with these bytes appended
   pub appends : S → List ℕ → S → Type 0
-  -- the bytes that its stream holds, where it tells
+  -- the bytes that its stream holds, if it tells them
   pub contents : S → Option (List ℕ)
-  -- how many bytes were written
+  -- the number of bytes written
   pub len : S → ℕ
   -- the greatest number of bytes, for a counter
   pub limit : Option ℕ

@@ -1,4 +1,4 @@
--- What a writer has sent, and the bits that wait behind it.
+-- What a writer has sent, and the bits queued behind it.
 use Rattle.std.specs.Prelude.{◌≡◌, ℕ, ◌+◌, ◌*◌, ◌<◌, Bool, true, Option, List, [], ◌++◌, length}
 use Rattle.std.specs.Io.KnownBytes.{Appends}
 use Rattle.std.proofs.Common.{sym, ap, ◌∙◌, add_assoc, add-zero, append-nil, append_assoc, length-append}
@@ -8,14 +8,14 @@ use Rattle.bitstream_number.proofs.WordLemmas.{bits-append}
 use Rattle.bitstream_order.specs.Port.{PortState}
 use Rattle.bitstream_order.proofs.SendLemmas.{sent_bits}
 
--- a port, and the bits that are still to go to it: the word of `queue`, `queued` bits long
+-- a port, and the bits queued for it: the word of `queue`, `queued` bits long
 pub record WriterState : Type 0 where
   pub port : PortState
   pub queued : ℕ
   pub queue : ℕ
   pub failed : Bool
 
--- the same writer, which has failed: no bit waits any more
+-- the same writer after a refusal: it has failed, and its queue is empty
 abbrev pub failed_writer : WriterState → WriterState
 failed_writer s = record s { queued = 0; queue = 0; failed = true }
 
@@ -26,7 +26,7 @@ pub record Carries (o : Order) (a : WriterState) (x : List Bool) (b : WriterStat
   pub sent : b.port.sent ≡ a.port.sent + length bytes
   pub word : word o a.queued a.queue ++ x ≡ bits o bytes ++ word o b.queued b.queue
 
--- what a stream tells where the bits x go behind those that wait, and the bytes that are full then were sent
+-- what a stream tells when the bits x are written behind the queued ones and the full bytes are sent
 pub record Fills (o : Order) (a : WriterState) (x : List Bool) (known : Option (List ℕ)) : Type 0 where
   pub bytes : List ℕ
   pub grows : Appends a.port.bytes known bytes

@@ -3,13 +3,13 @@ use Rattle.std.specs.Prelude.{◌≡◌, ℕ, ◌^◌, ◌<◌, ◌++◌}
 use Rattle.bitstream_number.specs.Word.{Order, word}
 use Rattle.bitstream_count.specs.Vbr.{vbr_word}
 
--- the groups of v are this one and those of a lesser rest
+-- the groups of v are this one and then those of a smaller rest
 pub record IsFirstGroup (field v group rest : ℕ) : Type 0 where
   pub fits : group < 2 ^ field
   pub less : rest < v
   pub parts : (o : Order) → vbr_word o field v ≡ word o field group ++ vbr_word o field rest
 
--- v is its one group
+-- v is held by one group, which is v
 pub record IsLastGroup (field v : ℕ) : Type 0 where
   pub fits : v < 2 ^ field
   pub whole : (o : Order) → vbr_word o field v ≡ word o field v

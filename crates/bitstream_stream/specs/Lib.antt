@@ -5,6 +5,7 @@ pub mod ByteSink
 pub mod ByteWriter
 pub mod Carries
 pub mod Groups
+pub mod Place
 pub mod ReadTable
 pub mod Reader
 pub mod Reads

@@ -15,7 +15,7 @@ pub record ReaderState : Type 0 where
   -- the bits that were fetched and not taken, and the bytes left in the stream, if it tells
   pub queue : List Bool
   pub bytes : Option (List ℕ)
-  -- how many bits were taken so far, and how many bytes were fetched from the stream for them
+  -- the number of bits taken so far, and of bytes fetched from the stream for them
   pub taken : ℕ
   pub fetched : ℕ
   pub failed : Bool
@@ -50,12 +50,12 @@ pub record BitSource (R : Type 0) : Type 1 where
 abbrev pub bits_left : Order → ReaderState → Option (List Bool)
 bits_left o s = option_map (λ xs. s.queue ++ bits o xs) s.bytes
 
--- the answer after which a reader that answered has failed
+-- the answer of a call that leaves the reader failed
 abbrev pub is_run_too_long : {A : Type 0} → Result A Error → Bool
 is_run_too_long (Err RunTooLong) = true
 is_run_too_long answer = false
 
--- the reader had failed: it answers that, and nothing changes
+-- the reader had failed: it answers so, and nothing changes
 pub record HadFailed {A : Type 0} (entry : ReadEntry A) (old : ReaderState) (result : Result A Error) (new : ReaderState) : Type 0 where
   pub failed : old.failed ≡ true
   pub answer : result ≡ entry.on_failed

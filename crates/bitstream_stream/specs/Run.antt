@@ -1,15 +1,15 @@
--- What lists of calls mean, made one after another.
+-- Runs: what lists of calls mean, made one after another.
 use Rattle.std.specs.Prelude.{ℕ, ◌+◌, Bool, List, [], ◌∷◌, ◌++◌, length, drop, Option, Some, None, Result, Ok, Err}
 use Rattle.bitstream_count.specs.declared.error.Error.{Error}
 use Rattle.bitstream_count.specs.declared.error.Error.TheVariants.{RunTooLong}
 use Rattle.bitstream_count.specs.Entry.{Front, TooFew, Takes, ReadEntry, WriteEntry}
 
--- the word of an accepted call, and no bit for a refused one
+-- the word of an accepted call, and no bits for a rejected one
 abbrev pub accepted : Result (List Bool) Error → List Bool
 accepted (Ok w) = w
 accepted (Err e) = []
 
--- why a call was refused, if it was
+-- the error of a call, if it was rejected
 abbrev pub refusal_if_any : Result (List Bool) Error → Option Error
 refusal_if_any (Ok w) = None
 refusal_if_any (Err e) = Some e
@@ -21,15 +21,15 @@ write_run (entry ∷ entries) len =
     let w = accepted (entry len) in
     w ++ write_run entries (len + length w)
 
--- why each call was refused, if it was
+-- the error of each call, if it was rejected
 abbrev pub write_refusals : List WriteEntry → ℕ → List (Option Error)
 write_refusals [] len = []
 write_refusals (entry ∷ entries) len =
     let w = entry len in
     refusal_if_any w ∷ write_refusals entries (len + length (accepted w))
 
--- a call's answer and the place behind it, and then those of the calls that follow; none where the bits are too few,
--- and none behind a run that was too long
+-- a call's answer and the place behind it, and then those of the calls that follow; none if the bits are too few, and
+-- none behind a run that was too long
 abbrev pub answer_and : {A : Type 0} → Front A → ℕ → (ℕ → List (Result A Error × ℕ)) → List (Result A Error × ℕ)
 answer_and TooFew p others = []
 answer_and (Takes n (Err RunTooLong)) p others = (Err RunTooLong, p + n) ∷ []

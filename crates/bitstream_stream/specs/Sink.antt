@@ -28,10 +28,11 @@ pub record Sink (S : Type 0) : Type 1 where
   pub order : Order
   -- the second state is the first with these bits appended
   pub appends : S → List Bool → S → Type 0
-  -- the bytes that its stream holds, if it tells; and those that it would hold with these bits written after the state
+  -- the bytes that its stream holds, if it tells them; and those that it would hold with these bits written after the
+  -- state
   pub contents : S → Option (List ℕ)
   pub fills : S → List Bool → Option (List ℕ) → Type 0
-  -- how many bits were written
+  -- the number of bits written
   pub len : S → ℕ
   -- the greatest number of bits, for a counter
   pub limit : Option ℕ

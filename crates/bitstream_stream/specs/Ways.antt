@@ -1,4 +1,4 @@
--- The streams of readers and writers, and what becomes of these where their stream is lent.
+-- The streams of readers and writers, and what readers and writers become whose stream was lent.
 use Rattle.std.specs.Prelude.{◌≡◌, ◌+◌, true, false, [], Result, Ok, Err}
 use Rattle.std.specs.Borrow.{GName}
 use Rattle.std.proofs.Common.{refl}
@@ -7,7 +7,7 @@ use Rattle.bitstream_count.specs.declared.error.Error.TheVariants.{Failed}
 use Rattle.bitstream_order.specs.Port.{Sent, SendRefused, port_stream, with_stream}
 use Rattle.bitstream_order.specs.Refusal.{Refusal}
 use Rattle.bitstream_order.specs.declared.lent.Lent.{Lent}
-use Rattle.bitstream_order.specs.TakeBits.{seen}
+use Rattle.bitstream_order.specs.Gather.{seen}
 use Rattle.bitstream_order.proofs.DropLemmas.{none_few, dropped_whole, dropped_back}
 use Rattle.bitstream_stream.specs.Carries.{WriterState}
 use Rattle.bitstream_stream.specs.Sink.{Sink, Writes}

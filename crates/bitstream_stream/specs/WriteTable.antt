@@ -1,4 +1,4 @@
--- The table of write calls: what each means behind so many bits written before.
+-- The write table: what each call means, by the number of bits written before.
 use Rattle.std.specs.Prelude.{ℕ, ℤ, pos, negsuc, ◌-◌, ◌^◌, ◌==◌, ◌||◌, nat_lt, if◌then◌else◌, Bool, false, List, [], ◌∷◌, replicate, Ok, Err}
 use Rattle.bitstream_stream.specs.Alignment.{to_boundary}
 use Rattle.bitstream_number.specs.Word.{Order, word, signed_word, zig, bits, count_width}
@@ -34,7 +34,7 @@ signed o size n x _ =
     else (if nat_lt size n then Err (Checked ExcessiveBits)
     else (if fits_signed n x then Ok (signed_word o n x) else Err (Checked ExcessiveValue)))
 
--- a number as a run: so many bits that are not the stop bit, and then that
+-- a unary number: k bits that are not the stop bit, and then the stop bit
 abbrev pub unary_word : Bool → ℕ → WriteEntry
 unary_word stop k = plain (unary stop k)
 
@@ -58,6 +58,6 @@ zeros n = plain (replicate n false)
 abbrev pub vbr : Order → ℕ → ℕ → WriteEntry
 vbr o field v = plain (vbr_word o field v)
 
--- a number of either sign so, by its place in the order 0, -1, 1, -2, 2, ..
+-- a signed number in such groups, by its place in the order 0, -1, 1, -2, 2, ..
 abbrev pub signed_vbr : Order → ℕ → ℤ → WriteEntry
 signed_vbr o field x = vbr o field (zig x)

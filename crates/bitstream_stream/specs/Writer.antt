@@ -21,23 +21,31 @@ writer_state contents reference_names w = record {
   failed = w.failed;
 }
 
--- how many requests a writer made
+-- the number of requests that a writer made
 abbrev pub requests_made : {W E : Type 0} → BitWriter W E → ℕ
 requests_made writer = requests_count writer.port
 
--- how many bits a writer has yet to send
+-- the number of bits that a writer has queued
 abbrev pub queued_bits : {W E : Type 0} → BitWriter W E → ℕ
 queued_bits writer = writer.queued
 
--- a call for a word of n bits made one request at most, and none where it filled no byte
+-- the number of these bits
+abbrev pub queue_number : {W E : Type 0} → BitWriter W E → ℕ
+queue_number writer = writer.queue
+
+-- whether a writer has failed
+abbrev pub has_failed : {W E : Type 0} → BitWriter W E → Bool
+has_failed writer = writer.failed
+
+-- a call for a word of n bits made one request at most, and none if it filled no byte
 abbrev pub AsksForWord : {W E : Type 0} → ℕ → BitWriter W E → BitWriter W E → Type 0
 AsksForWord n old new = (requests_made new ≤ requests_made old + 1) × (queued_bits old + n < 8 → requests_made new ≡ requests_made old)
 
--- a call for n bytes that was answered with a value made as many requests as these have pieces
+-- a call for n bytes that answered a value made one request for each of their pieces
 abbrev pub AsksForBytes : {W E A : Type 0} → ℕ → ℕ → BitWriter W E → Result A Error → BitWriter W E → Type 0
 AsksForBytes most n old result new = OnOk result (requests_made new ≡ requests_made old + pieces most (queued_bits old) n)
 
--- a writer to which nothing was written, by what its stream tells
+-- a new writer, by what its stream tells
 abbrev pub new_writer_state : Option (List ℕ) → List GName → WriterState
 new_writer_state contents reference_names = record {
   port = new_port_state contents reference_names;
@@ -67,13 +75,13 @@ queue_sink may o = record {
   limit_full = tt;
 }
 
--- bytes were added to those that a stream holds, where it tells, and these are their bits
+-- bytes were added to those that a stream holds, if it tells them, and these are their bits
 pub record AddsBits (o : Order) (old : Option (List ℕ)) (x : List Bool) (new : Option (List ℕ)) : Type 0 where
   pub bytes : List ℕ
   pub grows : Appends old new bytes
   pub bits : bits o bytes ≡ x
 
--- the bits x go behind those that a sound writer has, or a request is refused and it has failed
+-- the bits x were written by a writer that has not failed; or a request was refused, and the writer has failed
 abbrev pub Pushes : (Refusal → Type 0) → Order → List Bool → WriterState → Result (Unit {0}) Error → WriterState → Type 0
 Pushes may o x old (Ok done) new = Appended (queue_sink may o) old x new
 Pushes may o x old (Err error) new = WriteRefused (queue_sink may o) old x error new

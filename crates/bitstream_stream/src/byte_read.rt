@@ -1,7 +1,7 @@
-//! Calls that read whole bytes.
+//! The calls of a reader of bytes.
 ghost use Rattle.std.specs.Prelude.{◌≡◌, length};
 ghost use Rattle.bitstream_order.specs.Parts.{value_bytes};
-ghost use Rattle.bitstream_order.specs.TakeBits.{seen};
+ghost use Rattle.bitstream_order.specs.Gather.{seen};
 ghost use Rattle.bitstream_stream.specs.ByteReads.{ByteSource, ByteReads, ByteReadsGrowing, given_bytes, skipped_bytes, lent_byte_source};
 
 use crate::grow::grow;
@@ -15,9 +15,9 @@ use std::alloc::Allocator;
 ///
 /// # Errors
 ///
-/// Where the stream beneath refuses a request, a call answers `EndOfInput`, `OutOfMemory` or
-/// `Stream` with the kind of the refusal. Nothing is remembered of it: the next call asks the
-/// stream again.
+/// If the stream refuses a request, a call answers `EndOfInput`, `OutOfMemory` or `Stream` with the
+/// kind of the refusal. A reader of bytes does not fail: the next call asks the stream again. The
+/// calls below name only the errors of their own.
 ///
 /// # Examples
 ///
@@ -33,37 +33,22 @@ pub trait ByteRead {
     // What the states of the reader mean.
     ghost source: { ByteSource Self };
 
-    /// Reads a value of whole bytes, in the reader's order of bytes, and returns it.
-    ///
-    /// # Errors
-    ///
-    /// Those of the stream.
+    /// Reads a value from its bytes, in the reader's byte order.
     fn read<V: Primitive>(&mut self) -> Result<V, Error>
         ensures reads { ByteReads source (given_bytes V.BYTES) self.old
             (seen (value_bytes source.order V.be_bytes V.le_bytes) result) self.new };
 
-    /// Reads a value of whole bytes, in the order of bytes F, and returns it.
-    ///
-    /// # Errors
-    ///
-    /// Those of the stream.
+    /// Reads a value from its bytes, in the byte order F.
     fn read_as<F: Endianness, V: Primitive>(&mut self) -> Result<V, Error>
         ensures reads { ByteReads source (given_bytes V.BYTES) self.old
             (seen (value_bytes F.order V.be_bytes V.le_bytes) result) self.new };
 
-    /// Takes so many bytes, whatever they are.
-    ///
-    /// # Errors
-    ///
-    /// Those of the stream.
+    /// Skips the given number of bytes, whatever they are.
     fn skip(&mut self, bytes: u32) -> Result<(), Error>
         ensures reads { ByteReads source (skipped_bytes bytes) self.old result self.new };
 
-    /// Fills a buffer. For an empty one nothing is asked of the stream.
-    ///
-    /// # Errors
-    ///
-    /// Those of the stream. What the buffer holds then is not said.
+    /// Fills a buffer with bytes. For an empty one no request is made. After an error the contents
+    /// of the buffer are not specified.
     fn read_bytes(&mut self, buf: &mut [u8]) -> Result<(), Error>
         ensures reads { ByteReads source (given_bytes (length buf.old)) self.old
             (seen (λ _. buf.new) result) self.new }
@@ -75,12 +60,7 @@ pub trait ByteRead {
         Ok(())
     }
 
-    /// Reads as many bytes as V has, and returns them: `read_to_bytes::<[u8; 4]>()` gives an array
-    /// of four.
-    ///
-    /// # Errors
-    ///
-    /// Those of the stream.
+    /// Reads the bytes of a V: `read_to_bytes::<[u8; 4]>()` gives an array of four.
     fn read_to_bytes<V: Primitive>(&mut self) -> Result<V::Bytes, Error>
         ensures reads { ByteReads source (given_bytes V.BYTES) self.old
             (seen V.Bytes.items result) self.new }
@@ -90,13 +70,13 @@ pub trait ByteRead {
         Ok(bytes)
     }
 
-    /// Reads so many bytes, and returns them. Up to 4096 of them take one buffer of their size;
-    /// more are read 4096 at a time at most, and the buffer grows as they come. So a length that is
-    /// false costs no memory where the stream is short.
+    /// Reads the given number of bytes into a vector. Up to 4096 bytes take one buffer of their
+    /// size. More are read 4096 at a time at most, and the buffer grows as they come. So a length
+    /// that the stream does not have costs little memory.
     ///
     /// # Errors
     ///
-    /// Those of the stream, and `OutOfMemory` where memory for the bytes is refused.
+    /// `OutOfMemory` if memory for the bytes is refused.
     fn read_to_vec<A: Allocator>(&mut self, alloc: A, bytes: usize) -> Result<Vec<u8, A>, Error>
         ensures reads { ByteReadsGrowing source (given_bytes bytes) self.old
             (seen (λ read. read.items) result) self.new }

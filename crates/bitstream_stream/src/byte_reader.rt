@@ -2,7 +2,7 @@
 ghost use Rattle.std.specs.Prelude.{◌≡◌, length};
 ghost use Rattle.bitstream_order.specs.Parts.{value_bytes};
 ghost use Rattle.bitstream_order.specs.Port.{new_port_state};
-ghost use Rattle.bitstream_order.specs.TakeBits.{seen};
+ghost use Rattle.bitstream_order.specs.Gather.{seen};
 ghost use Rattle.bitstream_stream.specs.ByteReads.{ByteReads, given_bytes, skipped_bytes};
 
 use crate::byte_read::ByteRead;
@@ -19,7 +19,7 @@ use std::marker::PhantomData;
 
 mod ways;
 
-/// Reads whole bytes from a stream, and holds none back.
+/// Reads whole bytes from a stream, and queues none.
 ///
 /// # Examples
 ///
@@ -40,7 +40,7 @@ pub struct ByteReader<R, E> {
 impl<R: Source, E: Endianness> ByteReader<R, E> {
     ghost use Rattle.bitstream_stream.specs.ByteReader.{byte_reader_state};
 
-    /// Returns a reader of a stream's bytes. Nothing is asked of the stream yet.
+    /// Returns a reader of a stream's bytes. No request is made yet.
     pub fn new(reader: R) -> ByteReader<R, E>
         ensures { ⟦<Self as ByteRead>⟧.source.state result
             ≡ byte_reader_state (new_port_state (R.remaining reader) (R.reference_names reader)) }
@@ -51,7 +51,7 @@ impl<R: Source, E: Endianness> ByteReader<R, E> {
         }
     }
 
-    /// Returns a reader as [`new`](ByteReader::new) does, with its order as an argument.
+    /// Does what [`new`](ByteReader::new) does, with the order as an argument.
     pub fn endian(reader: R, _endian: E) -> ByteReader<R, E>
     where
         E: Drop,

@@ -1,4 +1,4 @@
-//! Calls that write whole bytes.
+//! The calls of a sink of bytes.
 ghost use Rattle.std.specs.Prelude.{replicate};
 ghost use Rattle.bitstream_order.specs.Parts.{value_bytes};
 ghost use Rattle.bitstream_stream.specs.ByteSink.{ByteSink, ByteWrites, lent_byte_sink};
@@ -11,9 +11,9 @@ use bitstream_order::order::Endianness;
 ///
 /// # Errors
 ///
-/// Where the stream beneath refuses a request, a call answers `OutOfMemory` or `Stream` with the
-/// kind of the refusal. Nothing is remembered of it: the next call asks the stream again. A sink
-/// with a limit answers `CounterOverflow` where the bytes would pass it, and is as it was.
+/// If the stream refuses a request, a call answers `OutOfMemory` or `Stream` with the kind of the
+/// refusal. A sink of bytes does not fail: the next call asks the stream again. A sink with a limit
+/// answers `CounterOverflow` if the bytes would pass it, and is as it was.
 ///
 /// # Examples
 ///
@@ -30,37 +30,21 @@ pub trait ByteWrite {
     // What the states of the sink mean.
     ghost sink: { ByteSink Self };
 
-    /// Writes the bytes of a value, in the sink's order of bytes.
-    ///
-    /// # Errors
-    ///
-    /// Those of the stream, and `CounterOverflow` past a limit.
+    /// Writes the bytes of a value, in the sink's byte order.
     fn write<V: Primitive>(&mut self, value: V) -> Result<(), Error>
         ensures writes { ByteWrites sink (value_bytes sink.order V.be_bytes V.le_bytes value)
             self.old result self.new };
 
-    /// Writes the bytes of a value, in the order of bytes F.
-    ///
-    /// # Errors
-    ///
-    /// Those of the stream, and `CounterOverflow` past a limit.
+    /// Writes the bytes of a value, in the byte order F.
     fn write_as<F: Endianness, V: Primitive>(&mut self, value: V) -> Result<(), Error>
         ensures writes { ByteWrites sink (value_bytes F.order V.be_bytes V.le_bytes value)
             self.old result self.new };
 
-    /// Writes these bytes. For none nothing is asked of the stream.
-    ///
-    /// # Errors
-    ///
-    /// Those of the stream, and `CounterOverflow` past a limit.
+    /// Writes bytes. For none no request is made.
     fn write_bytes(&mut self, bytes: &[u8]) -> Result<(), Error>
         ensures writes { ByteWrites sink bytes.now self.old result self.new };
 
-    /// Writes so many zeros.
-    ///
-    /// # Errors
-    ///
-    /// Those of the stream, and `CounterOverflow` past a limit.
+    /// Writes the given number of zero bytes.
     fn pad(&mut self, bytes: u32) -> Result<(), Error>
         ensures writes { ByteWrites sink (replicate bytes 0) self.old result self.new };
 }

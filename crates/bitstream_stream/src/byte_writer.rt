@@ -13,7 +13,7 @@ use std::marker::PhantomData;
 
 mod ways;
 
-/// Writes whole bytes to a stream, and holds none back.
+/// Writes whole bytes to a stream, and queues none.
 ///
 /// # Examples
 ///
@@ -35,7 +35,7 @@ pub struct ByteWriter<W, E> {
 impl<W: Target, E: Endianness> ByteWriter<W, E> {
     ghost use Rattle.bitstream_stream.specs.ByteWriter.{byte_writer_state};
 
-    /// Returns a writer to a stream. Nothing is asked of the stream yet.
+    /// Returns a writer to a stream. No request is made yet.
     pub fn new(stream: W) -> ByteWriter<W, E>
         ensures { byte_writer_state W.contents W.reference_names result
             ≡ new_port_state (W.contents stream) (W.reference_names stream) }
@@ -46,7 +46,7 @@ impl<W: Target, E: Endianness> ByteWriter<W, E> {
         }
     }
 
-    /// Returns a writer as [`new`](ByteWriter::new) does, with its order as an argument.
+    /// Does what [`new`](ByteWriter::new) does, with the order as an argument.
     pub fn endian(stream: W, _endian: E) -> ByteWriter<W, E>
     where
         E: Drop,

@@ -1,4 +1,4 @@
-//! Whether a number can be written in so many bits.
+//! Checks of numbers against a number of bits.
 ghost use Rattle.std.specs.Prelude.{◌≡◌, ℕ, ◌≤◌, Ok, Err, OnOk, IfErr};
 ghost use Rattle.bitstream_number.specs.Word.{Order, word, signed_word, FitsSignedBits};
 ghost use Rattle.bitstream_stream.specs.WriteTable.{unsigned, signed};
@@ -7,12 +7,13 @@ use bitstream_count::count::{BitCount, CheckedSigned, CheckedUnsigned};
 use bitstream_count::error::Error;
 use bitstream_number::number::{SignedInteger, UnsignedInteger};
 
-/// Checks that an unsigned value can be written in so many bits. In 0 bits any value can.
+/// Checks that an unsigned value can be written in the given number of bits. In 0 bits any value
+/// can.
 ///
 /// # Errors
 ///
-/// `Checked(ExcessiveBits)` where the type has fewer bits, `Checked(ExcessiveValue)` where the value
-/// takes more.
+/// `Checked(ExcessiveBits)` if the type has fewer bits, else `Checked(ExcessiveValue)` if the value
+/// needs more.
 pub fn check<U: UnsignedInteger>(bits: u32, value: U) -> Result<(), Error>
     ensures width { OnOk result (bits ≤ U.BITS_SIZE) }
     ensures word { OnOk result ((o : Order) (len : ℕ) →
@@ -27,12 +28,12 @@ pub fn check<U: UnsignedInteger>(bits: u32, value: U) -> Result<(), Error>
     }
 }
 
-/// Checks that a signed value can be written in so many bits, as a two's complement.
+/// Checks that a signed value can be written as a two's complement of the given number of bits.
 ///
 /// # Errors
 ///
-/// `NoSignBit` at 0 bits, `Checked(ExcessiveBits)` where the type has fewer, and
-/// `Checked(ExcessiveValue)` where the value takes more.
+/// `NoSignBit` at 0 bits, `Checked(ExcessiveBits)` if the type has fewer bits, else
+/// `Checked(ExcessiveValue)` if the value needs more.
 pub fn check_signed<S: SignedInteger>(bits: u32, value: S) -> Result<(), Error>
     ensures some { OnOk result (1 ≤ bits) }
     ensures width { OnOk result (bits ≤ S.BITS_SIZE) }

@@ -3,11 +3,12 @@ ghost use Rattle.std.specs.Prelude.{◌≡◌, ◌-◌, ◌≤◌, ◌++◌, len
 
 use std::alloc::{AllocError, Allocator};
 
-/// Makes a buffer longer, by zeros. The first time it asks for just the memory that it needs.
+/// Extends a buffer with zeros to the given length. The first growth asks for exactly the memory
+/// that it needs.
 ///
 /// # Errors
 ///
-/// Memory was refused.
+/// If memory is refused.
 pub(crate) fn grow<A: Allocator>(buf: &mut Vec<u8, A>, len: usize) -> Result<(), AllocError>
     requires { length buf.old.items ≤ len }
     ensures { OnOk result (buf.new.items

@@ -1,6 +1,6 @@
-//! What holds of the tables of calls, and of each reader.
+//! Laws of the read table and the write table, and of every reader.
 //!
-//! Each function states a law by its contract, and has nothing to do.
+//! The contract of each function is a law. Its body is empty.
 
 ghost use Rattle.std.specs.Prelude.{◌≡◌, ℕ, ◌+◌, ◌*◌, ◌^◌, ◌<◌, ◌≤◌, ◌++◌, Bool, false, List, Some, Result, Ok};
 ghost use Rattle.bitstream_number.specs.Word.{Order, High, Low, bits as bits_of, bytes as bytes_in};
@@ -18,8 +18,8 @@ use bitstream_order::order::Endianness;
 use bitstream_order::slice::Slice;
 use bitstream_order::source::Source;
 
-/// To read a number of some bits and then one of some more is to read both as one number, of which
-/// the first is the high part in the one order and the low part in the other.
+/// Reading two numbers, one after the other, is reading one number of the bits of both. The first
+/// one is its high part if the order is big-endian, its low part if little-endian.
 pub fn words_join()
     ensures high { (size a b p : ℕ) (bits : List Bool) → a + b ≤ size →
         (chain (unsigned_entry High size a) (λ first.
@@ -31,8 +31,8 @@ pub fn words_join()
         ≡ (unsigned_entry Low size (a + b)).reads p bits }
 {}
 
-/// To read or write the bytes of a number, in the order of the bits, is to read or write the number as
-/// one word.
+/// Reading or writing the bytes of a number, in the order of the bits, is reading or writing the
+/// number as one word.
 pub fn bytes_are_numbers()
     ensures reads { (o : Order) (n p : ℕ) (bits : List Bool) →
         (chain (unsigned_entry o (8 * n) (8 * n)) (λ v. gives (bytes_in o n v))).reads p bits
@@ -41,15 +41,14 @@ pub fn bytes_are_numbers()
         buffer o (bytes_in o n v) len ≡ unsigned o (8 * n) (8 * n) v len }
 {}
 
-/// A reader whose queue was dropped has read what an alignment takes. One that has failed is as it
-/// was.
+/// Dropping a reader's queue is an alignment. A reader that has failed stays as it is.
 pub fn dropped_queues_are_alignments<R: Source, E: Endianness>()
     ensures { (reader : BitReader R E) → Reads ⟦<BitReader<R, E> as BitRead>⟧.source align_entry
         reader (Ok tt) (aligned_reader reader) }
 {}
 
-/// Over a stream that refuses only where its bytes end, a call of any reader answers as its front of
-/// the bits left says, and `EndOfInput` where they have none.
+/// Over a stream that refuses only at a true end, a call of any reader answers what its front of
+/// the bits left says, or `EndOfInput` if they are too few.
 pub fn ends_are_known<R: BitRead, A>()
     ensures { (entry : ReadEntry A) (old new : R) (answer : Result A Error) (bytes : List ℕ)
         → TrueEnds R.source.may
@@ -59,7 +58,7 @@ pub fn ends_are_known<R: BitRead, A>()
         ((R.source.state old).queue ++ bits_of R.source.order bytes)) }
 {}
 
-/// A [`Slice`] is such a stream.
+/// A [`Slice`] refuses only at a true end.
 pub fn slices_end<E: Endianness>()
     ensures { TrueEnds ⟦<BitReader<Slice<'static>, E> as BitRead>⟧.source.may }
 {}

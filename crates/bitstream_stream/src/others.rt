@@ -1,10 +1,10 @@
-//! Bits that are all the same.
+//! Words of one bit, repeated.
 ghost use Rattle.std.specs.Prelude.{◌≡◌, ℕ, ◌^◌, ◌<◌, ◌≤◌, not, replicate};
 ghost use Rattle.bitstream_number.specs.Word.{Order, word};
 
 use bitstream_number::number::{Numeric, UnsignedInteger};
 
-/// Returns the number of n bits of which none is the stop bit.
+/// Returns the number whose n bits are all other than the stop bit.
 #[inline(always)]
 pub(crate) fn others<U: UnsignedInteger>(stop: bool, n: u32) -> U
     requires { n ≤ U.BITS_SIZE }

@@ -1,7 +1,7 @@
-//! In what pieces bytes go.
+//! The sizes of the pieces in which bytes go.
 
-/// How many bytes are moved at a time off a boundary of bytes, or are skipped, or are zeros.
+/// How many bytes go at a time off a byte boundary, or are skipped or padded at a time.
 pub(crate) const PIECE: usize = 1024;
 
-/// By how many bytes a vector grows at a time, at most.
+/// The greatest number of bytes by which a vector grows at a time.
 pub(crate) const GROWTH: usize = 4096;

@@ -1,7 +1,7 @@
-//! Calls that read bits.
+//! The calls of a reader of bits.
 ghost use Rattle.std.specs.Prelude.{◌≡◌, ℕ, ◌+◌, ◌%◌, ◌^◌, ◌<◌, ◌≤◌, ◌⊎◌, ◌↔◌, ◌==◌, false, length, Ok, IsTrue};
 ghost use Rattle.bitstream_order.specs.Parts.{value_bytes};
-ghost use Rattle.bitstream_order.specs.TakeBits.{seen};
+ghost use Rattle.bitstream_order.specs.Gather.{seen};
 ghost use Rattle.bitstream_stream.specs.Reads.{BitSource, Reads, ReadsConst, ReadsGrowing, failed_reader, lent_source};
 ghost use Rattle.bitstream_stream.specs.ReadTable.{bit_entry, unsigned_entry, signed_entry, const_entry, unary_entry, count_entry, align_entry, bytes_entry, skip_entry, is_full, vbr_entry, signed_vbr_entry};
 
@@ -19,10 +19,11 @@ use std::alloc::Allocator;
 ///
 /// # Errors
 ///
-/// Where the stream beneath refuses a request, a call answers `EndOfInput`, `OutOfMemory` or
-/// `Stream` with the kind of the refusal, and the reader has failed. Each later call that reads a
-/// value answers `Failed`, before any other check and also at a width of 0 bits. After any other
-/// error the reader goes on where it was, unless the call says otherwise.
+/// If the stream refuses a request, a call answers `EndOfInput`, `OutOfMemory` or `Stream` with the
+/// kind of the refusal, and the reader has failed. From then on each call that reads a value
+/// answers `Failed`, before any other check and also at a width of 0 bits. After any other error
+/// the reader goes on where it was, unless the call says otherwise. The calls below name only the
+/// errors of their own.
 ///
 /// # Examples
 ///
@@ -42,66 +43,50 @@ pub trait BitRead {
     // What the states of the reader mean.
     ghost source: { BitSource Self };
 
-    /// Reads an unsigned number of so many bits, and returns it.
+    /// Reads an unsigned number of the given number of bits.
     ///
     /// # Errors
     ///
-    /// `ReadBits` where the type has fewer bits: nothing is taken then. Those of the stream, after
-    /// which the reader has failed, and `Failed` from then on.
+    /// `ReadBits` if the type has fewer bits. Nothing is taken then.
     fn read_unsigned_counted<C: Count, U: UnsignedInteger>(&mut self, bits: C) -> Result<U, Error>
         ensures reads { Reads source (unsigned_entry source.order U.BITS_SIZE (C.number bits))
             self.old (seen U.value result) self.new };
 
-    /// Reads a signed number of so many bits, a two's complement, and returns it.
+    /// Reads a signed number, a two's complement of the given number of bits.
     ///
     /// # Errors
     ///
-    /// `ReadBits` where the type has fewer bits: nothing is taken then. Those of the stream, after
-    /// which the reader has failed, and `Failed` from then on.
+    /// `ReadBits` if the type has fewer bits. Nothing is taken then.
     fn read_signed_counted<C: SignedCount, S: SignedInteger>(&mut self, bits: C) -> Result<S, Error>
         ensures reads { Reads source (signed_entry source.order S.BITS_SIZE (C.number bits))
             self.old (seen S.integer result) self.new };
 
-    /// Reads the bytes of a value in the reader's order, and returns the value.
-    ///
-    /// # Errors
-    ///
-    /// Those of the stream, after which the reader has failed, and `Failed` from then on.
+    /// Reads a value from its bytes, in the reader's byte order.
     fn read_to<V: Primitive>(&mut self) -> Result<V, Error>
         ensures reads { Reads source (bytes_entry source.order V.BYTES) self.old
             (seen (value_bytes source.order V.be_bytes V.le_bytes) result) self.new };
 
-    /// Reads the bytes of a value in the order F, and returns the value. The bits of each byte are
-    /// taken in the reader's order.
-    ///
-    /// # Errors
-    ///
-    /// Those of the stream, after which the reader has failed, and `Failed` from then on.
+    /// Reads a value from its bytes, in the byte order F. The bits of each byte are read in the
+    /// reader's order.
     fn read_as_to<F: Endianness, V: Primitive>(&mut self) -> Result<V, Error>
         ensures reads { Reads source (bytes_entry source.order V.BYTES) self.old
             (seen (value_bytes F.order V.be_bytes V.le_bytes) result) self.new };
 
-    /// Returns whether the next bit is the first of a byte. A reader that has failed is not
-    /// aligned.
+    /// Returns whether the reader is at a byte boundary. A reader that has failed is not.
     fn byte_aligned(&self) -> bool
         ensures { IsTrue result ↔ (((source.state self.now).failed ≡ false)
             × ((source.state self.now).taken % 8 ≡ 0)) };
 
-    /// Drops the bits up to the next whole byte. They were fetched before, so nothing is asked of
-    /// the stream. A reader that has failed stays as it is.
+    /// Skips the bits up to the next byte boundary. They are queued, so no request is made. A
+    /// reader that has failed stays as it is.
     fn byte_align(&mut self)
         ensures reads { Reads source align_entry self.old (Ok tt) self.new };
 
-    /// Makes the reader fail, and drops the bits that it holds back. From then on each call that
-    /// reads a value answers `Failed`.
+    /// Makes the reader fail, and drops its queue.
     fn fail(&mut self)
         ensures { source.state self.new ≡ failed_reader (source.state self.old) };
 
     /// Reads one bit, and returns whether it is 1.
-    ///
-    /// # Errors
-    ///
-    /// Those of the stream, after which the reader has failed, and `Failed` from then on.
     fn read_bit(&mut self) -> Result<bool, Error>
         ensures reads { Reads source bit_entry self.old result self.new }
     {
@@ -109,7 +94,7 @@ pub trait BitRead {
         Ok(bit == 1)
     }
 
-    /// Reads an unsigned number of so many bits, and returns it.
+    /// Reads an unsigned number of the given number of bits.
     ///
     /// # Errors
     ///
@@ -121,11 +106,7 @@ pub trait BitRead {
         self.read_unsigned_counted(BitCount::unknown(bits))
     }
 
-    /// Reads an unsigned number of as many bits as B says, which U has, and returns it.
-    ///
-    /// # Errors
-    ///
-    /// Those of the stream, after which the reader has failed, and `Failed` from then on.
+    /// Reads an unsigned number of `B::BITS` bits, at most as many as U has.
     fn read_unsigned<B: Width, U: UnsignedInteger>(&mut self) -> Result<U, Error>
         requires { B.BITS ≤ U.BITS_SIZE }
         ensures reads { Reads source (unsigned_entry source.order U.BITS_SIZE B.BITS)
@@ -134,11 +115,11 @@ pub trait BitRead {
         self.read_unsigned_var(B::BITS)
     }
 
-    /// Reads a signed number of so many bits, a two's complement, and returns it.
+    /// Reads a signed number, a two's complement of the given number of bits.
     ///
     /// # Errors
     ///
-    /// `NoSignBit` at 0 bits: nothing is taken then. Else as
+    /// `NoSignBit` at 0 bits. Nothing is taken then. Else as
     /// [`read_signed_counted`](BitRead::read_signed_counted).
     fn read_signed_var<S: SignedInteger>(&mut self, bits: u32) -> Result<S, Error>
         ensures reads { Reads source (signed_entry source.order S.BITS_SIZE bits)
@@ -153,11 +134,7 @@ pub trait BitRead {
         }
     }
 
-    /// Reads a signed number of as many bits as B says, which S has, and returns it.
-    ///
-    /// # Errors
-    ///
-    /// Those of the stream, after which the reader has failed, and `Failed` from then on.
+    /// Reads a signed number, a two's complement of `B::BITS` bits, at most as many as S has.
     fn read_signed<B: Width, S: SignedInteger>(&mut self) -> Result<S, Error>
         requires some { 1 ≤ B.BITS }
         requires within { B.BITS ≤ S.BITS_SIZE }
@@ -167,12 +144,12 @@ pub trait BitRead {
         self.read_signed_var(B::BITS)
     }
 
-    /// Reads a number of as many bits as B says, which is to be the one that V says.
+    /// Reads a number of `B::BITS` bits, which must be `V::BITS`.
     ///
     /// # Errors
     ///
-    /// `err` where it is another: its bits are taken then. Those of the stream, after which the
-    /// reader has failed, and `Failed` from then on, each turned into an E.
+    /// `err` if the number is another one. Its bits are taken then. Every other error is converted
+    /// into an E.
     fn read_const<B: Width, V: Width, E: From<Error> + Drop>(&mut self, err: E) -> Result<(), E>
         requires word { B.BITS ≤ 32 }
         requires value { (V.BITS < 2 ^ B.BITS) ⊎ (B.BITS ≡ 0) }
@@ -183,14 +160,12 @@ pub trait BitRead {
         if value == V::BITS { Ok(()) } else { Err(err) }
     }
 
-    /// Reads a number as a run of bits that ends with the stop bit S, which is 0 or 1, and returns
-    /// it: how many bits came before the stop bit.
+    /// Reads a unary number: the number of bits before the stop bit, which is `S::BITS`, 0 or 1.
     ///
     /// # Errors
     ///
-    /// `RunTooLong` where 4294967296 bits come before any stop bit: these are taken, and the reader
-    /// has failed. Those of the stream, after which the reader has failed too, and `Failed` from
-    /// then on.
+    /// `RunTooLong` if 4294967296 bits come before any stop bit. These are taken then, and the
+    /// reader has failed.
     fn read_unary<S: Width>(&mut self) -> Result<u32, Error>
         requires { S.BITS < 2 }
         ensures reads { Reads source (unary_entry (S.BITS == 1)) self.old result self.new }
@@ -209,12 +184,8 @@ pub trait BitRead {
         }
     }
 
-    /// Reads a count in as few bits as its greatest number takes, and returns it. That number is 1
-    /// less than a power of two, so any number of so many bits is a count.
-    ///
-    /// # Errors
-    ///
-    /// Those of the stream, after which the reader has failed, and `Failed` from then on.
+    /// Reads a count of bits, in as few bits as hold `C::MAX`. `C::MAX` must be a power of two
+    /// minus 1, so that every number of these bits is a count.
     fn read_count<C: Count>(&mut self) -> Result<C, Error>
         requires some { 0 < C.MAX }
         requires full { IsTrue (is_full 32 C.MAX) }
@@ -228,12 +199,7 @@ pub trait BitRead {
         }
     }
 
-    /// Reads bytes, which fill a buffer.
-    ///
-    /// # Errors
-    ///
-    /// Those of the stream, after which the reader has failed, and `Failed` from then on. What the
-    /// buffer holds then is not said.
+    /// Fills a buffer with bytes. After an error the contents of the buffer are not specified.
     fn read_bytes(&mut self, buf: &mut [u8]) -> Result<(), Error>
         ensures reads { Reads source (bytes_entry source.order (length buf.old))
             self.old (seen (λ _. buf.new) result) self.new }
@@ -245,12 +211,7 @@ pub trait BitRead {
         Ok(())
     }
 
-    /// Reads as many bytes as V has, and returns them: `read_to_bytes::<[u8; 4]>()` gives an array
-    /// of four.
-    ///
-    /// # Errors
-    ///
-    /// Those of the stream, after which the reader has failed, and `Failed` from then on.
+    /// Reads the bytes of a V: `read_to_bytes::<[u8; 4]>()` gives an array of four.
     fn read_to_bytes<V: Primitive>(&mut self) -> Result<V::Bytes, Error>
         ensures reads { Reads source (bytes_entry source.order V.BYTES)
             self.old (seen V.Bytes.items result) self.new }
@@ -260,13 +221,12 @@ pub trait BitRead {
         Ok(bytes)
     }
 
-    /// Reads so many bytes, and returns them. No more than 4096 are asked for at a time, and memory
-    /// grows as they arrive, so a length that the stream does not have costs little.
+    /// Reads the given number of bytes into a vector. At most 4096 are asked for at a time, and the
+    /// vector grows as they come. So a length that the stream does not have costs little memory.
     ///
     /// # Errors
     ///
-    /// `OutOfMemory` where memory for them was refused, and those of the stream, after which the
-    /// reader has failed, and `Failed` from then on.
+    /// `OutOfMemory` if memory for the bytes is refused. The reader has failed then.
     fn read_to_vec<A: Allocator>(&mut self, alloc: A, bytes: usize) -> Result<Vec<u8, A>, Error>
         ensures reads { ReadsGrowing source (bytes_entry source.order bytes)
             self.old (seen (λ v. v.items) result) self.new }
@@ -286,11 +246,7 @@ pub trait BitRead {
         Ok(buf)
     }
 
-    /// Skips so many bits, whatever they are.
-    ///
-    /// # Errors
-    ///
-    /// Those of the stream, after which the reader has failed, and `Failed` from then on.
+    /// Skips the given number of bits, whatever they are.
     fn skip(&mut self, bits: u32) -> Result<(), Error>
         ensures reads { Reads source (skip_entry bits) self.old result self.new }
     {
@@ -301,14 +257,14 @@ pub trait BitRead {
         Ok(())
     }
 
-    /// Reads an unsigned number of variable width, and returns it: groups of as many bits as F says,
-    /// of which one tells whether another follows, and the others are digits, the lowest first.
+    /// Reads an unsigned number of variable width, in groups of `F::BITS` bits. The highest bit of
+    /// a group says whether another group follows. The others are digits of the number, the lowest
+    /// digits first.
     ///
     /// # Errors
     ///
-    /// `VariableWidthOverflow` where the number is too great for U, or a group begins past its
-    /// bits: the groups up to the one that shows it are taken then. Those of the stream, after which
-    /// the reader has failed, and `Failed` from then on.
+    /// `VariableWidthOverflow` if the number does not fit in U, or a group begins past U's bits.
+    /// The groups up to the one that shows it are taken then, and the reader goes on behind them.
     fn read_unsigned_vbr<F: Width, U: UnsignedInteger>(&mut self) -> Result<U, Error>
         requires some { 2 ≤ F.BITS }
         requires within { F.BITS < U.BITS_SIZE }
@@ -341,8 +297,8 @@ pub trait BitRead {
         Err(Error::VariableWidthOverflow)
     }
 
-    /// Reads a signed number of variable width, and returns it. It stands as an unsigned one: x as
-    /// 2x, or as -2x - 1 where x is below 0.
+    /// Reads a signed number of variable width. It is encoded as an unsigned one (zigzag): x as 2x,
+    /// or as -2x - 1 if x is negative.
     ///
     /// # Errors
     ///

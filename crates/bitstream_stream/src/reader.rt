@@ -2,7 +2,7 @@
 ghost use Rattle.std.specs.Prelude.{◌≡◌, ℕ, ◌+◌, ◌*◌, ◌/◌, ◌^◌, ◌<◌, ◌≤◌, ◌⊎◌, ◌==◌, IsTrue, false, true, length, Ok, OnOk};
 ghost use Rattle.bitstream_number.specs.Word.{count_width};
 ghost use Rattle.bitstream_order.specs.Parts.{value_bytes};
-ghost use Rattle.bitstream_order.specs.TakeBits.{seen};
+ghost use Rattle.bitstream_order.specs.Gather.{seen};
 ghost use Rattle.bitstream_order.specs.Port.{fetched_count};
 ghost use Rattle.bitstream_stream.specs.Reads.{Reads, ReadsConst};
 ghost use Rattle.bitstream_stream.specs.ReadTable.{bit_entry, unsigned_entry, signed_entry, const_entry, unary_entry, count_entry, align_entry, bytes_entry, skip_entry, is_full};
@@ -10,7 +10,7 @@ ghost use Rattle.bitstream_stream.specs.ReadTable.{bit_entry, unsigned_entry, si
 use crate::piece::PIECE;
 use crate::read::BitRead;
 use crate::width::count_bits;
-use bitstream_count::count::{BitCount, Count, SignedCount};
+use bitstream_count::count::{Count, SignedCount};
 use bitstream_count::error::Error;
 use bitstream_number::number::{Numeric, Primitive, SignedInteger, UnsignedInteger, Width};
 use bitstream_order::gather::{take_bits, unused_bits};
@@ -26,10 +26,10 @@ use std::marker::PhantomData;
 mod ways;
 
 /// Reads bits from a stream of bytes. A byte is fetched only when a call needs a bit of it, so
-/// fewer than 8 bits are ever held back.
+/// fewer than 8 bits are queued at any time.
 ///
-/// Over a [`Slice`](bitstream_order::slice::Slice) each call answers by the bytes alone: where its
-/// bits are all there it never answers `EndOfInput`, `Stream` or `OutOfMemory`, and where they are
+/// Over a [`Slice`](bitstream_order::slice::Slice) the bytes alone decide what a call answers. If
+/// all bits of the call are there, it never answers `EndOfInput`, `Stream` or `OutOfMemory`. If
 /// not, it answers `EndOfInput`. Of a `Read` std does not tell how it refuses.
 ///
 /// # Examples
@@ -62,9 +62,10 @@ pub struct BitReader<R, E> {
 }
 
 impl<R: Source, E: Endianness> BitReader<R, E> {
+    ghost use Rattle.bitstream_stream.specs.Ways.{aligned_reader};
     ghost use Rattle.bitstream_stream.specs.Reader.{new_reader_state, queued_bits, requests_made, turns_made, AsksForBytes, AsksForWord};
 
-    /// Returns a reader of a stream's bytes. Nothing is asked of the stream yet.
+    /// Returns a reader of a stream's bytes. No request is made yet.
     pub fn new(reader: R) -> BitReader<R, E>
         ensures state { ⟦<Self as BitRead>⟧.source.state result
             ≡ new_reader_state (R.remaining reader) (R.reference_names reader) }
@@ -82,7 +83,7 @@ impl<R: Source, E: Endianness> BitReader<R, E> {
         }
     }
 
-    /// Returns a reader as [`new`](BitReader::new) does, with its order as an argument.
+    /// Does what [`new`](BitReader::new) does, with the order as an argument.
     pub fn endian(reader: R, _endian: E) -> BitReader<R, E>
     where
         E: Drop,
@@ -94,7 +95,7 @@ impl<R: Source, E: Endianness> BitReader<R, E> {
         BitReader::new(reader)
     }
 
-    /// Reads a word of more bits than the queue has.
+    /// Reads a word that needs more bits than are queued.
     #[inline(always)]
     fn fetch_word<U: UnsignedInteger>(&mut self, bits: u32) -> Result<U, Error>
         requires fine { self.old.failed ≡ false }
@@ -106,6 +107,8 @@ impl<R: Source, E: Endianness> BitReader<R, E> {
     {
         let queued = self.queued;
         let queue = U::from_u8(E::first(self.queue, queued));
+        // A refused request leaves by the `?` below. So the reader is what it is to be then: it has
+        // failed, its queue is empty, and the queued bits are taken.
         self.queue = 0;
         self.queued = 0;
         self.failed = true;
@@ -119,7 +122,28 @@ impl<R: Source, E: Endianness> BitReader<R, E> {
         Ok(value)
     }
 
-    /// Reads some bytes by one request, with nothing queued before them.
+    /// Reads a word of at most as many bits as the type has: from the queue if that is enough, else
+    /// by one request.
+    #[inline(always)]
+    fn take_word<U: UnsignedInteger>(&mut self, bits: u32) -> Result<U, Error>
+        requires fine { self.old.failed ≡ false }
+        requires room { bits ≤ U.BITS_SIZE }
+        ensures reads { Reads ⟦<Self as BitRead>⟧.source
+            (unsigned_entry E.order U.BITS_SIZE bits) self.old (seen U.value result) self.new }
+        ensures asks { AsksForWord bits self.old self.new }
+    {
+        let queued = self.queued;
+        if bits > queued {
+            return self.fetch_word(bits);
+        }
+        let first = E::first(self.queue, bits);
+        self.taken.add(bits as u64);
+        self.queue = E::rest(self.queue, bits);
+        self.queued = queued - bits;
+        Ok(U::from_u8(first))
+    }
+
+    /// Reads bytes by one request. The queue must be empty.
     #[inline(always)]
     fn fetch_aligned(&mut self, buf: &mut [u8]) -> Result<(), Error>
         requires fine { self.old.failed ≡ false }
@@ -141,7 +165,7 @@ impl<R: Source, E: Endianness> BitReader<R, E> {
         }
     }
 
-    /// Reads some bytes by one request, behind the bits that wait.
+    /// Reads bytes by one request, behind the queued bits.
     fn fetch_bytes(&mut self, buf: &mut [u8]) -> Result<(), Error>
         requires fine { self.old.failed ≡ false }
         requires waiting { 1 ≤ self.old.queued }
@@ -170,7 +194,7 @@ impl<R: Source, E: Endianness> BitReader<R, E> {
         }
     }
 
-    /// Reads bytes in pieces of at most so many, behind the bits that wait.
+    /// Reads bytes behind the queued bits, in pieces of at most `most` bytes.
     #[inline(never)]
     fn fetch_pieces(&mut self, buf: &mut [u8], most: usize) -> Result<(), Error>
         requires fine { self.old.failed ≡ false }
@@ -189,8 +213,8 @@ impl<R: Source, E: Endianness> BitReader<R, E> {
         Ok(())
     }
 
-    /// Reads bytes, which fill a buffer: by one request where the reader is aligned, else in pieces
-    /// of at most so many bytes.
+    /// Fills a buffer with bytes: by one request if the reader is aligned, else in pieces of at
+    /// most `most` bytes.
     #[inline(always)]
     fn fill(&mut self, buf: &mut [u8], most: usize) -> Result<(), Error>
         requires { 1 ≤ most }
@@ -210,7 +234,17 @@ impl<R: Source, E: Endianness> BitReader<R, E> {
         self.fetch_aligned(buf)
     }
 
-    /// Skips so many bytes, in pieces.
+    /// Drops the queue. Its bits are taken then.
+    #[inline(always)]
+    fn drop_queue(&mut self)
+        ensures { self.new ≡ aligned_reader self.old }
+    {
+        self.taken.add(self.queued as u64);
+        self.queue = 0;
+        self.queued = 0;
+    }
+
+    /// Skips the given number of bytes, in pieces.
     fn skip_bytes(&mut self, bytes: usize) -> Result<(), Error>
         ensures { Reads ⟦<Self as BitRead>⟧.source (skip_entry (8 * bytes)) self.old result self.new }
     {
@@ -240,22 +274,7 @@ impl<R: Source, E: Endianness> BitRead for BitReader<R, E> {
             self.old (seen U.value result) self.new }
         ensures asks { AsksForWord (C.number bits) self.old self.new }
     {
-        let bits = bits.bits();
-        if self.failed {
-            return Err(Error::Failed);
-        }
-        if bits > U::BITS_SIZE {
-            return Err(Error::ReadBits);
-        }
-        let queued = self.queued;
-        if bits > queued {
-            return self.fetch_word(bits);
-        }
-        let first = E::first(self.queue, bits);
-        self.taken.add(bits as u64);
-        self.queue = E::rest(self.queue, bits);
-        self.queued = queued - bits;
-        Ok(U::from_u8(first))
+        self.read_unsigned_var(bits.bits())
     }
 
     #[inline(always)]
@@ -284,7 +303,13 @@ impl<R: Source, E: Endianness> BitRead for BitReader<R, E> {
             self.old (seen U.value result) self.new }
         ensures asks { AsksForWord bits self.old self.new }
     {
-        self.read_unsigned_counted(BitCount::unknown(bits))
+        if self.failed {
+            return Err(Error::Failed);
+        }
+        if bits > U::BITS_SIZE {
+            return Err(Error::ReadBits);
+        }
+        self.take_word(bits)
     }
 
     #[inline(always)]
@@ -345,6 +370,8 @@ impl<R: Source, E: Endianness> BitRead for BitReader<R, E> {
         let stop = S::BITS == 1;
         let queue = self.queue;
         let queued = self.queued;
+        // The reader is what it is to be after a refused request or a run too long: it has failed,
+        // and its queue is empty.
         self.queue = 0;
         self.queued = 0;
         self.failed = true;
@@ -361,6 +388,7 @@ impl<R: Source, E: Endianness> BitRead for BitReader<R, E> {
                 Err(Error::RunTooLong)
             }
             Err(error) => {
+                // All bits of the fetched bytes are taken: none of them is the stop bit.
                 self.taken = self.port.fetched_bits();
                 Err(error)
             }
@@ -432,11 +460,7 @@ impl<R: Source, E: Endianness> BitRead for BitReader<R, E> {
             self.old (Ok tt) self.new }
         ensures requests { requests_made self.new ≡ requests_made self.old }
     {
-        if !self.failed {
-            self.taken.add(self.queued as u64);
-            self.queue = 0;
-            self.queued = 0;
-        }
+        self.drop_queue();
     }
 
     fn fail(&mut self) {

@@ -1,4 +1,4 @@
-//! How long a number of variable width is, and in what parts it goes.
+//! The length of a number of variable width, and its groups.
 ghost use Rattle.std.specs.Prelude.{◌≡◌, ℕ, ◌+◌, ◌<◌, ◌≤◌, IfSome, None, length};
 ghost use Rattle.bitstream_number.specs.Word.{Order};
 ghost use Rattle.bitstream_count.specs.Vbr.{vbr_word};
@@ -6,8 +6,8 @@ ghost use Rattle.bitstream_stream.specs.Groups.{IsFirstGroup, IsLastGroup};
 
 use bitstream_number::number::{Numeric, UnsignedInteger, Width};
 
-/// Returns how many bits the groups of a number have, each as many as F says.
-pub(crate) fn vbr_bits<F: Width, U: UnsignedInteger>(value: U) -> u32
+/// Returns the number of bits of a number in groups of `F::BITS` bits.
+pub fn vbr_bits<F: Width, U: UnsignedInteger>(value: U) -> u32
     requires some { 2 ≤ F.BITS }
     requires within { F.BITS < U.BITS_SIZE }
     ensures { (o : Order) → length (vbr_word o F.BITS (U.value value)) ≡ result }
@@ -23,8 +23,9 @@ pub(crate) fn vbr_bits<F: Width, U: UnsignedInteger>(value: U) -> u32
     bits
 }
 
-/// Splits a number into its first group and what the groups behind it hold. A group is the lowest
-/// digits, below a digit that says that another follows. A number that one group holds is not split.
+/// Splits a number into its first group and the rest, which the later groups hold. A group is the
+/// lowest digits, below a bit that says that another group follows. Returns `None` if one group
+/// holds the number.
 #[inline(always)]
 pub(crate) fn split_group<F: Width, U: UnsignedInteger>(value: U) -> Option<(U, U)>
     requires some { 2 ≤ F.BITS }
@@ -43,8 +44,8 @@ pub(crate) fn split_group<F: Width, U: UnsignedInteger>(value: U) -> Option<(U, 
     Some((more | digits, rest))
 }
 
-/// Returns behind how many bits of gathered groups no other is gathered. Groups of whole bytes go one
-/// by one, which leaves a queue as it is.
+/// Returns the number of bits above which gathered groups are sent. Groups of whole bytes are sent
+/// one by one, which leaves the queue as it is.
 #[inline(always)]
 pub(crate) fn most_gathered<F: Width, U: UnsignedInteger>() -> u32
     requires { F.BITS < U.BITS_SIZE }

@@ -1,4 +1,4 @@
-//! Where bits go.
+//! The calls of a sink of bits.
 use crate::others::others;
 use crate::vbr::{split_group, vbr_bits};
 use crate::width::count_bits;
@@ -12,11 +12,11 @@ use bitstream_order::order::Endianness;
 ///
 /// # Errors
 ///
-/// Where the stream beneath refuses a request, a call answers `OutOfMemory` or `Stream` with the
-/// kind of the refusal, and the sink has failed: the bits that waited in it are lost. Each later
-/// call that writes answers `Failed`, before any other check and also at a width of 0 bits. A sink
-/// with a limit answers `CounterOverflow` where the bits would pass it. After this and any other
-/// error the sink is as it was.
+/// If the stream refuses a request, a call answers `OutOfMemory` or `Stream` with the kind of the
+/// refusal, and the sink has failed: its queued bits are lost. From then on each call that writes
+/// answers `Failed`, before any other check and also at a width of 0 bits. A sink with a limit
+/// answers `CounterOverflow` if the bits would pass it. After this and any other error nothing is
+/// written, and the sink is as it was. The calls below name only the errors of their own.
 ///
 /// # Examples
 ///
@@ -43,14 +43,13 @@ pub trait BitWrite {
     // What the states of the sink mean.
     ghost sink: { Sink Self };
 
-    /// Writes an unsigned number in so many bits. In 0 bits any number is accepted, and nothing is
-    /// written.
+    /// Writes an unsigned number in the given number of bits. In 0 bits any number is accepted, and
+    /// nothing is written.
     ///
     /// # Errors
     ///
-    /// `Checked(ExcessiveBits)` where the type has fewer bits, `Checked(ExcessiveValue)` where the
-    /// number takes more: nothing is written then. Those of the stream, after which the sink has
-    /// failed, and `Failed` from then on. `CounterOverflow` past a limit: nothing is written then.
+    /// `Checked(ExcessiveBits)` if the type has fewer bits, else `Checked(ExcessiveValue)` if the
+    /// number needs more.
     fn write_unsigned_counted<C: Count, U: UnsignedInteger>(
         &mut self,
         count: C,
@@ -60,13 +59,12 @@ pub trait BitWrite {
             (unsigned sink.order U.BITS_SIZE (C.number count) (U.value value))
             self.old result self.new };
 
-    /// Writes a signed number in so many bits, as a two's complement.
+    /// Writes a signed number as a two's complement of the given number of bits.
     ///
     /// # Errors
     ///
-    /// `Checked(ExcessiveBits)` where the type has fewer bits, `Checked(ExcessiveValue)` where the
-    /// number takes more: nothing is written then. Those of the stream, after which the sink has
-    /// failed, and `Failed` from then on. `CounterOverflow` past a limit: nothing is written then.
+    /// `Checked(ExcessiveBits)` if the type has fewer bits, else `Checked(ExcessiveValue)` if the
+    /// number needs more.
     fn write_signed_counted<C: SignedCount, S: SignedInteger>(
         &mut self,
         count: C,
@@ -76,39 +74,31 @@ pub trait BitWrite {
             (signed sink.order S.BITS_SIZE (C.number count) (S.integer value))
             self.old result self.new };
 
-    /// Writes the bytes of a value in the sink's order.
-    ///
-    /// # Errors
-    ///
-    /// Those of the stream, after which the sink has failed, and `Failed` from then on.
-    /// `CounterOverflow` past a limit: nothing is written then.
+    /// Writes the bytes of a value, in the sink's byte order.
     fn write_from<V: Primitive>(&mut self, value: V) -> Result<(), Error>
         ensures writes { Writes sink
             (buffer sink.order (value_bytes sink.order V.be_bytes V.le_bytes value))
             self.old result self.new };
 
-    /// Writes the bytes of a value in the order F. The bits of each byte go in the sink's order.
-    ///
-    /// # Errors
-    ///
-    /// Those of the stream, after which the sink has failed, and `Failed` from then on.
-    /// `CounterOverflow` past a limit: nothing is written then.
+    /// Writes the bytes of a value, in the byte order F. The bits of each byte are written in the
+    /// sink's order.
     fn write_as_from<F: Endianness, V: Primitive>(&mut self, value: V) -> Result<(), Error>
         ensures writes { Writes sink
             (buffer sink.order (value_bytes F.order V.be_bytes V.le_bytes value))
             self.old result self.new };
 
-    /// Returns whether a multiple of 8 bits was written. A sink that has failed is not aligned.
+    /// Returns whether the sink is at a byte boundary. A sink that has failed is not.
     fn byte_aligned(&self) -> bool
         ensures aligned { IsTrue result ↔ ((sink.failed self.now ≡ false)
             × (sink.len self.now % 8 ≡ 0)) };
 
-    /// Returns whether so many bits more are within the sink's limit. A writer has none.
+    /// Returns whether `bits` more bits fit. A `BitWriter` has no limit, so for it this is always
+    /// true.
     fn has_room(&self, bits: u128) -> bool
         ensures room { IsTrue result ↔ IsWithin sink.limit (sink.len self.now + bits) };
 
-    /// Writes an unsigned number in so many bits. In 0 bits any number is accepted, and nothing is
-    /// written.
+    /// Writes an unsigned number in the given number of bits. In 0 bits any number is accepted, and
+    /// nothing is written.
     ///
     /// # Errors
     ///
@@ -120,13 +110,11 @@ pub trait BitWrite {
         self.write_unsigned_counted(BitCount::unknown(bits), value)
     }
 
-    /// Writes an unsigned number in as many bits as B says, which U has.
+    /// Writes an unsigned number in `B::BITS` bits, at most as many as U has.
     ///
     /// # Errors
     ///
-    /// `Checked(ExcessiveValue)` where the number takes more bits: nothing is written then. Those
-    /// of the stream, after which the sink has failed, and `Failed` from then on. `CounterOverflow`
-    /// past a limit: nothing is written then.
+    /// `Checked(ExcessiveValue)` if the number needs more bits.
     fn write_unsigned<B: Width, U: UnsignedInteger>(&mut self, value: U) -> Result<(), Error>
         requires { B.BITS ≤ U.BITS_SIZE }
         ensures writes { Writes sink (unsigned sink.order U.BITS_SIZE B.BITS (U.value value))
@@ -135,12 +123,11 @@ pub trait BitWrite {
         self.write_unsigned_var(B::BITS, value)
     }
 
-    /// Writes a signed number in so many bits, as a two's complement.
+    /// Writes a signed number as a two's complement of the given number of bits.
     ///
     /// # Errors
     ///
-    /// `NoSignBit` at 0 bits: nothing is written then. Else as
-    /// [`write_signed_counted`](BitWrite::write_signed_counted).
+    /// `NoSignBit` at 0 bits. Else as [`write_signed_counted`](BitWrite::write_signed_counted).
     fn write_signed_var<S: SignedInteger>(&mut self, bits: u32, value: S) -> Result<(), Error>
         ensures writes { Writes sink (signed sink.order S.BITS_SIZE bits (S.integer value))
             self.old result self.new }
@@ -154,13 +141,11 @@ pub trait BitWrite {
         }
     }
 
-    /// Writes a signed number in as many bits as B says, which S has, as a two's complement.
+    /// Writes a signed number as a two's complement of `B::BITS` bits, at most as many as S has.
     ///
     /// # Errors
     ///
-    /// `Checked(ExcessiveValue)` where the number takes more bits: nothing is written then. Those
-    /// of the stream, after which the sink has failed, and `Failed` from then on. `CounterOverflow`
-    /// past a limit: nothing is written then.
+    /// `Checked(ExcessiveValue)` if the number needs more bits.
     fn write_signed<B: Width, S: SignedInteger>(&mut self, value: S) -> Result<(), Error>
         requires some { 1 ≤ B.BITS }
         requires within { B.BITS ≤ S.BITS_SIZE }
@@ -170,12 +155,7 @@ pub trait BitWrite {
         self.write_signed_var(B::BITS, value)
     }
 
-    /// Writes the number that V says in as many bits as B says.
-    ///
-    /// # Errors
-    ///
-    /// Those of the stream, after which the sink has failed, and `Failed` from then on.
-    /// `CounterOverflow` past a limit: nothing is written then.
+    /// Writes the number `V::BITS` in `B::BITS` bits.
     fn write_const<B: Width, V: Width>(&mut self) -> Result<(), Error>
         requires word { B.BITS ≤ 32 }
         requires value { (V.BITS < 2 ^ B.BITS) ⊎ (B.BITS ≡ 0) }
@@ -185,13 +165,8 @@ pub trait BitWrite {
         self.write_unsigned::<B, u32>(V::BITS)
     }
 
-    /// Writes a number as a run: so many bits that are not the stop bit S, which is 0 or 1, and then
-    /// that bit.
-    ///
-    /// # Errors
-    ///
-    /// Those of the stream, after which the sink has failed, and `Failed` from then on.
-    /// `CounterOverflow` past a limit: nothing is written then.
+    /// Writes a unary number: `value` bits that are not the stop bit, and then the stop bit, which
+    /// is `S::BITS`, 0 or 1.
     fn write_unary<S: Width>(&mut self, value: u32) -> Result<(), Error>
         requires { S.BITS < 2 }
         ensures writes { Writes sink (unary_word (S.BITS == 1) value) self.old result self.new }
@@ -208,12 +183,7 @@ pub trait BitWrite {
         self.write_bit(stop)
     }
 
-    /// Writes a count in as few bits as its greatest number takes.
-    ///
-    /// # Errors
-    ///
-    /// Those of the stream, after which the sink has failed, and `Failed` from then on.
-    /// `CounterOverflow` past a limit: nothing is written then.
+    /// Writes a count of bits, in as few bits as hold `C::MAX`.
     fn write_count<C: Count>(&mut self, count: C) -> Result<(), Error>
         requires { 0 < C.MAX }
         ensures writes { Writes sink (count_entry sink.order C.MAX (C.number count))
@@ -223,23 +193,13 @@ pub trait BitWrite {
     }
 
     /// Writes one bit: 1 for `true`.
-    ///
-    /// # Errors
-    ///
-    /// Those of the stream, after which the sink has failed, and `Failed` from then on.
-    /// `CounterOverflow` past a limit: nothing is written then.
     fn write_bit(&mut self, bit: bool) -> Result<(), Error>
         ensures writes { Writes sink (one_bit bit) self.old result self.new }
     {
         self.write_unsigned_var(1, u8::from(bit))
     }
 
-    /// Writes zeros up to a multiple of 8 bits.
-    ///
-    /// # Errors
-    ///
-    /// Those of the stream, after which the sink has failed, and `Failed` from then on.
-    /// `CounterOverflow` where the zeros would pass a limit: none is written then.
+    /// Writes zeros up to the next byte boundary.
     fn byte_align(&mut self) -> Result<(), Error>
         ensures writes { Writes sink align self.old result self.new }
     {
@@ -254,11 +214,6 @@ pub trait BitWrite {
     }
 
     /// Writes bytes.
-    ///
-    /// # Errors
-    ///
-    /// Those of the stream, after which the sink has failed, and `Failed` from then on.
-    /// `CounterOverflow` past a limit: nothing is written then.
     fn write_bytes(&mut self, bytes: &[u8]) -> Result<(), Error>
         ensures writes { Writes sink (buffer sink.order bytes.now) self.old result self.new }
     {
@@ -272,12 +227,7 @@ pub trait BitWrite {
         Ok(())
     }
 
-    /// Writes so many zeros.
-    ///
-    /// # Errors
-    ///
-    /// Those of the stream, after which the sink has failed, and `Failed` from then on.
-    /// `CounterOverflow` past a limit: nothing is written then.
+    /// Writes the given number of zeros.
     fn pad(&mut self, bits: u32) -> Result<(), Error>
         ensures writes { Writes sink (zeros bits) self.old result self.new }
     {
@@ -292,14 +242,9 @@ pub trait BitWrite {
         Ok(())
     }
 
-    /// Writes an unsigned number of variable width: groups of as many bits as F says, of which one
-    /// tells whether another follows, and the others are digits, the lowest first. The groups are as
-    /// few as hold the number.
-    ///
-    /// # Errors
-    ///
-    /// Those of the stream, after which the sink has failed, and `Failed` from then on.
-    /// `CounterOverflow` past a limit: nothing is written then.
+    /// Writes an unsigned number of variable width, in as few groups of `F::BITS` bits as hold it.
+    /// The highest bit of a group says whether another group follows. The others are digits of the
+    /// number, the lowest digits first.
     fn write_unsigned_vbr<F: Width, U: UnsignedInteger>(&mut self, value: U) -> Result<(), Error>
         requires some { 2 ≤ F.BITS }
         requires within { F.BITS < U.BITS_SIZE }
@@ -318,8 +263,8 @@ pub trait BitWrite {
         self.write_unsigned::<F, U>(rest)
     }
 
-    /// Writes a signed number of variable width. It stands as an unsigned one: x as 2x, or as
-    /// -2x - 1 where x is below 0.
+    /// Writes a signed number of variable width. It is encoded as an unsigned one (zigzag): x as
+    /// 2x, or as -2x - 1 if x is negative.
     ///
     /// # Errors
     ///

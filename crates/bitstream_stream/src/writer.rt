@@ -7,7 +7,7 @@ use crate::piece::PIECE;
 use crate::vbr::{most_gathered, split_group};
 use crate::width::count_bits;
 use crate::write::BitWrite;
-use bitstream_count::count::{BitCount, Count, SignedCount};
+use bitstream_count::count::{Count, SignedCount};
 use bitstream_count::error::Error;
 use bitstream_number::number::{Numeric, Primitive, SignedInteger, UnsignedInteger, Width};
 use bitstream_order::order::Endianness;
@@ -18,10 +18,11 @@ use bitstream_order::sign::complement;
 use bitstream_order::target::Target;
 use std::marker::PhantomData;
 
+mod queue;
 mod ways;
 
-/// Writes bits to a stream of bytes. A byte is sent as soon as it is full, so fewer than 8 bits
-/// wait in the writer. What waits when it is dropped is lost: align it first.
+/// Writes bits to a stream of bytes. A byte is sent as soon as it is full, so fewer than 8 bits are
+/// queued at any time. Queued bits are lost when the writer is dropped: align it first.
 ///
 /// # Examples
 ///
@@ -54,7 +55,7 @@ impl<W: Target, E: Endianness> BitWriter<W, E> {
     ghost use Rattle.bitstream_stream.specs.Carries.{failed_writer};
     ghost use Rattle.bitstream_stream.specs.Writer.{writer_state, new_writer_state, queued_bits, requests_made, AsksForBytes, AsksForWord, Pushes};
 
-    /// Returns a writer to a stream. Nothing is asked of the stream yet.
+    /// Returns a writer to a stream. No request is made yet.
     pub fn new(stream: W) -> BitWriter<W, E>
         ensures { writer_state W.contents W.reference_names result
             ≡ new_writer_state (W.contents stream) (W.reference_names stream) }
@@ -68,7 +69,7 @@ impl<W: Target, E: Endianness> BitWriter<W, E> {
         }
     }
 
-    /// Returns a writer as [`new`](BitWriter::new) does, with its order as an argument.
+    /// Does what [`new`](BitWriter::new) does, with the order as an argument.
     pub fn endian(stream: W, _order: E) -> BitWriter<W, E>
     where
         E: Drop,
@@ -78,8 +79,7 @@ impl<W: Target, E: Endianness> BitWriter<W, E> {
         BitWriter::new(stream)
     }
 
-    /// Makes the writer fail, and answers the error of the request that was refused. No bit waits any
-    /// more.
+    /// Makes the writer fail, drops its queue, and answers the error of the refused request.
     fn refuse(&mut self, error: Error) -> Result<(), Error>
         ensures answer { result ≡ Err error }
         ensures fails { writer_state W.contents W.reference_names self.new
@@ -118,7 +118,7 @@ impl<W: Target, E: Endianness> BitWriter<W, E> {
         }
     }
 
-    /// Writes some bytes by one request, with nothing queued before them.
+    /// Writes bytes by one request. The queue must be empty.
     #[inline(always)]
     fn send_aligned(&mut self, bytes: &[u8]) -> Result<(), Error>
         requires sound { self.old.failed ≡ false }
@@ -135,7 +135,7 @@ impl<W: Target, E: Endianness> BitWriter<W, E> {
         }
     }
 
-    /// Writes some bytes by one request, behind the bits that wait. They are shifted in their place.
+    /// Writes bytes by one request, behind the queued bits. They are shifted in place.
     fn send_shifted(&mut self, bytes: &mut [u8]) -> Result<(), Error>
         requires sound { self.old.failed ≡ false }
         requires waiting { 1 ≤ self.old.queued }
@@ -156,7 +156,7 @@ impl<W: Target, E: Endianness> BitWriter<W, E> {
         }
     }
 
-    /// Writes bytes in pieces of at most N, behind the bits that wait.
+    /// Writes bytes behind the queued bits, in pieces of at most N bytes.
     #[inline(never)]
     fn send_pieces<const N: usize>(&mut self, bytes: &[u8]) -> Result<(), Error>
         requires sound { self.old.failed ≡ false }
@@ -180,7 +180,7 @@ impl<W: Target, E: Endianness> BitWriter<W, E> {
         Ok(())
     }
 
-    /// Writes bytes: by one request where the writer is aligned, else in pieces of at most N bytes.
+    /// Writes bytes: by one request if the writer is aligned, else in pieces of at most N bytes.
     #[inline(always)]
     fn push_bytes<const N: usize>(&mut self, bytes: &[u8]) -> Result<(), Error>
         requires sound { self.old.failed ≡ false }
@@ -200,7 +200,7 @@ impl<W: Target, E: Endianness> BitWriter<W, E> {
         self.send_aligned(bytes)
     }
 
-    /// Writes so many bytes of zeros, in pieces.
+    /// Writes the given number of zero bytes, in pieces.
     fn push_zeros(&mut self, bytes: usize) -> Result<(), Error>
         requires { self.old.failed ≡ false }
         ensures { Pushes (MayRefuse W.contents W.refuses) E.order (replicate (8 * bytes) false)
@@ -238,12 +238,7 @@ impl<W: Target, E: Endianness> BitWrite for BitWriter<W, E> {
             self.old result self.new }
         ensures asks { AsksForWord (C.number count) self.old self.new }
     {
-        if self.failed {
-            return Err(Error::Failed);
-        }
-        let bits = count.bits();
-        check(bits, value)?;
-        self.push(value, bits)
+        self.write_unsigned_var(count.bits(), value)
     }
 
     #[inline(always)]
@@ -267,7 +262,11 @@ impl<W: Target, E: Endianness> BitWrite for BitWriter<W, E> {
             self.old result self.new }
         ensures asks { AsksForWord bits self.old self.new }
     {
-        self.write_unsigned_counted(BitCount::unknown(bits), value)
+        if self.failed {
+            return Err(Error::Failed);
+        }
+        check(bits, value)?;
+        self.push(value, bits)
     }
 
     #[inline(always)]
@@ -403,6 +402,13 @@ impl<W: Target, E: Endianness> BitWrite for BitWriter<W, E> {
         let rest = bits - first;
         self.push_zeros((rest / 8) as usize)?;
         self.push(0u8, rest % 8)
+    }
+
+    fn byte_align(&mut self) -> Result<(), Error> {
+        if self.failed {
+            return Err(Error::Failed);
+        }
+        self.push(0u8, (8 - self.queued) % 8)
     }
 
     fn write_unsigned_vbr<F: Width, U: UnsignedInteger>(&mut self, value: U) -> Result<(), Error> {

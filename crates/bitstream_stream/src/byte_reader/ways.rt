@@ -1,4 +1,4 @@
-//! The ways from a reader of bytes to its stream, and to a reader of the stream's bits.
+//! The ways from a reader of bytes to its stream, and to a reader of bits over it.
 ghost use Rattle.std.specs.Prelude.{◌≡◌, ◌∷◌};
 
 use super::ByteReader;
@@ -21,7 +21,7 @@ impl<R: Source, E: Endianness> ByteReader<R, E> {
         self.port.into_inner()
     }
 
-    /// Returns the stream by reference. What is taken from it this way the reader does not count.
+    /// Lends the stream. The reader does not count what is then taken from it.
     pub fn reader(&mut self) -> &mut R
         ensures stream { result.now ≡ byte_reader_stream self.old }
         ensures* writes_back { sem 𝓛 (Lends (the_row R.row E.row) R.row self.entry result
@@ -30,7 +30,7 @@ impl<R: Source, E: Endianness> ByteReader<R, E> {
         self.port.lend()
     }
 
-    /// Returns a reader of the stream's bits, in the same order, which has taken none yet.
+    /// Returns a new reader of bits over the stream, in the same order.
     pub fn into_bitreader(self) -> BitReader<R, E>
         ensures state { ⟦<BitReader<R, E> as BitRead>⟧.source.state result
             ≡ new_reader_state (R.remaining (byte_reader_stream self))
@@ -40,8 +40,7 @@ impl<R: Source, E: Endianness> ByteReader<R, E> {
         BitReader::new(self.into_reader())
     }
 
-    /// Returns a reader of the stream's bits, in the same order, which has taken none yet. When it
-    /// is dropped, this one goes on with the bytes that it left.
+    /// Returns a new reader of bits over the stream, in the same order.
     pub fn bitreader<'a>(&'a mut self) -> BitReader<Lent<'a, R>, E>
         ensures state { ⟦<BitReader<Lent<'a, R>, E> as BitRead>⟧.source.state result
             ≡ new_reader_state (R.remaining (byte_reader_stream self.old))

@@ -1,4 +1,4 @@
-//! The ways from a writer of bytes to its stream, and to a writer of bits to the stream.
+//! The ways from a writer of bytes to its stream, and to a writer of bits to it.
 ghost use Rattle.std.specs.Prelude.{◌≡◌, ◌∷◌};
 ghost use Rattle.bitstream_order.specs.Port.{new_port_state};
 
@@ -21,7 +21,7 @@ impl<W: Target, E: Endianness> ByteWriter<W, E> {
         self.port.into_inner()
     }
 
-    /// Returns the stream by reference. What is added to it this way the writer does not count.
+    /// Lends the stream. The writer does not count what is then added to it.
     pub fn writer(&mut self) -> &mut W
         ensures stream { result.now ≡ byte_writer_stream self.old }
         ensures* writes_back { sem 𝓛 (Lends (the_row W.row E.row) W.row self.entry result
@@ -30,7 +30,7 @@ impl<W: Target, E: Endianness> ByteWriter<W, E> {
         self.port.lend()
     }
 
-    /// Returns a writer of bits to the stream, in the same order, which has written none yet.
+    /// Returns a new writer of bits to the stream, in the same order.
     pub fn into_bitwriter(self) -> BitWriter<W, E>
         ensures { writer_state W.contents W.reference_names result
             ≡ new_writer_state (W.contents (byte_writer_stream self))
@@ -39,8 +39,7 @@ impl<W: Target, E: Endianness> ByteWriter<W, E> {
         BitWriter::new(self.into_writer())
     }
 
-    /// Returns a writer of bits to the stream, in the same order, which has written none yet. What
-    /// waits in it when it is dropped is lost, and what is written with it, this one does not count.
+    /// Returns a new writer of bits to the stream, in the same order.
     pub fn bitwriter<'a>(&'a mut self) -> BitWriter<Lent<'a, W>, E>
         ensures state { writer_state ⟦<Lent<'a, W> as Target>⟧.contents
             ⟦<Lent<'a, W> as Target>⟧.reference_names result

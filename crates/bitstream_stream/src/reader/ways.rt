@@ -1,4 +1,4 @@
-//! The ways from a reader of bits to its stream, and to a reader of the stream's bytes.
+//! The ways from a reader of bits to its stream, and to a reader of bytes over it.
 ghost use Rattle.std.specs.Prelude.{◌≡◌, ◌↔◌, ◌%◌, ◌∷◌, false, Ok, IsSome, IfSome};
 ghost use Rattle.std.specs.Option.{ghost_name_of};
 ghost use Rattle.bitstream_order.specs.Port.{new_port_state};
@@ -17,7 +17,7 @@ impl<R: Source, E: Endianness> BitReader<R, E> {
     ghost use Rattle.bitstream_stream.specs.Ways.{reader_stream, reader_with, aligned_reader, byte_reader_name};
     ghost use Rattle.bitstream_stream.specs.contracts.reader.BitReader.{the_row};
 
-    /// Returns the stream. The bits that the reader holds back are dropped.
+    /// Returns the stream. The queued bits are dropped.
     pub fn into_reader(self) -> R
         ensures stream { result ≡ reader_stream self }
         ensures bytes { R.remaining result ≡ (⟦<Self as BitRead>⟧.source.state self).bytes }
@@ -25,8 +25,8 @@ impl<R: Source, E: Endianness> BitReader<R, E> {
         self.port.into_inner()
     }
 
-    /// Returns the stream by reference, if the next bit is the first of a byte and the reader has
-    /// not failed. What is taken from the stream this way the reader does not count.
+    /// Lends the stream, if the reader is at a byte boundary and has not failed. The reader does
+    /// not count what is then taken from the stream.
     pub fn reader(&mut self) -> Option<&mut R>
         ensures there { IsSome result ↔ (((⟦<Self as BitRead>⟧.source.state self.old).failed ≡ false)
             × ((⟦<Self as BitRead>⟧.source.state self.old).taken % 8 ≡ 0)) }
@@ -41,23 +41,21 @@ impl<R: Source, E: Endianness> BitReader<R, E> {
         }
     }
 
-    /// Drops the bits up to the next whole byte, as [`byte_align`](BitRead::byte_align), and returns
-    /// the stream by reference, also where the reader has failed. What is taken from the stream this
-    /// way the reader does not count.
+    /// Skips the bits up to the next byte boundary, as [`byte_align`](BitRead::byte_align) does,
+    /// and lends the stream, even if the reader has failed. The reader does not count what is then
+    /// taken from the stream.
     pub fn aligned_reader(&mut self) -> &mut R
         ensures stream { result.now ≡ reader_stream self.old }
         ensures* writes_back { sem 𝓛 (Lends (the_row R.row E.row) R.row self.entry result
             (λ stream. reader_with (aligned_reader self.old) stream)) }
     {
-        self.taken.add(self.queued as u64);
-        self.queue = 0;
-        self.queued = 0;
+        self.drop_queue();
         self.port.lend()
     }
 
-    /// Returns a reader of the stream's bytes, in the same order, which has taken none yet, if the
-    /// next bit is the first of a byte and this reader has not failed. When it is dropped, this one
-    /// goes on with the bytes that it left, which this one does not count.
+    /// Returns a new reader of bytes over the stream, in the same order, if this reader is at a
+    /// byte boundary and has not failed. When the new one is dropped, this one goes on with the
+    /// bytes that it left. It does not count the bytes that the new one took.
     pub fn bytereader<'a>(&'a mut self) -> Option<ByteReader<Lent<'a, R>, E>>
         ensures there { IsSome result ↔ (((⟦<Self as BitRead>⟧.source.state self.old).failed ≡ false)
             × ((⟦<Self as BitRead>⟧.source.state self.old).taken % 8 ≡ 0)) }
@@ -71,7 +69,7 @@ impl<R: Source, E: Endianness> BitReader<R, E> {
         Self::byte_reader_of(self.reader())
     }
 
-    /// Returns a reader of the bytes of a stream that was lent, if one was.
+    /// Returns a new reader of bytes over a stream that was lent, if one was.
     fn byte_reader_of<'a>(stream: Option<&'a mut R>) -> Option<ByteReader<Lent<'a, R>, E>>
         ensures name { name_if_some byte_reader_name result ≡ ghost_name_of stream.entry }
         ensures state { IfSome stream.entry (λ lent. IfSome result (λ reader.
@@ -85,8 +83,8 @@ impl<R: Source, E: Endianness> BitReader<R, E> {
         }
     }
 
-    /// Returns a reader of the stream's bytes, in the same order, which has taken none yet. The bits
-    /// that this reader holds back are dropped.
+    /// Returns a new reader of bytes over the stream, in the same order. The queued bits are
+    /// dropped.
     pub fn into_bytereader(self) -> ByteReader<R, E>
         ensures { ⟦<ByteReader<R, E> as ByteRead>⟧.source.state result
             ≡ byte_reader_state (new_port_state (R.remaining (reader_stream self))

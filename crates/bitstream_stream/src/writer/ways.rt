@@ -1,4 +1,4 @@
-//! The ways from a writer of bits to its stream, and to a writer of the stream's bytes.
+//! The ways from a writer of bits to its stream, and to a writer of bytes to it.
 ghost use Rattle.std.specs.Prelude.{◌≡◌, ◌↔◌, ◌%◌, ◌∷◌, false, Ok, IsSome, IfSome, IfOk, OnOk};
 ghost use Rattle.std.specs.Option.{ghost_name_of};
 ghost use Rattle.bitstream_order.specs.Port.{new_port_state};
@@ -19,15 +19,15 @@ impl<W: Target, E: Endianness> BitWriter<W, E> {
     ghost use Rattle.bitstream_stream.specs.Ways.{writer_stream, writer_with, byte_writer_name, IsAlignedStream, EndsAligned, EndsUnaligned, Flushes};
     ghost use Rattle.bitstream_stream.specs.contracts.writer.BitWriter.{the_row};
 
-    /// Returns the stream. The bits that wait in the writer are dropped.
+    /// Returns the stream. The queued bits are dropped.
     pub fn into_writer(self) -> W
         ensures { result ≡ writer_stream self }
     {
         self.port.into_inner()
     }
 
-    /// Returns the stream by reference, if a multiple of 8 bits was written and the writer has not
-    /// failed. What is added to the stream this way the writer does not count.
+    /// Lends the stream, if the writer is at a byte boundary and has not failed. The writer does
+    /// not count what is then added to the stream.
     pub fn writer(&mut self) -> Option<&mut W>
         ensures there { IsSome result ↔ (((⟦<Self as BitWrite>⟧.sink.failed self.old) ≡ false)
             × (⟦<Self as BitWrite>⟧.sink.len self.old % 8 ≡ 0)) }
@@ -42,13 +42,12 @@ impl<W: Target, E: Endianness> BitWriter<W, E> {
         }
     }
 
-    /// Writes zeros up to a multiple of 8 bits, as [`byte_align`](BitWrite::byte_align), and returns
-    /// the stream by reference. What is added to it this way the writer does not count.
+    /// Writes zeros up to the next byte boundary, as [`byte_align`](BitWrite::byte_align) does, and
+    /// lends the stream. The writer does not count what is then added to the stream.
     ///
     /// # Errors
     ///
-    /// As [`byte_align`](BitWrite::byte_align): those of the stream, after which the writer has
-    /// failed, and `Failed` from then on.
+    /// As [`byte_align`](BitWrite::byte_align).
     pub fn aligned_writer(&mut self) -> Result<&mut W, Error>
         ensures stream { IfOk result
             (λ stream. IsAlignedStream ⟦<Self as BitWrite>⟧.sink self.old stream.now) }
@@ -60,9 +59,8 @@ impl<W: Target, E: Endianness> BitWriter<W, E> {
         Ok(self.port.lend())
     }
 
-    /// Returns a writer of bytes to the stream, in the same order, which has written none yet, if a
-    /// multiple of 8 bits was written and this writer has not failed. What is written with it, this
-    /// one does not count.
+    /// Returns a new writer of bytes to the stream, in the same order, if this writer is at a byte
+    /// boundary and has not failed. This one does not count what the new one writes.
     pub fn bytewriter<'a>(&'a mut self) -> Option<ByteWriter<Lent<'a, W>, E>>
         ensures there { IsSome result ↔ (((⟦<Self as BitWrite>⟧.sink.failed self.old) ≡ false)
             × (⟦<Self as BitWrite>⟧.sink.len self.old % 8 ≡ 0)) }
@@ -77,7 +75,7 @@ impl<W: Target, E: Endianness> BitWriter<W, E> {
         Self::byte_writer_of(self.writer())
     }
 
-    /// Returns a writer of bytes to a stream that was lent, if one was.
+    /// Returns a new writer of bytes to a stream that was lent, if one was.
     fn byte_writer_of<'a>(stream: Option<&'a mut W>) -> Option<ByteWriter<Lent<'a, W>, E>>
         ensures name { name_if_some byte_writer_name result ≡ ghost_name_of stream.entry }
         ensures state { IfSome stream.entry (λ lent. IfSome result (λ writer.
@@ -91,8 +89,7 @@ impl<W: Target, E: Endianness> BitWriter<W, E> {
         }
     }
 
-    /// Returns a writer of bytes to the stream, in the same order, which has written none yet. The
-    /// bits that wait in this writer are dropped.
+    /// Returns a new writer of bytes to the stream, in the same order. The queued bits are dropped.
     pub fn into_bytewriter(self) -> ByteWriter<W, E>
         ensures { byte_writer_state W.contents W.reference_names result
             ≡ new_port_state (W.contents (writer_stream self))
@@ -101,12 +98,13 @@ impl<W: Target, E: Endianness> BitWriter<W, E> {
         ByteWriter::new(self.into_writer())
     }
 
-    /// Has the stream pass on what it holds back itself. The bits that wait in the writer stay there.
+    /// Flushes the stream: it passes on what it has buffered itself. The queued bits stay in the
+    /// writer.
     ///
     /// # Errors
     ///
-    /// `OutOfMemory` where the stream refuses with that kind, and else `Stream` with its kind. The
-    /// writer has failed then, and the bits that waited are lost. `Failed` from then on.
+    /// As of the calls of [`BitWrite`]: if the stream refuses, the writer has failed, and its
+    /// queued bits are lost.
     pub fn flush(&mut self) -> Result<(), Error>
         ensures flushes { Flushes (MayRefuse W.contents W.refuses)
             (writer_state W.contents W.reference_names self.old) result
@@ -118,12 +116,7 @@ impl<W: Target, E: Endianness> BitWriter<W, E> {
         }
         match self.port.flush() {
             Ok(()) => Ok(()),
-            Err(error) => {
-                self.queue = 0;
-                self.queued = 0;
-                self.failed = true;
-                Err(error)
-            }
+            Err(error) => self.refuse(error),
         }
     }
 }

@@ -1,0 +1,12 @@
+use Rattle.std.proofs.Common.{arith, refl}
+use Rattle.bitstream_stream.proofs.ReaderLemmas.{unsigned-failed, unsigned-refused}
+use Rattle.bitstream_stream.proofs.reader.BitReaderBitRead.read_unsigned_var.Goals as goal
+
+pub returns-then-self-clause-reads : goal.returns-then-self-clause-reads
+returns-then-self-clause-reads g c = unsigned-failed _ _ _ _ c.if-self.true
+
+pub returns-then-bits-BITS_SIZE-clause-reads : goal.returns-then-bits-BITS_SIZE-clause-reads
+returns-then-bits-BITS_SIZE-clause-reads g c = unsigned-refused _ _ _ _ c.if-self.false (omega arith)
+
+pub returns-then-bits-BITS_SIZE-clause-asks : goal.returns-then-bits-BITS_SIZE-clause-asks
+returns-then-bits-BITS_SIZE-clause-asks g c = (omega arith, λ _. refl)
