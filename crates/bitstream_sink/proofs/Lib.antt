@@ -1,0 +1,4 @@
+pub mod BestLemmas
+pub mod CountLemmas
+pub mod OrderLemmas
+pub mod RecorderLemmas

@@ -1,0 +1,234 @@
+//! A sink that records what is written to it, so that it can be played to another sink.
+ghost use Rattle.std.specs.Prelude.{◌≡◌, ◌≤◌, [], true, false, length, Err, IfOk, OnOk};
+ghost use Rattle.bitstream_sink.specs.GrowingWriter.{HoldsAll};
+
+use crate::counter::values::value_of;
+use crate::counter::{Counter, Overflowed};
+use bitstream_count::count::{Count, SignedCount};
+use bitstream_count::error::Error;
+use bitstream_number::number::{Primitive, SignedInteger, UnsignedInteger, Width};
+use bitstream_order::growing::Growing;
+use bitstream_order::order::Endianness;
+use bitstream_stream::write::BitWrite;
+use bitstream_stream::writer::BitWriter;
+use std::alloc::{AllocError, Allocator};
+use std::marker::PhantomData;
+
+pub mod best;
+pub mod laws;
+
+/// Records the bits that are written to it, so that they can be played to another sink of bits, at
+/// any place in a byte. Whole bytes stand in a vector, and fewer than 8 bits beside it. Their number
+/// is told as an N, but N is no limit to what is recorded.
+///
+/// If the vector needs memory and gets none, the call answers `OutOfMemory` and the recorder has
+/// failed: it keeps its whole bytes, but each later call that writes or plays answers `Failed`, until
+/// it is cleared.
+///
+/// # Examples
+///
+/// ```
+/// use bitstream_io::{BE, BitRecorder, BitWrite, BitWriter, Growing};
+///
+/// let mut recorder = BitRecorder::<u32, BE, _>::new(rt.alloc());
+/// recorder.write_unsigned_var(12, 0xb1e_u16)?;
+/// let bits = recorder.written_checked()?;
+/// let mut writer = BitWriter::<_, BE>::new(Growing::new(Vec::new(rt.alloc())));
+/// writer.write_unsigned_var(4, bits)?;
+/// recorder.playback(&mut writer)?;
+/// assert_eq!(rt; writer.into_writer().as_slice(), [0xcb, 0x1e].as_slice());
+/// ```
+#[derive(Drop)]
+pub struct BitRecorder<N, E, A: Allocator> {
+    writer: BitWriter<Growing<A>, E>,
+    count: PhantomData<N>,
+    ghost all: { HoldsAll writer },
+}
+
+impl<N, E: Endianness, A: Allocator> BitRecorder<N, E, A> {
+    ghost use Rattle.bitstream_count.specs.declared.error.Error.TheVariants.{Failed};
+    ghost use Rattle.bitstream_stream.specs.Sink.{WritesAll, Appended, Kept};
+    ghost use Rattle.bitstream_order.specs.Growing.{growing_bytes};
+    ghost use Rattle.bitstream_sink.specs.Counter.{Counts};
+    ghost use Rattle.bitstream_sink.specs.Recorder.{IsEmptyRecorder, recorded_bits, recorder_failed, playback_entries};
+
+    /// Returns a recorder of no bits, which takes its memory from the allocator.
+    pub fn new(alloc: A) -> BitRecorder<N, E, A>
+        ensures { IsEmptyRecorder result }
+    {
+        BitRecorder::over(Growing::new(Vec::new(alloc)))
+    }
+
+    /// Returns a recorder of no bits that has memory for the given number of bytes already.
+    ///
+    /// # Errors
+    ///
+    /// Memory was refused.
+    pub fn with_capacity(alloc: A, bytes: usize) -> Result<BitRecorder<N, E, A>, AllocError>
+        ensures { IfOk result (λ recorder. IsEmptyRecorder recorder) }
+    {
+        let vec = Vec::with_capacity(alloc, bytes)?;
+        Ok(BitRecorder::over(Growing::new(vec)))
+    }
+
+    /// Returns a recorder as [`new`](BitRecorder::new) does, with its order as an argument.
+    pub fn endian(alloc: A, _order: E) -> BitRecorder<N, E, A>
+    where
+        E: Drop,
+        ensures { IsEmptyRecorder result }
+    {
+        BitRecorder::new(alloc)
+    }
+
+    /// Returns a recorder whose whole bytes go to a vector without any.
+    fn over(bytes: Growing<A>) -> BitRecorder<N, E, A>
+        requires { growing_bytes bytes ≡ [] }
+        ensures { IsEmptyRecorder result }
+    {
+        BitRecorder {
+            writer: BitWriter::new(bytes),
+            count: PhantomData,
+        }
+    }
+
+    /// Returns how many bits were recorded.
+    fn bits(&self) -> u128
+        ensures { result ≡ ⟦<Self as BitWrite>⟧.sink.len self.now }
+    {
+        let bytes = self.writer.stream().as_slice().len();
+        bytes as u128 * 8 + u128::from(self.writer.queued())
+    }
+
+    /// Returns how many bits were recorded, which N has to hold. Of a recorder that has failed, they
+    /// are those of its whole bytes.
+    pub fn written(&self) -> N
+    where
+        N: Counter,
+        requires { length (recorded_bits E.order self.now) ≤ N.greatest }
+        ensures bits { N.value result ≡ length (recorded_bits E.order self.now) }
+        ensures len { N.value result ≡ ⟦<Self as BitWrite>⟧.sink.len self.now }
+    {
+        match self.written_checked() {
+            Ok(written) => written,
+            Err(_overflowed) => unreachable!(),
+        }
+    }
+
+    /// Returns how many bits were recorded. Of a recorder that has failed, they are those of its whole
+    /// bytes.
+    ///
+    /// # Errors
+    ///
+    /// `Overflowed` if and only if N does not hold the number.
+    pub fn written_checked(&self) -> Result<N, Overflowed>
+    where
+        N: Counter,
+        ensures bits { Counts N.value N.greatest (length (recorded_bits E.order self.now)) result }
+        ensures len { Counts N.value N.greatest (⟦<Self as BitWrite>⟧.sink.len self.now) result }
+    {
+        value_of::<N>(self.bits())
+    }
+
+    /// Writes to another sink what was recorded: the whole bytes, and the bits behind them as one
+    /// word. A sink of the same order gets just the recorded bits, wherever in a byte it stands. One of
+    /// the other order gets the bits of each byte in its own order, and the number of the last bits as
+    /// a word of its own.
+    ///
+    /// # Errors
+    ///
+    /// `Failed` if the recorder has failed: nothing is written then. Else as
+    /// [`write_bytes`](BitWrite::write_bytes) and
+    /// [`write_unsigned_var`](BitWrite::write_unsigned_var) of the sink: if the second one
+    /// answers an error, the whole bytes stand there.
+    pub fn playback<W: BitWrite>(&self, target: &mut W) -> Result<(), Error>
+        ensures writes { recorder_failed self.now ≡ false →
+            WritesAll W.sink (playback_entries W.sink.order self.now) target.old result target.new }
+        ensures same_order { W.sink.order ≡ E.order → OnOk result
+            (Appended W.sink target.old (recorded_bits E.order self.now) target.new) }
+        ensures failed { recorder_failed self.now ≡ true →
+            (result ≡ Err Failed) × Kept W.sink target.old target.new }
+    {
+        if self.writer.failed() {
+            return Err(Error::Failed);
+        }
+        target.write_bytes(self.writer.stream().as_slice())?;
+        target.write_unsigned_var(self.writer.queued(), self.writer.queue())
+    }
+
+    /// Forgets what was recorded, and a failure. The recorder keeps its memory.
+    pub fn clear(&mut self)
+        ensures { IsEmptyRecorder self.new }
+    {
+        self.writer.clear();
+    }
+}
+
+impl<N, E: Endianness, A: Allocator> BitWrite for BitRecorder<N, E, A> {
+    ghost use Rattle.bitstream_sink.specs.Recorder.{recorder_sink};
+
+    ghost sink = { recorder_sink E.order };
+
+    #[inline(always)]
+    fn write_unsigned_counted<C: Count, U: UnsignedInteger>(
+        &mut self,
+        count: C,
+        value: U,
+    ) -> Result<(), Error> {
+        self.writer.write_unsigned_counted(count, value)
+    }
+
+    #[inline(always)]
+    fn write_signed_counted<C: SignedCount, S: SignedInteger>(
+        &mut self,
+        count: C,
+        value: S,
+    ) -> Result<(), Error> {
+        self.writer.write_signed_counted(count, value)
+    }
+
+    #[inline(always)]
+    fn write_from<V: Primitive>(&mut self, value: V) -> Result<(), Error> {
+        self.writer.write_from(value)
+    }
+
+    #[inline(always)]
+    fn write_as_from<F: Endianness, V: Primitive>(&mut self, value: V) -> Result<(), Error> {
+        self.writer.write_as_from::<F, V>(value)
+    }
+
+    fn byte_aligned(&self) -> bool {
+        self.writer.byte_aligned()
+    }
+
+    fn has_room(&self, bits: u128) -> bool {
+        self.writer.has_room(bits)
+    }
+
+    #[inline(always)]
+    fn write_bit(&mut self, bit: bool) -> Result<(), Error> {
+        self.writer.write_bit(bit)
+    }
+
+    #[inline(always)]
+    fn write_signed_var<S: SignedInteger>(&mut self, bits: u32, value: S) -> Result<(), Error> {
+        self.writer.write_signed_var(bits, value)
+    }
+
+    #[inline(always)]
+    fn write_unary<S: Width>(&mut self, value: u32) -> Result<(), Error> {
+        self.writer.write_unary::<S>(value)
+    }
+
+    #[inline(always)]
+    fn write_bytes(&mut self, bytes: &[u8]) -> Result<(), Error> {
+        self.writer.write_bytes(bytes)
+    }
+
+    fn pad(&mut self, bits: u32) -> Result<(), Error> {
+        self.writer.pad(bits)
+    }
+
+    fn write_unsigned_vbr<F: Width, U: UnsignedInteger>(&mut self, value: U) -> Result<(), Error> {
+        self.writer.write_unsigned_vbr::<F, U>(value)
+    }
+}

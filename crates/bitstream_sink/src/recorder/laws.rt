@@ -1,0 +1,31 @@
+//! What holds of recordings.
+//!
+//! Each function states a law by its contract, and has nothing to do.
+ghost use Rattle.std.specs.Prelude.{◌≡◌, ◌++◌, List, Bool, length};
+ghost use Rattle.bitstream_count.specs.declared.error.Error.{Error};
+ghost use Rattle.bitstream_count.specs.declared.error.Error.TheVariants.{OutOfMemory};
+ghost use Rattle.bitstream_stream.specs.Sink.{WriteRefused};
+ghost use Rattle.bitstream_sink.specs.Recorder.{recorded_bits};
+
+use crate::recorder::BitRecorder;
+use bitstream_order::order::Endianness;
+use bitstream_stream::write::BitWrite;
+use std::alloc::Allocator;
+
+/// What is appended to a recorder stands behind the bits that were recorded before, and the recorder's
+/// length is their number.
+pub fn recordings_grow<N, E: Endianness, A: Allocator>()
+    ensures grow { (old new : BitRecorder N E A) (x : List Bool) →
+        ⟦<BitRecorder<N, E, A> as BitWrite>⟧.sink.appends old x new
+        → recorded_bits E.order new ≡ recorded_bits E.order old ++ x }
+    ensures count { (recorder : BitRecorder N E A) →
+        ⟦<BitRecorder<N, E, A> as BitWrite>⟧.sink.len recorder
+        ≡ length (recorded_bits E.order recorder) }
+{}
+
+/// A recorder fails if its memory was refused, and never else.
+pub fn recorders_lack_memory<N, E: Endianness, A: Allocator>()
+    ensures { (old new : BitRecorder N E A) (x : List Bool) (error : Error) →
+        WriteRefused ⟦<BitRecorder<N, E, A> as BitWrite>⟧.sink old x error new
+        → error ≡ OutOfMemory }
+{}

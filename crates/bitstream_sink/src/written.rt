@@ -1,0 +1,168 @@
+//! A counter of written bits.
+ghost use Rattle.std.specs.Prelude.{◌≡◌, ℕ, ◌≤◌};
+
+use crate::counter::Counter;
+use crate::counter::values::{next_byte, value_of};
+use bitstream_count::count::{Count, SignedCount};
+use bitstream_count::error::Error;
+use bitstream_number::number::{Primitive, SignedInteger, UnsignedInteger, Width};
+use bitstream_order::order::{BigEndian, Endianness};
+use bitstream_stream::check::{check, check_signed};
+use bitstream_stream::vbr::vbr_bits;
+use bitstream_stream::write::BitWrite;
+
+/// Counts the bits that are written to it and keeps none of them, so a length is known before it is
+/// written. It takes no memory.
+///
+/// A call adds the length of its word, in one sum. If the sum is above the greatest number of N, the
+/// call answers `CounterOverflow` and adds nothing. Errors of a width or a value come first, as those
+/// of a writer. A word has the same length in both orders of bits; the counter's own is `High`.
+///
+/// # Examples
+///
+/// ```
+/// use bitstream_io::{BitWrite, BitsWritten, Bits};
+///
+/// let mut counter = BitsWritten::<u16>::new();
+/// counter.write_unsigned_var(3, 5u8)?;
+/// counter.write_unary::<Bits<0>>(2)?;
+/// counter.byte_align()?;
+/// counter.write_bytes(&[1, 2])?;
+/// assert_eq!(rt; counter.written(), 24);
+/// ```
+#[derive(Drop)]
+pub struct BitsWritten<N: Counter> {
+    count: N,
+    ghost within: { N.value count ≤ N.greatest },
+}
+
+impl<N: Counter> BitsWritten<N> {
+    ghost use Rattle.bitstream_sink.specs.Counting.{CountsWord};
+
+    /// Returns a counter to which nothing was written.
+    pub fn new() -> BitsWritten<N>
+        ensures { ⟦<BitsWritten<N> as BitWrite>⟧.sink.len result ≡ 0 }
+    {
+        BitsWritten {
+            count: N::default(),
+        }
+    }
+
+    /// Returns the number of bits that were written.
+    pub fn written(&self) -> N
+        ensures { N.value result ≡ ⟦<BitsWritten<N> as BitWrite>⟧.sink.len self.now }
+    {
+        self.count
+    }
+
+    /// Returns the number of bits that were written.
+    pub fn into_written(self) -> N
+        ensures { N.value result ≡ ⟦<BitsWritten<N> as BitWrite>⟧.sink.len self }
+    {
+        self.count
+    }
+
+    /// Counts a word of the given number of bits.
+    ///
+    /// # Errors
+    ///
+    /// `CounterOverflow` if the sum is above the greatest number of N. Nothing is added then.
+    #[inline(always)]
+    fn add(&mut self, bits: u128) -> Result<(), Error>
+        ensures { CountsWord ⟦<BitsWritten<N> as BitWrite>⟧.sink bits self.old result self.new }
+    {
+        let bits = value_of::<N>(bits)?;
+        self.count.checked_add_assign(bits)?;
+        Ok(())
+    }
+}
+
+impl<N: Counter> Default for BitsWritten<N> {
+    ghost is_default = { λ counter. ⟦<BitsWritten<N> as BitWrite>⟧.sink.len counter ≡ 0 };
+
+    fn default() -> BitsWritten<N> {
+        BitsWritten::new()
+    }
+}
+
+impl<N: Counter> BitWrite for BitsWritten<N> {
+    ghost use Rattle.bitstream_number.specs.Word.{High};
+    ghost use Rattle.bitstream_sink.specs.Counting.{counter_sink};
+
+    ghost sink = { counter_sink High (λ counter. N.value counter.count) N.greatest N.full
+        (λ counter. counter.within) };
+
+    #[inline(always)]
+    fn write_unsigned_counted<C: Count, U: UnsignedInteger>(
+        &mut self,
+        count: C,
+        value: U,
+    ) -> Result<(), Error> {
+        let bits = count.bits();
+        check(bits, value)?;
+        self.add(u128::from(bits))
+    }
+
+    #[inline(always)]
+    fn write_signed_counted<C: SignedCount, S: SignedInteger>(
+        &mut self,
+        count: C,
+        value: S,
+    ) -> Result<(), Error> {
+        let bits = count.bits();
+        check_signed(bits, value)?;
+        self.add(u128::from(bits))
+    }
+
+    #[inline(always)]
+    fn write_from<V: Primitive>(&mut self, value: V) -> Result<(), Error> {
+        self.write_as_from::<BigEndian, V>(value)
+    }
+
+    #[inline(always)]
+    fn write_as_from<F: Endianness, V: Primitive>(&mut self, value: V) -> Result<(), Error> {
+        let bytes = F::value_to_bytes(value);
+        self.write_bytes(V::as_bytes(&bytes))
+    }
+
+    fn byte_aligned(&self) -> bool {
+        self.count.byte_aligned()
+    }
+
+    fn has_room(&self, bits: u128) -> bool {
+        let mut count = self.count;
+        match value_of::<N>(bits) {
+            Ok(bits) => count.checked_add_assign(bits).is_ok(),
+            Err(_past) => false,
+        }
+    }
+
+    #[inline(always)]
+    fn write_unary<S: Width>(&mut self, value: u32) -> Result<(), Error> {
+        self.add(u128::from(value) + 1)
+    }
+
+    #[inline(always)]
+    fn write_bit(&mut self, _bit: bool) -> Result<(), Error> {
+        self.add(1)
+    }
+
+    fn byte_align(&mut self) -> Result<(), Error> {
+        self.count = next_byte(self.count)?;
+        Ok(())
+    }
+
+    #[inline(always)]
+    fn write_bytes(&mut self, bytes: &[u8]) -> Result<(), Error> {
+        self.add(bytes.len() as u128 * 8)
+    }
+
+    #[inline(always)]
+    fn pad(&mut self, bits: u32) -> Result<(), Error> {
+        self.add(u128::from(bits))
+    }
+
+    fn write_unsigned_vbr<F: Width, U: UnsignedInteger>(&mut self, value: U) -> Result<(), Error> {
+        self.add(u128::from(vbr_bits::<F, U>(value)))
+    }
+}
