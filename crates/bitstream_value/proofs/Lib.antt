@@ -1,5 +1,6 @@
 pub mod BackLemmas
-pub mod ItemLemmas
+pub mod CheckedLemmas
+pub mod ArrayLemmas
 pub mod LimitedLemmas
 pub mod NonZeroLemmas
 pub mod ReadSteps
@@ -7,6 +8,6 @@ pub mod Rows
 pub mod SureLemmas
 pub mod NodesLemmas
 pub mod TreeLemmas
-pub mod TruthLemmas
+pub mod BooleanLemmas
 pub mod WalkLemmas
 pub mod WriteSteps

@@ -15,7 +15,7 @@ use Rattle.bitstream_stream.specs.Sink.{Sink, WritesAll, Writes}
 use Rattle.bitstream_stream.specs.WriteTable.{unsigned}
 use Rattle.bitstream_stream.proofs.ReadsLemmas.{Reads-chain-ok, Reads-chain-err, Reads-gives, exit}
 use Rattle.bitstream_stream.proofs.VbrReads.{limit-stops, limit-holds, limit-passed}
-use Rattle.bitstream_value.specs.NonZeros.{non_zero_entry, non_zero, non_zero_vbr_entry, if_any, option_entry, option_vbr_entry}
+use Rattle.bitstream_value.specs.NonZero.{non_zero_entry, non_zero, non_zero_vbr_entry, if_any, option_entry, option_vbr_entry}
 
 module _ {A : Type 0} (after : ℕ → A) where
   -- the value of a number, or none of 0

@@ -23,8 +23,8 @@ use Rattle.bitstream_stream.specs.ReadTable.{first_bit, bit_entry, unsigned_entr
 use Rattle.bitstream_stream.proofs.EntryLemmas.{chain-ok, chain-none}
 use Rattle.bitstream_stream.proofs.ReadsLemmas.{Reads-chain-ok, Reads-gives, exit}
 use Rattle.bitstream_stream.proofs.SliceLemmas.{new_answer}
-use Rattle.bitstream_value.specs.NonZeros.{non_zero_entry, if_any, option_entry}
-use Rattle.bitstream_value.specs.Truths.{truth_entry}
+use Rattle.bitstream_value.specs.NonZero.{non_zero_entry, if_any, option_entry}
+use Rattle.bitstream_value.specs.Boolean.{truth_entry}
 use Rattle.bitstream_value.proofs.BackLemmas.{bit-word, signed-word}
 use Rattle.bitstream_value.proofs.SureLemmas.{IsWord, unsigned-word, truth-word, non_zero-word, option-word}
 

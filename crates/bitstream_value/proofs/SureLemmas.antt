@@ -17,9 +17,9 @@ use Rattle.bitstream_stream.specs.Reads.{BitSource, Reads}
 use Rattle.bitstream_stream.proofs.EntryLemmas.{chain_takes, map_takes}
 use Rattle.bitstream_stream.proofs.SliceLemmas.{new_answer}
 use Rattle.bitstream_stream.proofs.TableLemmas.{unsigned-takes}
-use Rattle.bitstream_value.specs.Items.{items_entry, words}
-use Rattle.bitstream_value.specs.NonZeros.{non_zero_entry, if_any, option_entry}
-use Rattle.bitstream_value.specs.Truths.{truth_entry}
+use Rattle.bitstream_value.specs.Array.{items_entry, words}
+use Rattle.bitstream_value.specs.NonZero.{non_zero_entry, if_any, option_entry}
+use Rattle.bitstream_value.specs.Boolean.{truth_entry}
 
 -- a call that takes a word of n bits, and answers g of it
 pub record IsWord {A : Type 0} (e : ReadEntry A) (n : ℕ) (g : List Bool → Result A Error) : Type 0 where

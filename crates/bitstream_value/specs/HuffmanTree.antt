@@ -6,7 +6,7 @@ use Rattle.bitstream_value.specs.Tree.{Tree}
 use Rattle.bitstream_value.specs.declared.huffman.tree.HuffmanTree.{HuffmanTree}
 use Rattle.bitstream_value.specs.declared.huffman.tree.Node.{Node}
 
--- a value that is there
+-- a value that is not `None`
 abbrev pub value_of : {T : Type 0} → (o : Option T) → is_some o ≡ true → T
 value_of None there = absurd (false≢true there)
 value_of (Some x) there = x

@@ -1,7 +1,8 @@
+pub mod Checked
 pub mod HuffmanTree
-pub mod Items
+pub mod Array
 pub mod LimitedUnary
-pub mod NonZeros
+pub mod NonZero
 pub mod Nodes
 pub mod Tree
-pub mod Truths
+pub mod Boolean

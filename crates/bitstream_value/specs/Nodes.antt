@@ -4,14 +4,15 @@ use Rattle.bitstream_value.specs.Tree.{Tree, leaf, node}
 use Rattle.bitstream_value.specs.declared.huffman.tree.Node.{Node}
 use Rattle.bitstream_value.specs.declared.huffman.tree.Node.TheVariants.{Leaf, Branch}
 
--- two trees as one, where both are there
+-- two trees as one, if both are there
 abbrev pub both : {S : Type 0} → Option (Tree S) → Option (Tree S) → Option (Tree S)
 both None y = None
 both (Some a) None = None
 both (Some a) (Some b) = Some (node a b)
 
--- The tree whose table ends with this node, and stands from `low` up to `end`: a leaf alone; or a branch, behind the
--- tables of its two sides, of which either may come first and which end at the places that it names.
+-- The tree whose table ends with this node and stands from `low` up to `end`. A leaf stands alone. A branch stands
+-- behind the tables of its two sides, either of which may come first, and each of which ends at the place that the
+-- branch names.
 abbrev pub tree_behind : {S : Type 0} → (ℕ → ℕ → Option (Tree S)) → Option (Node S) → ℕ → ℕ → Option (Tree S)
 tree_behind stands None low end = None
 tree_behind stands (Some (Leaf x)) low end = if end == low + 1 then Some (leaf x) else None
@@ -29,12 +30,12 @@ tree_between nodes (suc n) low end = tree_behind (tree_between nodes n) (slice_g
 abbrev pub nodes_tree : {S : Type 0} → List (Node S) → Option (Tree S)
 nodes_tree nodes = tree_between nodes (length nodes) 0 (length nodes)
 
--- a node whose places are n further on
+-- a node with its places moved by n
 abbrev pub moved : {S : Type 0} → ℕ → Node S → Node S
 moved n (Leaf x) = Leaf x
 moved n (Branch z o) = Branch (z + n) (o + n)
 
--- its places are numbers of 64 bits then
+-- the places of the node, moved by n, are numbers of 64 bits
 abbrev pub FitsMoved : {S : Type 0} → ℕ → Node S → Type 0
 FitsMoved n (Leaf x) = ⊤
 FitsMoved n (Branch z o) = (z + n < 2 ^ 64) × (o + n < 2 ^ 64)

@@ -1,10 +1,10 @@
--- Prefix codes: a tree of symbols, whose words are the paths to its leaves.
+-- Prefix codes: trees of symbols, whose words are the paths to the leaves.
 use Rattle.std.specs.Prelude.{◌≡◌, ◌⊎◌, Bool, true, false, List, [], ◌∷◌, map, Option, Some, None, option_map, if◌then◌else◌}
 use Rattle.bitstream_count.specs.Entry.{ReadEntry, WriteEntry, chain, gives}
 use Rattle.bitstream_stream.specs.ReadTable.{bit_entry}
 use Rattle.bitstream_stream.specs.WriteTable.{bit}
 
--- a symbol alone, or two trees, of which the bit 0 leads to the first and the bit 1 to the second
+-- a leaf with its symbol; or a branch, of which the bit 0 leads to the first side and the bit 1 to the second
 pub data Tree (S : Type 0) : Type 0 where
   leaf : S → Tree S
   node : (zero_side : Tree S) → (one_side : Tree S) → Tree S
@@ -22,7 +22,7 @@ unfoldable pub path_entry : {S : Type 0} → Tree S → ReadEntry S
 path_entry (leaf x) = gives x
 path_entry (node a b) = chain bit_entry (λ c. if c then path_entry b else path_entry a)
 
--- the first, where there is one
+-- the first one, if it is there, else the second
 abbrev pub or_else : {A : Type 0} → Option A → Option A → Option A
 or_else None y = y
 or_else (Some x) y = Some x
@@ -38,7 +38,7 @@ abbrev pub or_nothing : {A : Type 0} → Option (List A) → List A
 or_nothing None = []
 or_nothing (Some xs) = xs
 
--- what is written for s: nothing where no leaf has it
+-- the word that is written for s: no bits if no leaf has it
 unfoldable pub symbol_word : {S : Type 0} → (S → S → Bool) → Tree S → S → List Bool
 symbol_word same t s = or_nothing (first_path same t s)
 
@@ -46,7 +46,7 @@ symbol_word same t s = or_nothing (first_path same t s)
 abbrev pub bit_by_bit : List Bool → List WriteEntry
 bit_by_bit w = map bit w
 
--- u leads to the side of 0 where v leads to that of 1, at the first place where they part
+-- at the first place where they part, u leads to the side of 0 and v to that of 1
 abbrev pub IsBefore : List Bool → List Bool → Type 0
 IsBefore [] v = ⊥
 IsBefore (b ∷ u) [] = ⊥

@@ -1,4 +1,4 @@
-//! Prefix codes: symbols that stand as words of bits, none of which begins another.
+//! Prefix codes: each symbol is a word of bits, and no word is the beginning of another.
 ghost use Rattle.std.specs.Prelude.{Bool, List};
 ghost use Rattle.bitstream_count.specs.Entry.{ReadEntry};
 ghost use Rattle.bitstream_stream.specs.Reads.{BitSource, Reads};
@@ -16,16 +16,12 @@ use bitstream_count::error::Error;
 use bitstream_stream::read::BitRead;
 use bitstream_stream::write::BitWrite;
 
-/// Where a code reads its bits: all that it needs of a reader. Each reader of bits is one.
+/// All that a code needs of a reader. Every reader of bits is one, and fails as [`BitRead`] says.
 pub trait NextBit {
     // What the states of the reader mean.
     ghost source: { BitSource Self };
 
     /// Reads one bit, and returns whether it is 1.
-    ///
-    /// # Errors
-    ///
-    /// Those of the reader's stream, after which it has failed, and `Failed` from then on.
     fn next_bit(&mut self) -> Result<bool, Error>
         ensures reads { Reads source bit_entry self.old result self.new };
 }
@@ -38,17 +34,12 @@ impl<R: BitRead> NextBit for R {
     }
 }
 
-/// Where a code writes its bits: all that it needs of a sink. Each sink of bits is one.
+/// All that a code needs of a sink. Every sink of bits is one, and fails as [`BitWrite`] says.
 pub trait PutBit {
     // What the states of the sink mean.
     ghost sink: { Sink Self };
 
-    /// Writes one bit.
-    ///
-    /// # Errors
-    ///
-    /// Those of the sink's stream, after which it has failed, and `Failed` from then on.
-    /// `CounterOverflow` past its limit, where it has one: nothing is written then.
+    /// Writes one bit: 1 for `true`.
     fn put_bit(&mut self, one: bool) -> Result<(), Error>
         ensures writes { Writes sink (bit one) self.old result self.new };
 }
@@ -61,38 +52,33 @@ impl<W: BitWrite> PutBit for W {
     }
 }
 
-/// A code that is read, bit by bit.
+/// A prefix code that is read, bit by bit. Its only errors are those of the reader.
 pub trait FromBits {
-    /// What the words of the code stand for.
+    /// The symbols of the code.
     type Symbol;
 
-    // What the code reads.
+    // The read entry of the code.
     ghost entry: { Self → ReadEntry Self.Symbol };
 
-    /// Reads one word, and returns the symbol for which it stands.
-    ///
-    /// # Errors
-    ///
-    /// Those of the reader's stream, after which it has failed, and `Failed` from then on.
+    /// Reads one word, and returns its symbol.
     fn from_bits<N: NextBit>(&self, next: &mut N) -> Result<Self::Symbol, Error>
         ensures reads { Reads N.source (entry self.now) next.old result next.new };
 }
 
-/// A code that is written, bit by bit.
+/// A prefix code that is written, bit by bit.
 pub trait ToBits {
-    /// What the words of the code stand for.
+    /// The symbols of the code.
     type Symbol;
 
     // The word of a symbol.
     ghost word: { Self → Self.Symbol → List Bool };
 
-    /// Writes the word of a symbol: nothing where it has none.
+    /// Writes the word of a symbol, or nothing if it has none.
     ///
     /// # Errors
     ///
-    /// Those of the sink's stream, after which it has failed, and `Failed` from then on.
-    /// `CounterOverflow` past its limit, where it has one. The bits before a refused one stay
-    /// written. A word of no bits is never refused.
+    /// Those of the sink. The bits before the refused one stay written. A word of no bits always
+    /// succeeds.
     fn to_bits<P: PutBit>(&self, symbol: Self::Symbol, put: &mut P) -> Result<(), Error>
         ensures writes { WritesAll P.sink (bit_by_bit (word self.now symbol))
             put.old result put.new };

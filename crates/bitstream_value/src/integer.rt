@@ -1,4 +1,4 @@
-//! Types whose values are words of bits.
+//! Types whose values are read and written as bits.
 ghost use Rattle.std.specs.Prelude.{ℕ, List};
 ghost use Rattle.bitstream_number.specs.Word.{Order};
 ghost use Rattle.bitstream_count.specs.Entry.{ReadEntry, WriteEntry};
@@ -17,26 +17,27 @@ use bitstream_number::number::Width;
 use bitstream_stream::read::BitRead;
 use bitstream_stream::write::BitWrite;
 
-/// A type whose values are read and written in so many bits: the integers, `bool`, arrays of such
-/// types, and numbers that are not 0 with the options of them.
+/// A type whose values are read and written in a given number of bits: the integers, `bool`,
+/// `NonZero` types, `Option`s of these, and arrays.
 ///
-/// An array is its items in order, each in so many bits: the items before one that is refused stay
-/// read or written, and an array of no items makes no call. Any other value is one call: where it
-/// is refused for its width or value, no bit is read or written.
+/// An array is its items in order, each in that number of bits. If an item meets an error, the
+/// items before it stay read or written. An array of no items makes no call. Any other value is one
+/// call: if it is rejected for its width or value, no bit is read or written.
+///
+/// # Errors
+///
+/// Those of the reader ([`BitRead`]) and of the sink ([`BitWrite`]). The calls below name only the
+/// errors of their own.
 pub trait Integer: Sized {
-    // What a value is in so many bits, in either order of bits: read, and written.
+    // The read entry and the write entries of a value in a number of bits, in either order.
     ghost reads: { Order → ℕ → ReadEntry Self };
 
     ghost writes: { Order → ℕ → Self → List WriteEntry };
 
-    // The widths at which no value is refused for the width.
+    // The widths at which no value is rejected for its width.
     ghost IsWidth: { ℕ → Type 0 };
 
-    /// Reads a value in as many bits as B says, which are never refused, and returns it.
-    ///
-    /// # Errors
-    ///
-    /// Those of the reader's stream, after which it has failed, and `Failed` from then on.
+    /// Reads a value of `B::BITS` bits, a width that is never rejected.
     fn read<B: Width, R: BitRead>(reader: &mut R) -> Result<Self, Error>
         requires { IsWidth B.BITS }
         ensures reads { Reads R.source (reads R.source.order B.BITS) reader.old result reader.new }
@@ -44,25 +45,22 @@ pub trait Integer: Sized {
         Self::read_var(reader, BitCount::unknown(B::BITS))
     }
 
-    /// Reads a value in so many bits, and returns it.
+    /// Reads a value of the given number of bits.
     ///
     /// # Errors
     ///
-    /// `ReadBits` where the type has fewer bits, `NoSignBit` for a signed number in 0 bits,
-    /// `BoolWidth` for a `bool` in other than 1 bit, `NonZeroWidth` for a `NonZero` in as many bits
-    /// as its type has, or more: no bit of the value is read then. Those of the reader's stream,
-    /// after which it has failed, and `Failed` from then on.
+    /// `ReadBits` if the type has fewer bits, `NoSignBit` for a signed number of 0 bits,
+    /// `BoolWidth` for a `bool` of any number of bits but 1, `NonZeroWidth` for a `NonZero` of its
+    /// type's size in bits, or of more. No bit of the value is read then.
     fn read_var<C: Count, R: BitRead>(reader: &mut R, bits: C) -> Result<Self, Error>
         ensures reads { Reads R.source (reads R.source.order (C.number bits))
             reader.old result reader.new };
 
-    /// Writes a value in as many bits as B says, which are never refused.
+    /// Writes a value in `B::BITS` bits, a width that is never rejected.
     ///
     /// # Errors
     ///
-    /// `Checked(ExcessiveValue)` where the value takes more bits: no bit of it is written then.
-    /// Those of the writer's stream, after which it has failed, and `Failed` from then on.
-    /// `CounterOverflow` past its limit, where it has one.
+    /// `Checked(ExcessiveValue)` if the value needs more bits. No bit of it is written then.
     fn write<B: Width, W: BitWrite>(self, writer: &mut W) -> Result<(), Error>
         requires { IsWidth B.BITS }
         ensures writes { WritesAll W.sink (writes W.sink.order B.BITS self)
@@ -71,52 +69,50 @@ pub trait Integer: Sized {
         self.write_var(writer, BitCount::unknown(B::BITS))
     }
 
-    /// Writes a value in so many bits.
+    /// Writes a value in the given number of bits.
     ///
     /// # Errors
     ///
-    /// `NoSignBit`, `BoolWidth` and `NonZeroWidth` as [`read_var`](Integer::read_var) has them;
-    /// else `Checked(ExcessiveBits)` where the type has fewer bits, and `Checked(ExcessiveValue)`
-    /// where the value takes more: no bit of the value is written then. Those of the writer's
-    /// stream, after which it has failed, and `Failed` from then on. `CounterOverflow` past its
-    /// limit, where it has one.
+    /// `NoSignBit`, `BoolWidth` and `NonZeroWidth` as of [`read_var`](Integer::read_var), else
+    /// `Checked(ExcessiveBits)` if the type has fewer bits, else `Checked(ExcessiveValue)` if the
+    /// value needs more. No bit of the value is written then.
     fn write_var<C: Count, W: BitWrite>(self, writer: &mut W, bits: C) -> Result<(), Error>
         ensures writes { WritesAll W.sink (writes W.sink.order (C.number bits) self)
             writer.old result writer.new };
 }
 
-/// An integer type whose values are read and written in groups of bits too, as few as hold a value:
-/// the integers, arrays of such types, and numbers that are not 0 with the options of them.
+/// A type whose values are also read and written in groups of bits (variable width): the integers,
+/// `NonZero` types, `Option`s of these, and arrays.
 ///
-/// A number that is not 0 stands as one less. An array is its items in order, as it is for
-/// [`Integer`]; any other value is one call.
+/// A value is written in as few groups as hold it. A `NonZero` is read and written as its number
+/// less 1. An array is its items in order, as it is for [`Integer`]. Any other value is one call.
+///
+/// # Errors
+///
+/// Those of the reader ([`BitRead`]) and of the sink ([`BitWrite`]). The calls below name only the
+/// errors of their own.
 pub trait VBRInteger: Integer {
-    // What a value is in groups of so many bits, in either order of bits: read, and written.
+    // The read entry and the write entries of a value in groups of a number of bits, in either
+    // order.
     ghost reads_vbr: { Order → ℕ → ReadEntry Self };
 
     ghost writes_vbr: { Order → ℕ → Self → List WriteEntry };
 
-    // The sizes that a group may have.
+    // The sizes that a group may have, in bits.
     ghost IsFieldSize: { ℕ → Type 0 };
 
-    /// Reads a value in groups of as many bits as F says, and returns it.
+    /// Reads a value in groups of `F::BITS` bits.
     ///
     /// # Errors
     ///
-    /// `VariableWidthOverflow` where a number is too great for its type, or a group begins past its
-    /// bits: the groups up to the one that shows it are read then. Those of the reader's stream,
-    /// after which it has failed, and `Failed` from then on.
+    /// `VariableWidthOverflow` if a number does not fit in its type, or a group begins past its
+    /// bits. The groups up to the one that shows it are read then.
     fn read_vbr<F: Width, R: BitRead>(reader: &mut R) -> Result<Self, Error>
         requires { IsFieldSize F.BITS }
         ensures reads { Reads R.source (reads_vbr R.source.order F.BITS)
             reader.old result reader.new };
 
-    /// Writes a value in groups of as many bits as F says.
-    ///
-    /// # Errors
-    ///
-    /// Those of the writer's stream, after which it has failed, and `Failed` from then on.
-    /// `CounterOverflow` past its limit, where it has one.
+    /// Writes a value in groups of `F::BITS` bits.
     fn write_vbr<F: Width, W: BitWrite>(self, writer: &mut W) -> Result<(), Error>
         requires { IsFieldSize F.BITS }
         ensures writes { WritesAll W.sink (writes_vbr W.sink.order F.BITS self)

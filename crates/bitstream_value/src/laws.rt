@@ -1,6 +1,6 @@
-//! What holds of prefix codes, whatever reads or writes them.
+//! Laws of prefix codes, whatever reads or writes them.
 //!
-//! Each function states a law by its contract, and has nothing to do.
+//! The contract of each function is a law. Its body is empty.
 
 ghost use Rattle.std.specs.Prelude.{◌≡◌, ℕ, ◌<◌, ◌≤◌, ◌↔◌, Bool, true, List, ◌++◌, length, take, Option, IfSome, IsSome, Some, Result, Ok};
 ghost use Rattle.bitstream_count.specs.Entry.{Takes};
@@ -8,8 +8,8 @@ ghost use Rattle.bitstream_count.specs.declared.error.Error.{Error};
 ghost use Rattle.bitstream_value.specs.LimitedUnary.{limited_unary, limited_tree};
 ghost use Rattle.bitstream_value.specs.Tree.{Tree, IsPath, IsFirstPath, path_entry, first_path, symbol_word};
 
-/// No path of a tree begins another; a path is read again, whatever follows it; and a read takes a
-/// path, and answers the symbol at its leaf.
+/// No path of a tree is the beginning of another one. A path is read back, whatever follows it. A
+/// read takes a path, and answers the symbol at its leaf.
 pub fn paths_are_read<S>()
     ensures apart { (t : Tree S) (u v x y : List Bool) (a b : S) → IsPath t u a → IsPath t v b
         → u ++ x ≡ v ++ y → (u ≡ v) × (a ≡ b) }
@@ -20,7 +20,7 @@ pub fn paths_are_read<S>()
         → (n ≤ length bits) × ((s : S) × (answer ≡ Ok s) × IsPath t (take n bits) s) }
 {}
 
-/// A symbol has a word exactly where a leaf has the same symbol; the word is the path of the first
+/// A symbol has a word exactly if a leaf has the same symbol. The word is the path of the first
 /// such leaf, and is read as that leaf's symbol.
 pub fn symbols_have_words<S>()
     ensures known { (same : S → S → Bool) (t : Tree S) (s : S) → IsSome (first_path same t s)

@@ -1,6 +1,7 @@
-//! Values of any type that is written as words of bits.
+//! Values of any type that is read and written as bits.
 #![tactic(auto)]
 
+pub mod checked;
 pub mod huffman;
 pub mod integer;
 pub mod laws;

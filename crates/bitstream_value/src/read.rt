@@ -1,6 +1,8 @@
-//! Values that a reader of bits reads.
+//! Calls that read values of any type.
+ghost use Rattle.bitstream_order.specs.Gather.{seen};
 ghost use Rattle.bitstream_stream.specs.Reads.{Reads};
 
+use crate::checked::CheckablePrimitive;
 use crate::huffman::FromBits;
 use crate::integer::{Integer, VBRInteger};
 use bitstream_count::count::{BitCount, Count};
@@ -8,7 +10,8 @@ use bitstream_count::error::Error;
 use bitstream_number::number::Width;
 use bitstream_stream::read::BitRead;
 
-/// Reads values of any [`Integer`] and [`VBRInteger`] type. Each reader of bits does.
+/// Reads values of any [`Integer`] and [`VBRInteger`] type, checked values, and symbols of prefix
+/// codes. Every reader of bits has these calls.
 ///
 /// # Examples
 ///
@@ -24,7 +27,7 @@ use bitstream_stream::read::BitRead;
 /// assert_eq!(rt; track.map(|n| n.get()), Some(3));
 /// ```
 pub trait BitReadExt: BitRead {
-    /// Reads a value in as many bits as B says, and returns it.
+    /// Reads a value of `B::BITS` bits.
     ///
     /// # Errors
     ///
@@ -34,7 +37,7 @@ pub trait BitReadExt: BitRead {
         ensures reads { Reads Self.source (I.reads Self.source.order B.BITS)
             self.old result self.new };
 
-    /// Reads a value in so many bits, and returns it.
+    /// Reads a value of the given number of bits.
     ///
     /// # Errors
     ///
@@ -43,7 +46,7 @@ pub trait BitReadExt: BitRead {
         ensures reads { Reads Self.source (I.reads Self.source.order bits)
             self.old result self.new };
 
-    /// Reads a value in so many bits, and returns it.
+    /// Reads a value of the given number of bits.
     ///
     /// # Errors
     ///
@@ -52,7 +55,7 @@ pub trait BitReadExt: BitRead {
         ensures reads { Reads Self.source (I.reads Self.source.order (C.number bits))
             self.old result self.new };
 
-    /// Reads a value in groups of as many bits as F says, and returns it.
+    /// Reads a value of variable width, in groups of `F::BITS` bits.
     ///
     /// # Errors
     ///
@@ -62,7 +65,16 @@ pub trait BitReadExt: BitRead {
         ensures reads { Reads Self.source (I.reads_vbr Self.source.order F.BITS)
             self.old result self.new };
 
-    /// Reads one word of a prefix code, and returns the symbol for which it stands.
+    /// Reads a number of as many bits as the count says, and returns it with the count.
+    ///
+    /// # Errors
+    ///
+    /// As [`CheckablePrimitive::read`].
+    fn read_checked<C: CheckablePrimitive>(&mut self, count: C::CountType) -> Result<C, Error>
+        ensures reads { Reads Self.source (C.reads Self.source.order count)
+            self.old (seen C.counted result) self.new };
+
+    /// Reads the word of a symbol of a prefix code, and returns the symbol.
     ///
     /// # Errors
     ///
@@ -86,6 +98,10 @@ impl<R: BitRead> BitReadExt for R {
 
     fn read_vbr<F: Width, I: VBRInteger>(&mut self) -> Result<I, Error> {
         I::read_vbr::<F, R>(self)
+    }
+
+    fn read_checked<C: CheckablePrimitive>(&mut self, count: C::CountType) -> Result<C, Error> {
+        C::read(self, count)
     }
 
     fn read_huffman<T: FromBits>(&mut self, code: &T) -> Result<T::Symbol, Error> {

@@ -1,4 +1,4 @@
-//! Refusals that read and write nothing, and come after `Failed`.
+//! Errors that read and write nothing, and come after `Failed`.
 ghost use Rattle.std.specs.Prelude.{◌≡◌, false, Err};
 ghost use Rattle.bitstream_count.specs.Entry.{refuses};
 ghost use Rattle.bitstream_stream.specs.Reads.{Reads, is_run_too_long};
@@ -8,21 +8,21 @@ use bitstream_count::error::Error;
 use bitstream_stream::read::BitRead;
 use bitstream_stream::write::BitWrite;
 
-/// Answers the error, and takes no bits; or `Failed` where the reader has failed.
+/// Answers the error and takes no bits, or answers `Failed` if the reader has failed.
 pub(crate) fn refuse_read<T, R: BitRead>(reader: &mut R, error: Error) -> Result<T, Error>
     requires { is_run_too_long {A = T} (Err error) ≡ false }
     ensures reads { Reads R.source (refuses error) reader.old result reader.new }
 {
-    // A word of no bits is refused where the reader has failed, and only there.
+    // A read of no bits answers an error only if the reader has failed.
     let _: u8 = reader.read_unsigned_var(0)?;
     Err(error)
 }
 
-/// Answers the error, and writes no bits; or `Failed` where the sink has failed.
+/// Answers the error and writes no bits, or answers `Failed` if the sink has failed.
 pub(crate) fn refuse_write<W: BitWrite>(writer: &mut W, error: Error) -> Result<(), Error>
     ensures writes { Writes W.sink (λ _. Err error) writer.old result writer.new }
 {
-    // A word of no bits is refused where the sink has failed, and only there.
+    // A write of no bits answers an error only if the sink has failed.
     writer.write_unsigned_var(0, 0u8)?;
     Err(error)
 }

@@ -1,7 +1,9 @@
-//! Values that a sink of bits takes.
-ghost use Rattle.bitstream_stream.specs.Sink.{WritesAll};
+//! Calls that write values of any type.
+ghost use Rattle.bitstream_stream.specs.Sink.{Writes, WritesAll};
+ghost use Rattle.bitstream_stream.specs.WriteTable.{plain};
 ghost use Rattle.bitstream_value.specs.Tree.{bit_by_bit};
 
+use crate::checked::Checkable;
 use crate::huffman::ToBits;
 use crate::integer::{Integer, VBRInteger};
 use bitstream_count::count::{BitCount, Count};
@@ -9,7 +11,8 @@ use bitstream_count::error::Error;
 use bitstream_number::number::Width;
 use bitstream_stream::write::BitWrite;
 
-/// Writes values of any [`Integer`] and [`VBRInteger`] type. Each sink of bits does.
+/// Writes values of any [`Integer`] and [`VBRInteger`] type, checked values, and symbols of prefix
+/// codes. Every sink of bits has these calls.
 ///
 /// # Examples
 ///
@@ -23,7 +26,7 @@ use bitstream_stream::write::BitWrite;
 /// assert_eq!(rt; bytes.as_slice(), [0xfd].as_slice());
 /// ```
 pub trait BitWriteExt: BitWrite {
-    /// Writes a value in as many bits as B says.
+    /// Writes a value in `B::BITS` bits.
     ///
     /// # Errors
     ///
@@ -33,7 +36,7 @@ pub trait BitWriteExt: BitWrite {
         ensures writes { WritesAll Self.sink (I.writes Self.sink.order B.BITS value)
             self.old result self.new };
 
-    /// Writes a value in so many bits.
+    /// Writes a value in the given number of bits.
     ///
     /// # Errors
     ///
@@ -42,7 +45,7 @@ pub trait BitWriteExt: BitWrite {
         ensures writes { WritesAll Self.sink (I.writes Self.sink.order bits value)
             self.old result self.new };
 
-    /// Writes a value in so many bits.
+    /// Writes a value in the given number of bits.
     ///
     /// # Errors
     ///
@@ -51,7 +54,7 @@ pub trait BitWriteExt: BitWrite {
         ensures writes { WritesAll Self.sink (I.writes Self.sink.order (C.number bits) value)
             self.old result self.new };
 
-    /// Writes a value in groups of as many bits as F says.
+    /// Writes a value of variable width, in groups of `F::BITS` bits.
     ///
     /// # Errors
     ///
@@ -61,7 +64,16 @@ pub trait BitWriteExt: BitWrite {
         ensures writes { WritesAll Self.sink (I.writes_vbr Self.sink.order F.BITS value)
             self.old result self.new };
 
-    /// Writes the word of a symbol in a prefix code: nothing where it has none.
+    /// Writes a checked value in as many bits as its count says. It is never rejected.
+    ///
+    /// # Errors
+    ///
+    /// As [`Checkable::write`].
+    fn write_checked<C: Checkable>(&mut self, value: C) -> Result<(), Error>
+        ensures writes { Writes Self.sink (plain (C.word Self.sink.order value))
+            self.old result self.new };
+
+    /// Writes the word of a symbol of a prefix code, or nothing if it has none.
     ///
     /// # Errors
     ///
@@ -86,6 +98,10 @@ impl<W: BitWrite> BitWriteExt for W {
 
     fn write_vbr<F: Width, I: VBRInteger>(&mut self, value: I) -> Result<(), Error> {
         value.write_vbr::<F, W>(self)
+    }
+
+    fn write_checked<C: Checkable>(&mut self, value: C) -> Result<(), Error> {
+        value.write(self)
     }
 
     fn write_huffman<T: ToBits>(&mut self, code: &T, symbol: T::Symbol) -> Result<(), Error> {

@@ -1,4 +1,4 @@
-//! Unary numbers of at most so many digits.
+//! Unary numbers of at most a given number of bits.
 ghost use Rattle.std.specs.Prelude.{◌<◌, ◌==◌, replicate};
 ghost use Rattle.bitstream_stream.specs.Sink.{WritesAll};
 ghost use Rattle.bitstream_value.specs.LimitedUnary.{limited_unary, limited_tree};
@@ -7,10 +7,10 @@ ghost use Rattle.bitstream_value.specs.Tree.{path_entry, bit_by_bit};
 use crate::huffman::{FromBits, NextBit, PutBit, ToBits};
 use bitstream_count::error::Error;
 
-/// Numbers below MAXIMUM as so many bits that are not STOP_BIT, which is 0 or 1, and then that; and
-/// `None` as MAXIMUM such bits, with no look for a stop bit behind them.
+/// Unary numbers below MAXIMUM: the word of n is n bits that are not STOP_BIT, which is 0 or 1, and
+/// then STOP_BIT. The word of `None` is MAXIMUM bits that are not STOP_BIT, without a stop bit.
 ///
-/// A number of MAXIMUM or more has no word: to write it writes nothing, and succeeds.
+/// A number of MAXIMUM or more has no word: writing it writes nothing, and succeeds.
 ///
 /// # Examples
 ///
@@ -62,11 +62,11 @@ impl<const STOP_BIT: u8, const MAXIMUM: u32> ToBits for LimitedUnary<STOP_BIT, M
     }
 }
 
-/// Writes the same bit so many times.
+/// Writes the same bit the given number of times.
 ///
 /// # Errors
 ///
-/// As [`PutBit::put_bit`]. The bits before a refused one stay written.
+/// As [`PutBit::put_bit`]. The bits before the refused one stay written.
 fn repeat<P: PutBit>(put: &mut P, one: bool, times: u32) -> Result<(), Error>
     ensures writes { WritesAll P.sink (bit_by_bit (replicate times one)) put.old result put.new }
 {

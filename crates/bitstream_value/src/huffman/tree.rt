@@ -1,4 +1,4 @@
-//! Codes that are trees of symbols.
+//! Prefix codes that are trees of symbols.
 ghost use Rattle.std.specs.Prelude.{◌≡◌, true, is_some};
 ghost use Rattle.bitstream_value.specs.Nodes.{nodes_tree};
 
@@ -8,19 +8,19 @@ mod walk;
 use crate::huffman::tree::join::joined;
 use std::alloc::{AllocError, Allocator};
 
-/// One place of a table: a symbol, or the places of the two sides of a branch.
+/// One node of a table: a leaf with its symbol, or a branch with the places of its two sides.
 #[derive(Copy, Clone, Drop)]
 enum Node<S> {
     Leaf(S),
     Branch { zero: usize, one: usize },
 }
 
-/// A tree of symbols as a code: the word of a symbol is the path to its leaf, on which the bit 0
-/// leads to the first side of a branch and the bit 1 to the second.
+/// A prefix code that is a tree of symbols. The word of a symbol is the path from the root to its
+/// leaf: the bit 0 leads to the first side of a branch, and the bit 1 to the second.
 ///
-/// Where several leaves have the same symbol, the first from the side of 0 is written. A symbol that
-/// no leaf has is written as nothing. To read, to write and to drop a tree takes no more stack where
-/// it is deep.
+/// If several leaves have the same symbol, the path of the first one, from the side of 0, is
+/// written. A symbol that no leaf has is written as nothing. However deep a tree is, reading,
+/// writing and dropping it take no more stack.
 ///
 /// # Examples
 ///
@@ -39,7 +39,7 @@ enum Node<S> {
 #[derive(Drop)]
 pub struct HuffmanTree<S, A: Allocator> {
     // Each side of a branch is a part of the table before it, which ends with that side's root. The
-    // longer one comes first.
+    // longer side comes first.
     nodes: Vec<Node<S>, A>,
     ghost has_tree: { is_some (nodes_tree nodes.items) ≡ true },
 }
@@ -49,11 +49,11 @@ impl<S: Copy + Eq, A: Allocator> HuffmanTree<S, A> {
     ghost use Rattle.bitstream_value.specs.HuffmanTree.{tree_of};
     ghost use Rattle.bitstream_value.specs.Tree.{leaf as one_leaf, node as two_sides};
 
-    /// Makes a tree of one symbol, whose word has no bits.
+    /// Makes a tree of one leaf. Its symbol has a word of no bits.
     ///
     /// # Errors
     ///
-    /// Memory was refused.
+    /// If memory is refused.
     pub fn leaf(alloc: A, symbol: S) -> Result<Self, AllocError>
         ensures tree { IfOk result (λ code. tree_of code ≡ one_leaf symbol) }
     {
@@ -62,12 +62,12 @@ impl<S: Copy + Eq, A: Allocator> HuffmanTree<S, A> {
         Ok(HuffmanTree { nodes })
     }
 
-    /// Makes a tree of two: the words of the one begin with the bit 0 there, and those of the other
-    /// with the bit 1.
+    /// Makes a tree of two: the words of `zero` come behind the bit 0, and those of `one` behind
+    /// the bit 1.
     ///
     /// # Errors
     ///
-    /// Memory was refused, and both trees are dropped.
+    /// If memory is refused. Both trees are dropped then.
     pub fn node(zero: Self, one: Self) -> Result<Self, AllocError>
         ensures tree { IfOk result (λ code. tree_of code ≡ two_sides (tree_of zero) (tree_of one)) }
     {
@@ -87,7 +87,7 @@ impl<S: Copy> Node<S> {
     ghost use Rattle.std.specs.Prelude.{◌≡◌};
     ghost use Rattle.bitstream_value.specs.Nodes.{FitsMoved, moved as moved_node};
 
-    /// Returns the node with its places so many further on.
+    /// Returns the node with its places moved by `by`.
     fn moved(self, by: usize) -> Node<S>
         requires { FitsMoved by self }
         ensures { result ≡ moved_node by self }

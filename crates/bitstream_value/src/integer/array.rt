@@ -1,6 +1,6 @@
 //! Arrays, as their items in order.
 ghost use Rattle.std.specs.List.{flat_map};
-ghost use Rattle.bitstream_value.specs.Items.{items_entry};
+ghost use Rattle.bitstream_value.specs.Array.{items_entry};
 
 use crate::integer::{Integer, VBRInteger};
 use bitstream_count::count::Count;

@@ -1,11 +1,12 @@
 //! `bool`, as one bit.
 ghost use Rattle.std.specs.Prelude.{◌≡◌, [], ◌∷◌};
-ghost use Rattle.bitstream_value.specs.Truths.{truth_entry, truth};
+ghost use Rattle.bitstream_value.specs.Boolean.{truth_entry, truth};
 
 use crate::integer::Integer;
 use crate::refuse::{refuse_read, refuse_write};
 use bitstream_count::count::Count;
 use bitstream_count::error::Error;
+use bitstream_number::number::Width;
 use bitstream_stream::read::BitRead;
 use bitstream_stream::write::BitWrite;
 
@@ -16,12 +17,20 @@ impl Integer for bool {
 
     ghost IsWidth = { λ n. n ≡ 1 };
 
+    fn read<B: Width, R: BitRead>(reader: &mut R) -> Result<bool, Error> {
+        reader.read_bit()
+    }
+
     fn read_var<C: Count, R: BitRead>(reader: &mut R, bits: C) -> Result<bool, Error> {
         if bits.bits() == 1 {
             reader.read_bit()
         } else {
             refuse_read(reader, Error::BoolWidth)
         }
+    }
+
+    fn write<B: Width, W: BitWrite>(self, writer: &mut W) -> Result<(), Error> {
+        writer.write_bit(self)
     }
 
     fn write_var<C: Count, W: BitWrite>(self, writer: &mut W, bits: C) -> Result<(), Error> {

@@ -1,13 +1,13 @@
-//! Numbers that are not 0, and options of them.
+//! `NonZero` types, and `Option`s of them.
 ghost use Rattle.std.specs.Prelude.{◌≡◌, ℕ, ◌+◌, ◌-◌, ◌^◌, ◌<◌, ◌≤◌, [], ◌∷◌, MatchOption};
 ghost use Rattle.std.specs.Int.NonZero.{non_zero_u8_get, non_zero_u16_get, non_zero_u32_get, non_zero_u64_get, non_zero_u128_get};
 ghost use Rattle.std.proofs.Common.{sym, arith};
 ghost use Rattle.bitstream_stream.specs.Reads.{Reads};
 ghost use Rattle.bitstream_stream.specs.Sink.{WritesAll};
 ghost use Rattle.bitstream_stream.specs.WriteTable.{unsigned, vbr};
-ghost use Rattle.bitstream_value.specs.NonZeros.{non_zero_entry, non_zero, non_zero_vbr_entry, option_entry, option_vbr_entry, number_or_zero, made-same};
+ghost use Rattle.bitstream_value.specs.NonZero.{non_zero_entry, non_zero, non_zero_vbr_entry, option_entry, option_vbr_entry, number_or_zero, made-same};
 
-use crate::integer::unsigned::{write_number, write_number_vbr};
+use crate::integer::unsigned::{write_number, write_number_fixed, write_number_vbr};
 use crate::integer::{Integer, VBRInteger};
 use crate::refuse::{refuse_read, refuse_write};
 use bitstream_count::count::Count;
@@ -17,12 +17,12 @@ use bitstream_stream::read::BitRead;
 use bitstream_stream::write::BitWrite;
 use std::num::NonZero;
 
-/// A type of the numbers of an unsigned type that are not 0.
+/// A `NonZero` of an unsigned type.
 pub trait NonZeroInteger: Copy {
     /// The unsigned type.
     type Base: UnsignedInteger;
 
-    // The number of a value, and the value whose number is one more.
+    // The number of a value, and the value of a number plus 1.
     ghost number: { Self → ℕ };
 
     ghost after: { ℕ → Self };
@@ -32,7 +32,7 @@ pub trait NonZeroInteger: Copy {
         ensures { MatchOption result (Self.Base.value base ≡ 0)
             (λ x. number x ≡ Self.Base.value base) };
 
-    /// Returns the value of the number after this one.
+    /// Returns the value of this number plus 1.
     fn next(base: Self::Base) -> Self
         requires { Self.Base.value base + 1 < 2 ^ Self.Base.BITS_SIZE }
         ensures { number result ≡ Self.Base.value base + 1 };
@@ -47,7 +47,7 @@ pub trait NonZeroInteger: Copy {
     ghost after_law: { (x : Self) (n : ℕ) → number x ≡ n + 1 → after n ≡ x };
 }
 
-/// Reads a number that is not 0, which stands as one less.
+/// Reads a `NonZero`, as its number less 1.
 fn read_non_zero<N: NonZeroInteger, C: Count, R: BitRead>(
     reader: &mut R,
     bits: C,
@@ -64,7 +64,7 @@ fn read_non_zero<N: NonZeroInteger, C: Count, R: BitRead>(
     }
 }
 
-/// Writes a number that is not 0 as one less.
+/// Writes a `NonZero`, as its number less 1.
 fn write_non_zero<N: NonZeroInteger, C: Count, W: BitWrite>(
     value: N,
     writer: &mut W,
@@ -81,7 +81,31 @@ fn write_non_zero<N: NonZeroInteger, C: Count, W: BitWrite>(
     }
 }
 
-/// Reads a number that is not 0 in groups, which stands as one less.
+/// Reads a `NonZero` of `B::BITS` bits, as its number less 1.
+fn read_non_zero_fixed<B: Width, N: NonZeroInteger, R: BitRead>(reader: &mut R) -> Result<N, Error>
+    requires { B.BITS < N.Base.BITS_SIZE }
+    ensures reads { Reads R.source
+        (non_zero_entry N.after R.source.order N.Base.BITS_SIZE B.BITS)
+        reader.old result reader.new }
+{
+    let base = reader.read_unsigned::<B, N::Base>()?;
+    Ok(N::next(base))
+}
+
+/// Writes a `NonZero` in `B::BITS` bits, as its number less 1.
+fn write_non_zero_fixed<B: Width, N: NonZeroInteger, W: BitWrite>(
+    value: N,
+    writer: &mut W,
+) -> Result<(), Error>
+    requires { B.BITS < N.Base.BITS_SIZE }
+    ensures writes { WritesAll W.sink
+        (non_zero W.sink.order N.Base.BITS_SIZE B.BITS (N.number value) ∷ [])
+        writer.old result writer.new }
+{
+    write_number_fixed::<B, N::Base, W>(value.base() - N::Base::ONE, writer)
+}
+
+/// Reads a `NonZero` in groups, as its number less 1.
 fn read_non_zero_vbr<F: Width, N: NonZeroInteger, R: BitRead>(reader: &mut R) -> Result<N, Error>
     requires some { 2 ≤ F.BITS }
     requires within { F.BITS < N.Base.BITS_SIZE }
@@ -97,7 +121,7 @@ fn read_non_zero_vbr<F: Width, N: NonZeroInteger, R: BitRead>(reader: &mut R) ->
     Ok(N::next(base))
 }
 
-/// Writes a number that is not 0 in groups, as one less.
+/// Writes a `NonZero` in groups, as its number less 1.
 fn write_non_zero_vbr<F: Width, N: NonZeroInteger, W: BitWrite>(
     value: N,
     writer: &mut W,
@@ -110,7 +134,7 @@ fn write_non_zero_vbr<F: Width, N: NonZeroInteger, W: BitWrite>(
     write_number_vbr::<F, N::Base, W>(value.base() - N::Base::ONE, writer)
 }
 
-/// Returns the number of a value, or 0 for none.
+/// Returns the number of a value, or 0 for `None`.
 fn base_or_zero<N: NonZeroInteger>(value: Option<N>) -> N::Base
     ensures { N.Base.value result ≡ number_or_zero N.number value }
 {
@@ -127,9 +151,18 @@ impl<N: NonZeroInteger> Integer for Option<N> {
 
     ghost IsWidth = { λ n. n ≤ N.Base.BITS_SIZE };
 
+    fn read<B: Width, R: BitRead>(reader: &mut R) -> Result<Option<N>, Error> {
+        let base = reader.read_unsigned::<B, N::Base>()?;
+        Ok(N::of(base))
+    }
+
     fn read_var<C: Count, R: BitRead>(reader: &mut R, bits: C) -> Result<Option<N>, Error> {
         let base = reader.read_unsigned_counted(bits)?;
         Ok(N::of(base))
+    }
+
+    fn write<B: Width, W: BitWrite>(self, writer: &mut W) -> Result<(), Error> {
+        write_number_fixed::<B, N::Base, W>(base_or_zero(self), writer)
     }
 
     fn write_var<C: Count, W: BitWrite>(self, writer: &mut W, bits: C) -> Result<(), Error> {
@@ -186,8 +219,16 @@ impl Integer for NonZero<u8> {
 
     ghost IsWidth = { λ n. n < 8 };
 
+    fn read<B: Width, R: BitRead>(reader: &mut R) -> Result<NonZero<u8>, Error> {
+        read_non_zero_fixed::<B, NonZero<u8>, R>(reader)
+    }
+
     fn read_var<C: Count, R: BitRead>(reader: &mut R, bits: C) -> Result<NonZero<u8>, Error> {
         read_non_zero(reader, bits)
+    }
+
+    fn write<B: Width, W: BitWrite>(self, writer: &mut W) -> Result<(), Error> {
+        write_non_zero_fixed::<B, NonZero<u8>, W>(self, writer)
     }
 
     fn write_var<C: Count, W: BitWrite>(self, writer: &mut W, bits: C) -> Result<(), Error> {
@@ -244,8 +285,16 @@ impl Integer for NonZero<u16> {
 
     ghost IsWidth = { λ n. n < 16 };
 
+    fn read<B: Width, R: BitRead>(reader: &mut R) -> Result<NonZero<u16>, Error> {
+        read_non_zero_fixed::<B, NonZero<u16>, R>(reader)
+    }
+
     fn read_var<C: Count, R: BitRead>(reader: &mut R, bits: C) -> Result<NonZero<u16>, Error> {
         read_non_zero(reader, bits)
+    }
+
+    fn write<B: Width, W: BitWrite>(self, writer: &mut W) -> Result<(), Error> {
+        write_non_zero_fixed::<B, NonZero<u16>, W>(self, writer)
     }
 
     fn write_var<C: Count, W: BitWrite>(self, writer: &mut W, bits: C) -> Result<(), Error> {
@@ -302,8 +351,16 @@ impl Integer for NonZero<u32> {
 
     ghost IsWidth = { λ n. n < 32 };
 
+    fn read<B: Width, R: BitRead>(reader: &mut R) -> Result<NonZero<u32>, Error> {
+        read_non_zero_fixed::<B, NonZero<u32>, R>(reader)
+    }
+
     fn read_var<C: Count, R: BitRead>(reader: &mut R, bits: C) -> Result<NonZero<u32>, Error> {
         read_non_zero(reader, bits)
+    }
+
+    fn write<B: Width, W: BitWrite>(self, writer: &mut W) -> Result<(), Error> {
+        write_non_zero_fixed::<B, NonZero<u32>, W>(self, writer)
     }
 
     fn write_var<C: Count, W: BitWrite>(self, writer: &mut W, bits: C) -> Result<(), Error> {
@@ -360,8 +417,16 @@ impl Integer for NonZero<u64> {
 
     ghost IsWidth = { λ n. n < 64 };
 
+    fn read<B: Width, R: BitRead>(reader: &mut R) -> Result<NonZero<u64>, Error> {
+        read_non_zero_fixed::<B, NonZero<u64>, R>(reader)
+    }
+
     fn read_var<C: Count, R: BitRead>(reader: &mut R, bits: C) -> Result<NonZero<u64>, Error> {
         read_non_zero(reader, bits)
+    }
+
+    fn write<B: Width, W: BitWrite>(self, writer: &mut W) -> Result<(), Error> {
+        write_non_zero_fixed::<B, NonZero<u64>, W>(self, writer)
     }
 
     fn write_var<C: Count, W: BitWrite>(self, writer: &mut W, bits: C) -> Result<(), Error> {
@@ -418,8 +483,16 @@ impl Integer for NonZero<u128> {
 
     ghost IsWidth = { λ n. n < 128 };
 
+    fn read<B: Width, R: BitRead>(reader: &mut R) -> Result<NonZero<u128>, Error> {
+        read_non_zero_fixed::<B, NonZero<u128>, R>(reader)
+    }
+
     fn read_var<C: Count, R: BitRead>(reader: &mut R, bits: C) -> Result<NonZero<u128>, Error> {
         read_non_zero(reader, bits)
+    }
+
+    fn write<B: Width, W: BitWrite>(self, writer: &mut W) -> Result<(), Error> {
+        write_non_zero_fixed::<B, NonZero<u128>, W>(self, writer)
     }
 
     fn write_var<C: Count, W: BitWrite>(self, writer: &mut W, bits: C) -> Result<(), Error> {

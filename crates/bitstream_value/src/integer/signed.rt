@@ -11,7 +11,7 @@ use bitstream_number::number::{SignedInteger, Width};
 use bitstream_stream::read::BitRead;
 use bitstream_stream::write::BitWrite;
 
-/// Writes a signed number in so many bits, by one call.
+/// Writes a signed number in the given number of bits, by one call.
 fn write_signed<S: SignedInteger, C: Count, W: BitWrite>(
     number: S,
     writer: &mut W,
@@ -24,7 +24,21 @@ fn write_signed<S: SignedInteger, C: Count, W: BitWrite>(
     writer.write_signed_var(bits.bits(), number)
 }
 
-/// Writes a signed number in groups of as many bits as F says, by one call.
+/// Writes a signed number in `B::BITS` bits, by one call.
+fn write_signed_fixed<B: Width, S: SignedInteger, W: BitWrite>(
+    number: S,
+    writer: &mut W,
+) -> Result<(), Error>
+    requires some { 1 ≤ B.BITS }
+    requires within { B.BITS ≤ S.BITS_SIZE }
+    ensures writes { WritesAll W.sink
+        (signed W.sink.order S.BITS_SIZE B.BITS (S.integer number) ∷ [])
+        writer.old result writer.new }
+{
+    writer.write_signed::<B, S>(number)
+}
+
+/// Writes a signed number in groups of `F::BITS` bits, by one call.
 fn write_signed_vbr<F: Width, S: SignedInteger, W: BitWrite>(
     number: S,
     writer: &mut W,
@@ -44,8 +58,16 @@ impl Integer for i8 {
 
     ghost IsWidth = { λ n. (1 ≤ n) × (n ≤ 8) };
 
+    fn read<B: Width, R: BitRead>(reader: &mut R) -> Result<i8, Error> {
+        reader.read_signed::<B, i8>()
+    }
+
     fn read_var<C: Count, R: BitRead>(reader: &mut R, bits: C) -> Result<i8, Error> {
         reader.read_signed_var(bits.bits())
+    }
+
+    fn write<B: Width, W: BitWrite>(self, writer: &mut W) -> Result<(), Error> {
+        write_signed_fixed::<B, i8, W>(self, writer)
     }
 
     fn write_var<C: Count, W: BitWrite>(self, writer: &mut W, bits: C) -> Result<(), Error> {
@@ -76,8 +98,16 @@ impl Integer for i16 {
 
     ghost IsWidth = { λ n. (1 ≤ n) × (n ≤ 16) };
 
+    fn read<B: Width, R: BitRead>(reader: &mut R) -> Result<i16, Error> {
+        reader.read_signed::<B, i16>()
+    }
+
     fn read_var<C: Count, R: BitRead>(reader: &mut R, bits: C) -> Result<i16, Error> {
         reader.read_signed_var(bits.bits())
+    }
+
+    fn write<B: Width, W: BitWrite>(self, writer: &mut W) -> Result<(), Error> {
+        write_signed_fixed::<B, i16, W>(self, writer)
     }
 
     fn write_var<C: Count, W: BitWrite>(self, writer: &mut W, bits: C) -> Result<(), Error> {
@@ -108,8 +138,16 @@ impl Integer for i32 {
 
     ghost IsWidth = { λ n. (1 ≤ n) × (n ≤ 32) };
 
+    fn read<B: Width, R: BitRead>(reader: &mut R) -> Result<i32, Error> {
+        reader.read_signed::<B, i32>()
+    }
+
     fn read_var<C: Count, R: BitRead>(reader: &mut R, bits: C) -> Result<i32, Error> {
         reader.read_signed_var(bits.bits())
+    }
+
+    fn write<B: Width, W: BitWrite>(self, writer: &mut W) -> Result<(), Error> {
+        write_signed_fixed::<B, i32, W>(self, writer)
     }
 
     fn write_var<C: Count, W: BitWrite>(self, writer: &mut W, bits: C) -> Result<(), Error> {
@@ -140,8 +178,16 @@ impl Integer for i64 {
 
     ghost IsWidth = { λ n. (1 ≤ n) × (n ≤ 64) };
 
+    fn read<B: Width, R: BitRead>(reader: &mut R) -> Result<i64, Error> {
+        reader.read_signed::<B, i64>()
+    }
+
     fn read_var<C: Count, R: BitRead>(reader: &mut R, bits: C) -> Result<i64, Error> {
         reader.read_signed_var(bits.bits())
+    }
+
+    fn write<B: Width, W: BitWrite>(self, writer: &mut W) -> Result<(), Error> {
+        write_signed_fixed::<B, i64, W>(self, writer)
     }
 
     fn write_var<C: Count, W: BitWrite>(self, writer: &mut W, bits: C) -> Result<(), Error> {
@@ -172,8 +218,16 @@ impl Integer for i128 {
 
     ghost IsWidth = { λ n. (1 ≤ n) × (n ≤ 128) };
 
+    fn read<B: Width, R: BitRead>(reader: &mut R) -> Result<i128, Error> {
+        reader.read_signed::<B, i128>()
+    }
+
     fn read_var<C: Count, R: BitRead>(reader: &mut R, bits: C) -> Result<i128, Error> {
         reader.read_signed_var(bits.bits())
+    }
+
+    fn write<B: Width, W: BitWrite>(self, writer: &mut W) -> Result<(), Error> {
+        write_signed_fixed::<B, i128, W>(self, writer)
     }
 
     fn write_var<C: Count, W: BitWrite>(self, writer: &mut W, bits: C) -> Result<(), Error> {

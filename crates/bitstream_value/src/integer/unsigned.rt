@@ -11,7 +11,7 @@ use bitstream_number::number::{UnsignedInteger, Width};
 use bitstream_stream::read::BitRead;
 use bitstream_stream::write::BitWrite;
 
-/// Writes a number in so many bits, by one call.
+/// Writes a number in the given number of bits, by one call.
 pub(crate) fn write_number<U: UnsignedInteger, C: Count, W: BitWrite>(
     number: U,
     writer: &mut W,
@@ -24,7 +24,20 @@ pub(crate) fn write_number<U: UnsignedInteger, C: Count, W: BitWrite>(
     writer.write_unsigned_counted(bits, number)
 }
 
-/// Writes a number in groups of as many bits as F says, by one call.
+/// Writes a number in `B::BITS` bits, by one call.
+pub(crate) fn write_number_fixed<B: Width, U: UnsignedInteger, W: BitWrite>(
+    number: U,
+    writer: &mut W,
+) -> Result<(), Error>
+    requires { B.BITS ≤ U.BITS_SIZE }
+    ensures writes { WritesAll W.sink
+        (unsigned W.sink.order U.BITS_SIZE B.BITS (U.value number) ∷ [])
+        writer.old result writer.new }
+{
+    writer.write_unsigned::<B, U>(number)
+}
+
+/// Writes a number in groups of `F::BITS` bits, by one call.
 pub(crate) fn write_number_vbr<F: Width, U: UnsignedInteger, W: BitWrite>(
     number: U,
     writer: &mut W,
@@ -44,8 +57,16 @@ impl Integer for u8 {
 
     ghost IsWidth = { λ n. n ≤ 8 };
 
+    fn read<B: Width, R: BitRead>(reader: &mut R) -> Result<u8, Error> {
+        reader.read_unsigned::<B, u8>()
+    }
+
     fn read_var<C: Count, R: BitRead>(reader: &mut R, bits: C) -> Result<u8, Error> {
         reader.read_unsigned_counted(bits)
+    }
+
+    fn write<B: Width, W: BitWrite>(self, writer: &mut W) -> Result<(), Error> {
+        write_number_fixed::<B, u8, W>(self, writer)
     }
 
     fn write_var<C: Count, W: BitWrite>(self, writer: &mut W, bits: C) -> Result<(), Error> {
@@ -76,8 +97,16 @@ impl Integer for u16 {
 
     ghost IsWidth = { λ n. n ≤ 16 };
 
+    fn read<B: Width, R: BitRead>(reader: &mut R) -> Result<u16, Error> {
+        reader.read_unsigned::<B, u16>()
+    }
+
     fn read_var<C: Count, R: BitRead>(reader: &mut R, bits: C) -> Result<u16, Error> {
         reader.read_unsigned_counted(bits)
+    }
+
+    fn write<B: Width, W: BitWrite>(self, writer: &mut W) -> Result<(), Error> {
+        write_number_fixed::<B, u16, W>(self, writer)
     }
 
     fn write_var<C: Count, W: BitWrite>(self, writer: &mut W, bits: C) -> Result<(), Error> {
@@ -108,8 +137,16 @@ impl Integer for u32 {
 
     ghost IsWidth = { λ n. n ≤ 32 };
 
+    fn read<B: Width, R: BitRead>(reader: &mut R) -> Result<u32, Error> {
+        reader.read_unsigned::<B, u32>()
+    }
+
     fn read_var<C: Count, R: BitRead>(reader: &mut R, bits: C) -> Result<u32, Error> {
         reader.read_unsigned_counted(bits)
+    }
+
+    fn write<B: Width, W: BitWrite>(self, writer: &mut W) -> Result<(), Error> {
+        write_number_fixed::<B, u32, W>(self, writer)
     }
 
     fn write_var<C: Count, W: BitWrite>(self, writer: &mut W, bits: C) -> Result<(), Error> {
@@ -140,8 +177,16 @@ impl Integer for u64 {
 
     ghost IsWidth = { λ n. n ≤ 64 };
 
+    fn read<B: Width, R: BitRead>(reader: &mut R) -> Result<u64, Error> {
+        reader.read_unsigned::<B, u64>()
+    }
+
     fn read_var<C: Count, R: BitRead>(reader: &mut R, bits: C) -> Result<u64, Error> {
         reader.read_unsigned_counted(bits)
+    }
+
+    fn write<B: Width, W: BitWrite>(self, writer: &mut W) -> Result<(), Error> {
+        write_number_fixed::<B, u64, W>(self, writer)
     }
 
     fn write_var<C: Count, W: BitWrite>(self, writer: &mut W, bits: C) -> Result<(), Error> {
@@ -172,8 +217,16 @@ impl Integer for u128 {
 
     ghost IsWidth = { λ n. n ≤ 128 };
 
+    fn read<B: Width, R: BitRead>(reader: &mut R) -> Result<u128, Error> {
+        reader.read_unsigned::<B, u128>()
+    }
+
     fn read_var<C: Count, R: BitRead>(reader: &mut R, bits: C) -> Result<u128, Error> {
         reader.read_unsigned_counted(bits)
+    }
+
+    fn write<B: Width, W: BitWrite>(self, writer: &mut W) -> Result<(), Error> {
+        write_number_fixed::<B, u128, W>(self, writer)
     }
 
     fn write_var<C: Count, W: BitWrite>(self, writer: &mut W, bits: C) -> Result<(), Error> {

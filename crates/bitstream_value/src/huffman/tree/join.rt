@@ -10,7 +10,7 @@ use std::alloc::{AllocError, Allocator};
 ///
 /// # Errors
 ///
-/// Memory was refused, and both trees are dropped.
+/// If memory is refused. Both trees are dropped then.
 pub(super) fn joined<S: Copy, A: Allocator>(
     first: HuffmanTree<S, A>,
     second: HuffmanTree<S, A>,

@@ -1,7 +1,7 @@
 use Rattle.std.proofs.Common.{Err, ap, ◌∙◌, arith, length-set}
 use Rattle.std.proofs.lemmas.List.{length-replicate}
 use Rattle.std.proofs.lemmas.Result.{err_from_is_err_and}
-use Rattle.bitstream_value.proofs.ItemLemmas.{items-start, items-put, items-stop, items-all}
+use Rattle.bitstream_value.proofs.ArrayLemmas.{items-start, items-put, items-stop, items-all}
 use Rattle.bitstream_value.proofs.integer.array.ArrayVBRInteger.read_vbr.Goals as goal
 
 pub loop-i-init : goal.loop-i-init

@@ -1,5 +1,5 @@
 use Rattle.std.proofs.Common.{arith}
-use Rattle.bitstream_value.proofs.TruthLemmas.{truth-bit, truth-refused}
+use Rattle.bitstream_value.proofs.BooleanLemmas.{truth-bit, truth-refused}
 use Rattle.bitstream_value.proofs.integer.boolean.BoolInteger.read_var.Goals as goal
 
 pub returns-then-bits-eq1 : goal.returns-then-bits-eq1

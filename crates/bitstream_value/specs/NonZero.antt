@@ -1,4 +1,4 @@
--- Numbers that are not 0, and the numbers that stand for them.
+-- Values of `NonZero` types, and the numbers that stand for them.
 use Rattle.std.specs.Coded.{le_prop}
 use Rattle.std.specs.Prelude.{◌≡◌, ℕ, zero, suc, ◌-◌, ◌^◌, ◌<◌, nat_lt, if◌then◌else◌, Option, Some, None, Err}
 use Rattle.std.proofs.Common.{ap, subst}
@@ -8,34 +8,34 @@ use Rattle.bitstream_number.specs.Word.{Order}
 use Rattle.bitstream_stream.specs.ReadTable.{unsigned_entry, vbr_entry}
 use Rattle.bitstream_stream.specs.WriteTable.{unsigned}
 
--- a number v that is not 0, of a type of `size` bits, stands as v - 1; `after` gives the value of v + 1
+-- a `NonZero` v, of a type of `size` bits, is read as v - 1; `after` gives the value of v + 1
 unfoldable pub non_zero_entry : {A : Type 0} → (ℕ → A) → Order → ℕ → ℕ → ReadEntry A
 non_zero_entry after o size n =
     if nat_lt n size then chain (unsigned_entry o size n) (λ v. gives (after v)) else refuses NonZeroWidth
 
--- the word of a number v that is not 0: that of v - 1
+-- the word of a `NonZero` v: that of v - 1
 unfoldable pub non_zero : Order → ℕ → ℕ → ℕ → WriteEntry
 non_zero o size n v = if nat_lt n size then unsigned o size n (v - 1) else λ _. Err NonZeroWidth
 
--- so in groups of `field` bits: the greatest number of the type has none after it
+-- the same in groups of `field` bits; the greatest number of the type has no value after it
 unfoldable pub non_zero_vbr_entry : {A : Type 0} → (ℕ → A) → Order → ℕ → ℕ → ReadEntry A
 non_zero_vbr_entry after o field size = chain (vbr_entry o field size (2 ^ size - 1)) (λ v. gives (after v))
 
--- 0 stands for none; `after` gives the value of v + 1
+-- `None` for 0, else the value of a number; `after` gives the value of v + 1
 abbrev pub if_any : {A : Type 0} → (ℕ → A) → ℕ → Option A
 if_any after zero = None
 if_any after (suc v) = Some (after v)
 
--- the number of a value, 0 for none
+-- the number of a value, 0 for `None`
 abbrev pub number_or_zero : {A : Type 0} → (A → ℕ) → Option A → ℕ
 number_or_zero number None = 0
 number_or_zero number (Some x) = number x
 
--- a number that may be 0, of a type of `size` bits; `after` gives the value of v + 1, and 0 is `None`
+-- an `Option` of a `NonZero`, of a type of `size` bits; `after` gives the value of v + 1, and 0 is `None`
 unfoldable pub option_entry : {A : Type 0} → (ℕ → A) → Order → ℕ → ℕ → ReadEntry (Option A)
 option_entry after o size n = chain (unsigned_entry o size n) (λ v. gives (if_any after v))
 
--- such a number in groups of `field` bits
+-- the same in groups of `field` bits
 unfoldable pub option_vbr_entry : {A : Type 0} → (ℕ → A) → Order → ℕ → ℕ → ReadEntry (Option A)
 option_vbr_entry after o field size = chain (vbr_entry o field size (2 ^ size)) (λ v. gives (if_any after v))
 

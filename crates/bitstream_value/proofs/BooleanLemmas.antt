@@ -8,7 +8,7 @@ use Rattle.bitstream_stream.specs.ReadTable.{bit_entry}
 use Rattle.bitstream_stream.specs.Reads.{BitSource, Reads}
 use Rattle.bitstream_stream.specs.Sink.{Sink, Writes}
 use Rattle.bitstream_stream.specs.WriteTable.{bit}
-use Rattle.bitstream_value.specs.Truths.{truth_entry, truth}
+use Rattle.bitstream_value.specs.Boolean.{truth_entry, truth}
 
 module _ {R : Type 0} {K : BitSource R} where
   pub truth-bit : (n : ℕ) {r : Result Bool Error} {s t : R} → n ≡ 1 → Reads K bit_entry s r t → Reads K (truth_entry n) s r t

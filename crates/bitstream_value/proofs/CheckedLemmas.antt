@@ -1,0 +1,113 @@
+-- Checked values.
+use Rattle.std.specs.Prelude.{ℤ, pos, Bool}
+use Rattle.std.proofs.Common.{◌≡◌, ℕ, ◌-◌, ◌^◌, ◌<◌, ◌≤◌, List, [], ◌++◌, length, Result, Ok, Err, refl, sym, ap, ◌∙◌, subst, arith, inl, inr}
+use Rattle.std.specs.Result.{IsErrAnd}
+use Rattle.std.proofs.lemmas.Bool.{cases_lt, lt-ltb, le-ltb, lt-leb, ne_eqb}
+use Rattle.bitstream_count.specs.Checks.{HoldsUnsigned, HoldsSigned}
+use Rattle.bitstream_count.specs.declared.error.Error.{Error}
+use Rattle.bitstream_count.specs.declared.error.Error.TheVariants.{Failed, NoSignBit, ReadBits}
+use Rattle.bitstream_count.specs.Entry.{Takes, word_front, gives}
+use Rattle.bitstream_number.specs.Word.{Order, word, number, signed_word, signed_number, signed_from, FitsSignedBits}
+use Rattle.bitstream_number.proofs.WordLemmas.{number-lt, half}
+use Rattle.bitstream_stream.specs.ReadTable.{unsigned_entry, signed_entry}
+use Rattle.bitstream_order.specs.Gather.{seen}
+use Rattle.bitstream_stream.specs.Reads.{BitSource, Reads, ReadDone}
+use Rattle.bitstream_stream.specs.Sink.{Sink, Writes}
+use Rattle.bitstream_stream.specs.WriteTable.{plain, unsigned, signed}
+use Rattle.bitstream_stream.proofs.EntryLemmas.{split, word_front-some, word_front-none}
+use Rattle.bitstream_stream.proofs.ReadsLemmas.{Reads-chain-ok, Reads-gives, exit, ok_front}
+use Rattle.bitstream_stream.proofs.SignedLemmas.{unsigned-within, unsigned-below, seen_is}
+use Rattle.bitstream_stream.proofs.SinkLemmas.{restate}
+use Rattle.bitstream_stream.proofs.TableLemmas.{signed-none}
+use Rattle.bitstream_stream.proofs.WriteLemmas.{unsigned-fits, signed-accepts}
+use Rattle.bitstream_value.specs.Checked.{checked_entry, signed_checked_entry}
+use Rattle.bitstream_value.proofs.BackLemmas.{signed-word}
+
+-- ---- a number that was read fits its width
+
+signed_from-fits : (n k : ℕ) → 0 < n → k < 2 ^ n → FitsSignedBits n (signed_from n k)
+signed_from-fits n k some below = elim (cases_lt k (2 ^ (n - 1))) [
+  | inl less ↦ rw (lt-ltb k (2 ^ (n - 1)) less) less
+  | inr more ↦ rw (le-ltb k (2 ^ (n - 1)) more) (omega (arith, half n some, below, more))
+]
+
+-- a word of n bits that was read, as a two's complement
+front-fits : (o : Order) (n k : ℕ) (w : List Bool) (x : ℤ) → 0 < n → word_front n (λ v. Ok (signed_number o v)) w ≡ Takes k (Ok x) → FitsSignedBits n x
+front-fits o n k w x some is = elim (split n w) [
+  | inl short ↦ let none = word_front-none n (λ v. Ok (signed_number o v)) w short in cc
+  | inr cut ↦
+      let found : Takes n (Ok (signed_number o cut.word)) ≡ Takes k (Ok x) =
+      sym (word_front-some n (λ v. Ok (signed_number o v)) cut.word cut.rest cut.len) ∙ ap (word_front n (λ v. Ok (signed_number o v))) (sym cut.parts) ∙ is in
+      let same : signed_number o cut.word ≡ x = cc in
+      let below : number o cut.word < 2 ^ n = subst (λ m. number o cut.word < 2 ^ m) cut.len (number-lt o cut.word) in
+      subst (FitsSignedBits n) (ap (λ m. signed_from m (number o cut.word)) (sym cut.len) ∙ same) (signed_from-fits n (number o cut.word) some below)
+]
+
+signed-wide : (o : Order) (size n p : ℕ) (w : List Bool) → size < n → (signed_entry o size n).reads p w ≡ Takes 0 (Err ReadBits)
+unfolding signed_entry
+signed-wide o size n p w wide = rw (ne_eqb n 0 (λ e. omega (arith, e, wide)), lt-leb n size wide) refl
+
+signed-on_failed : (o : Order) (size n : ℕ) → (signed_entry o size n).on_failed ≡ Err Failed
+unfolding signed_entry
+signed-on_failed o size n = refl
+
+module _ {R : Type 0} {K : BitSource R} (o : Order) (size n : ℕ) {s t : R} where
+  pub unsigned-holds : {v : ℕ} → Reads K (unsigned_entry o size n) s (Ok v) t → HoldsUnsigned size n v
+  unsigned-holds {v} h = (unsigned-within o size n v h, unsigned-below o size n v h)
+
+  front : {x : ℤ} → Reads K (signed_entry o size n) s (Ok x) t → ReadDone K.order (signed_entry o size n) (K.state s) (Ok x) (K.state t)
+  front h = ok_front (signed-on_failed o size n) h
+
+  signed-some : {x : ℤ} → Reads K (signed_entry o size n) s (Ok x) t → 0 < n
+  signed-some {x} h = elim (cases_lt 0 n) [
+    | inl some ↦ some
+    | inr none ↦
+        let d = front h in
+        let e : 0 ≡ n = omega arith in
+        let bare : Takes 0 (Err NoSignBit) ≡ (signed_entry o size n).reads (K.state s).taken (d.word ++ []) = subst (λ m. Takes 0 (Err NoSignBit) ≡ (signed_entry o size m).reads (K.state s).taken (d.word ++ [])) e ((signed-none o size).reads (K.state s).taken (d.word ++ [])) in
+        let found = d.decides [] in
+        cc
+  ]
+
+  signed-within : {x : ℤ} → Reads K (signed_entry o size n) s (Ok x) t → n ≤ size
+  signed-within {x} h = elim (cases_lt size n) [
+    | inl wide ↦ let d = front h in let refused = signed-wide o size n (K.state s).taken (d.word ++ []) wide in let found = d.decides [] in cc
+    | inr le ↦ le
+  ]
+
+  pub signed-holds : {x : ℤ} → Reads K (signed_entry o size n) s (Ok x) t → HoldsSigned size n x
+  signed-holds {x} h =
+      let some = signed-some h in
+      let le = signed-within h in
+      let d = front h in
+      (le, front-fits o n (length d.word) (d.word ++ []) x some (sym ((signed-word o size n some le).reads (K.state s).taken (d.word ++ [])) ∙ d.decides []))
+
+-- ---- reads
+
+module _ {A C : Type 0} (counted : A → C × ℤ) (count : C) {R : Type 0} {K : BitSource R} (o : Order) (size n : ℕ) {s t : R} where
+  pub checked-stops : {x : Error} (r : Result A Error) → IsErrAnd r (λ y. y ≡ x) → Reads K (unsigned_entry o size n) s (Err x) t → Reads K (checked_entry count o size n) s (seen counted r) t
+  unfolding checked_entry
+  checked-stops {x} r h k = exit (λ v. gives (count, pos v)) (seen counted r) (seen_is x counted r h) k
+
+  pub signed_checked-stops : {x : Error} (r : Result A Error) → IsErrAnd r (λ y. y ≡ x) → Reads K (signed_entry o size n) s (Err x) t → Reads K (signed_checked_entry count o size n) s (seen counted r) t
+  unfolding signed_checked_entry
+  signed_checked-stops {x} r h k = exit (λ v. gives (count, v)) (seen counted r) (seen_is x counted r h) k
+
+module _ {C : Type 0} (count : C) {R : Type 0} {K : BitSource R} (o : Order) (size n : ℕ) {d : C} {z : ℤ} {s t : R} where
+  pub checked-was_done : {v : ℕ} → d ≡ count → z ≡ pos v → Reads K (unsigned_entry o size n) s (Ok v) t → Reads K (checked_entry count o size n) s (Ok (d, z)) t
+  unfolding checked_entry
+  checked-was_done same is h = rw (same, is) (Reads-chain-ok _ (λ v. gives (count, pos v)) h (Reads-gives _ t))
+
+  pub signed_checked-was_done : {x : ℤ} → d ≡ count → z ≡ x → Reads K (signed_entry o size n) s (Ok x) t → Reads K (signed_checked_entry count o size n) s (Ok (d, z)) t
+  unfolding signed_checked_entry
+  signed_checked-was_done same is h = rw (same, is) (Reads-chain-ok _ (λ v. gives (count, v)) h (Reads-gives _ t))
+
+-- ---- writes
+
+-- a value that its count holds is its word
+module _ {S T : Type 0} (K : Sink S) (o : Order) (size : ℕ) {m k n : ℕ} {r : Result T Error} {s t : S} where
+  pub writes-held : {u v : ℕ} → m ≡ k → k ≡ n → u ≡ v → HoldsUnsigned size k u → Writes K (unsigned o size m u) s r t → Writes K (plain (word o n v)) s r t
+  writes-held {u} p q is holds h = rw (← q, ← is) (restate K _ _ _ _ _ (unsigned-fits o size k u (K.len s) holds.0 holds.1) (rw p at h))
+
+  pub writes-held_signed : {x y : ℤ} → 1 ≤ m → m ≡ k → k ≡ n → x ≡ y → HoldsSigned size k x → Writes K (signed o size m x) s r t → Writes K (plain (signed_word o n y)) s r t
+  writes-held_signed {x} some p q is holds h = rw (← q, ← is) (restate K _ _ _ _ _ (signed-accepts o size k x (K.len s) (omega (arith, some, p)) holds) (rw p at h))

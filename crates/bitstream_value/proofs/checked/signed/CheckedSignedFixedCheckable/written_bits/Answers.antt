@@ -1,0 +1,6 @@
+use Rattle.std.proofs.Common.{sym}
+use Rattle.bitstream_number.proofs.WordLemmas.{length-word}
+use Rattle.bitstream_value.proofs.checked.signed.CheckedSignedFixedCheckable.written_bits.Goals as goal
+
+pub returns : goal.returns
+returns g c = record { bits = λ o. sym (length-word o _ _) }

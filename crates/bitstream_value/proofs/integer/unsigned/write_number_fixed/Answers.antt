@@ -1,0 +1,5 @@
+use Rattle.bitstream_stream.proofs.WriteParts.{all_one}
+use Rattle.bitstream_value.proofs.integer.unsigned.write_number_fixed.Goals as goal
+
+pub returns : goal.returns
+returns g c = record { writes = all_one g.W.BitWrite.sink _ _ _ _ c.write_unsigned.ensures.writes }

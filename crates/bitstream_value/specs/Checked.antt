@@ -1,0 +1,13 @@
+-- Checked values: numbers that are kept with a count of bits.
+use Rattle.std.specs.Prelude.{ℕ, ℤ, pos}
+use Rattle.bitstream_count.specs.Entry.{ReadEntry, chain, gives}
+use Rattle.bitstream_number.specs.Word.{Order}
+use Rattle.bitstream_stream.specs.ReadTable.{unsigned_entry, signed_entry}
+
+-- an unsigned number of n bits, read into a type of `size` bits: the answer is the given count, and the number
+unfoldable pub checked_entry : {C : Type 0} → C → Order → ℕ → ℕ → ReadEntry (C × ℤ)
+checked_entry count o size n = chain (unsigned_entry o size n) (λ v. gives (count, pos v))
+
+-- a signed number of n bits, read into a type of `size` bits: the answer is the given count, and the number
+unfoldable pub signed_checked_entry : {C : Type 0} → C → Order → ℕ → ℕ → ReadEntry (C × ℤ)
+signed_checked_entry count o size n = chain (signed_entry o size n) (λ x. gives (count, x))

@@ -1,0 +1,79 @@
+//! Checked values, read and written.
+ghost use Rattle.std.specs.Prelude.{◌≡◌, ℤ, Bool, List, length};
+ghost use Rattle.bitstream_count.specs.Entry.{ReadEntry};
+ghost use Rattle.bitstream_number.specs.Word.{Order};
+ghost use Rattle.bitstream_order.specs.Gather.{seen};
+ghost use Rattle.bitstream_stream.specs.Reads.{Reads};
+ghost use Rattle.bitstream_stream.specs.Sink.{Writes};
+ghost use Rattle.bitstream_stream.specs.WriteTable.{plain};
+
+mod sealed;
+mod signed;
+mod unsigned;
+
+use crate::checked::sealed::Sealed;
+use bitstream_count::error::Error;
+use bitstream_stream::read::BitRead;
+use bitstream_stream::write::BitWrite;
+
+/// A checked value: it is kept with a count of bits that holds it, so that a write of it is never
+/// rejected. Only [`Checked`](bitstream_count::count::Checked) with each of the four types of
+/// counts implements it.
+///
+/// # Errors
+///
+/// Those of the reader ([`BitRead`]) and of the sink ([`BitWrite`]). The calls below name only the
+/// errors of their own.
+///
+/// # Examples
+///
+/// ```
+/// use bitstream_io::{BE, BitCount, BitReadExt, BitReader, BitWriteExt, BitWriter};
+/// use bitstream_io::{Checkable, CheckedUnsigned};
+///
+/// let mut reader = BitReader::<_, BE>::new([0xb7].as_slice());
+/// let level: CheckedUnsigned<8, u8> = reader.read_checked(BitCount::new::<4>())?;
+/// assert_eq!(rt; (level.written_bits(), level.into_value()), (4, 11));
+/// let mut bytes = Vec::new(rt.alloc());
+/// let mut writer = BitWriter::<_, BE>::new(&mut bytes);
+/// writer.write_checked(level)?;
+/// writer.write_checked(level)?;
+/// assert_eq!(rt; bytes.as_slice(), [0xbb].as_slice());
+/// ```
+pub trait Checkable: Sealed + Copy {
+    // The word of a value, in either order.
+    ghost word: { Order → Self → List Bool };
+
+    /// Writes the value in as many bits as its count says.
+    fn write<W: BitWrite>(&self, writer: &mut W) -> Result<(), Error>
+        ensures writes { Writes W.sink (plain (word W.sink.order self.now))
+            writer.old result writer.new };
+
+    /// Returns how many bits a write of the value takes.
+    fn written_bits(&self) -> u32
+        ensures bits { (o : Order) → result ≡ length (word o self.now) };
+}
+
+/// A checked value that is read: a number of as many bits as a count says, which is kept with it.
+///
+/// # Errors
+///
+/// As of [`Checkable`].
+pub trait CheckablePrimitive: Checkable {
+    /// The type of the count.
+    type CountType;
+
+    // The count and the number of a value, and the read entry of both at a count, in either order.
+    ghost counted: { Self → Self.CountType × ℤ };
+
+    ghost reads: { Order → Self.CountType → ReadEntry (Self.CountType × ℤ) };
+
+    /// Reads a number of as many bits as the count says, and returns it with the count.
+    ///
+    /// # Errors
+    ///
+    /// `ReadBits` if the type has fewer bits. Nothing is taken then.
+    fn read<R: BitRead>(reader: &mut R, count: Self::CountType) -> Result<Self, Error>
+        ensures reads { Reads R.source (reads R.source.order count)
+            reader.old (seen counted result) reader.new };
+}

@@ -1,0 +1,72 @@
+//! Checked values of unsigned types.
+ghost use Rattle.std.specs.Prelude.{pos};
+ghost use Rattle.bitstream_number.specs.Word.{word as word_of};
+ghost use Rattle.bitstream_value.specs.Checked.{checked_entry};
+
+use crate::checked::{Checkable, CheckablePrimitive};
+use bitstream_count::count::{
+    BitCount, Checked, CheckedUnsigned, CheckedUnsignedFixed, Count, FixedBitCount,
+};
+use bitstream_count::error::Error;
+use bitstream_number::number::UnsignedInteger;
+use bitstream_stream::read::BitRead;
+use bitstream_stream::write::BitWrite;
+
+impl<const MAX: u32, U: UnsignedInteger> Checkable for CheckedUnsigned<MAX, U> {
+    ghost word = { λ o c. word_of o c.0 (U.value c.1) };
+
+    fn write<W: BitWrite>(&self, writer: &mut W) -> Result<(), Error> {
+        let (count, value) = self.into_count_value();
+        writer.write_unsigned_counted(count, value)
+    }
+
+    fn written_bits(&self) -> u32 {
+        let (count, _) = self.into_count_value();
+        count.bits()
+    }
+}
+
+impl<const MAX: u32, U: UnsignedInteger> CheckablePrimitive for CheckedUnsigned<MAX, U> {
+    type CountType = BitCount<MAX>;
+
+    ghost counted = { λ c. (c.0, pos (U.value c.1)) };
+
+    ghost reads = { λ o n. checked_entry n o U.BITS_SIZE n };
+
+    fn read<R: BitRead>(
+        reader: &mut R,
+        count: BitCount<MAX>,
+    ) -> Result<CheckedUnsigned<MAX, U>, Error> {
+        let value = reader.read_unsigned_counted(count)?;
+        Ok(Checked::of(count, value))
+    }
+}
+
+impl<const BITS: u32, U: UnsignedInteger> Checkable for CheckedUnsignedFixed<BITS, U> {
+    ghost word = { λ o c. word_of o BITS (U.value c.1) };
+
+    fn write<W: BitWrite>(&self, writer: &mut W) -> Result<(), Error> {
+        let (count, value) = self.into_count_value();
+        writer.write_unsigned_counted(BitCount::from(count), value)
+    }
+
+    fn written_bits(&self) -> u32 {
+        BITS
+    }
+}
+
+impl<const BITS: u32, U: UnsignedInteger> CheckablePrimitive for CheckedUnsignedFixed<BITS, U> {
+    type CountType = FixedBitCount<BITS>;
+
+    ghost counted = { λ c. (c.0, pos (U.value c.1)) };
+
+    ghost reads = { λ o count. checked_entry count o U.BITS_SIZE BITS };
+
+    fn read<R: BitRead>(
+        reader: &mut R,
+        count: FixedBitCount<BITS>,
+    ) -> Result<CheckedUnsignedFixed<BITS, U>, Error> {
+        let value = reader.read_unsigned_counted(BitCount::from(count))?;
+        Ok(Checked::of(count, value))
+    }
+}
