@@ -1,3 +1,6 @@
+pub mod RunLemmas
+mod ReadScriptLemmas
+mod ScriptLemmas
 pub use Rattle.bitstream_number.proofs.SignedLemmas
 pub use Rattle.bitstream_number.proofs.WordLemmas
 pub use Rattle.bitstream_order.proofs.FaultLemmas

@@ -7,7 +7,7 @@ use Rattle.std.specs.declared.num.NonZeroU64.{NonZeroU64}
 use Rattle.std.specs.declared.num.NonZeroU128.{NonZeroU128}
 use Rattle.bitstream_count.specs.Entry.{ReadEntry}
 use Rattle.bitstream_number.specs.Word.{Order}
-use Rattle.bitstream_value.specs.NonZeros.{non_zero_entry}
+use Rattle.bitstream_value.specs.NonZero.{non_zero_entry}
 use Rattle.bitstream_value.specs.contracts.integer.non_zero.NonZeroU8NonZeroInteger.TheImpl as u8s
 use Rattle.bitstream_value.specs.contracts.integer.non_zero.NonZeroU16NonZeroInteger.TheImpl as u16s
 use Rattle.bitstream_value.specs.contracts.integer.non_zero.NonZeroU32NonZeroInteger.TheImpl as u32s

@@ -1,6 +1,6 @@
-//! Reading and writing values of any number of bits, in either order of bits.
+//! Reads and writes values of any number of bits, in either order of bits.
 //!
-//! The items stand in modules by their subject, and most again here.
+//! The items stand in modules by subject. Most stand here too.
 //!
 //! # Examples
 //!
@@ -16,33 +16,37 @@
 //! ```
 #![tactic(auto)]
 
-/// Why a call is refused.
+pub mod compat;
+pub mod script;
+
+/// The error of a call.
 pub mod error {
     pub use bitstream_count::error::Error;
 }
 
-/// Integer types as numbers, and numbers that types stand for.
+/// Integer types as numbers, and numbers of bits as types.
 pub mod number {
     pub use bitstream_number::number::{
         Bits, Buffer, Numeric, Primitive, SignedInteger, UnsignedInteger, Width,
     };
 }
 
-/// Numbers of bits, and values that are known to fit one.
+/// Counts of bits, and values that are known to fit one.
 pub mod count {
     pub use bitstream_count::count::{
         BitCount, Checked, CheckedError, CheckedSigned, CheckedSignedFixed, CheckedUnsigned,
         CheckedUnsignedFixed, Count, FixedBitCount, FixedSignedBitCount, Holds, LsbMask,
         SignedBitCount, SignedCount,
     };
+    pub use bitstream_value::checked::{Checkable, CheckablePrimitive};
 }
 
-/// Types whose values are words of bits.
+/// Types whose values are read and written as bits.
 pub mod integer {
     pub use bitstream_value::integer::{Integer, VBRInteger};
 }
 
-/// Prefix codes: symbols that stand as words of bits, none of which begins another.
+/// Prefix codes: each symbol is a word of bits, and no word is the beginning of another.
 pub mod huffman {
     pub use bitstream_value::huffman::{
         FromBits, HuffmanTree, LimitedUnary, NextBit, PutBit, ToBits,
@@ -60,6 +64,7 @@ pub mod read {
     pub use bitstream_order::seek::SeekSource;
     pub use bitstream_order::slice::Slice;
     pub use bitstream_order::source::Source;
+    pub use bitstream_stream::place::bit_place;
     pub use bitstream_stream::read::BitRead;
     pub use bitstream_stream::reader::BitReader;
     pub use bitstream_value::read::BitReadExt;
@@ -67,8 +72,14 @@ pub mod read {
 
 /// Writing bits.
 pub mod write {
+    pub use bitstream_order::growing::Growing;
     pub use bitstream_order::lent::Lent;
     pub use bitstream_order::target::Target;
+    pub use bitstream_sink::bit_counter::BitCounter;
+    pub use bitstream_sink::counter::{Counter, Overflowed};
+    pub use bitstream_sink::recorder::BitRecorder;
+    pub use bitstream_sink::recorder::best::Recorder;
+    pub use bitstream_sink::written::BitsWritten;
     pub use bitstream_stream::write::BitWrite;
     pub use bitstream_stream::writer::BitWriter;
     pub use bitstream_value::write::BitWriteExt;
@@ -82,8 +93,12 @@ pub mod bytes {
     pub use bitstream_stream::byte_writer::ByteWriter;
 }
 
-/// What is proved of the definitions alone: a function each, whose contract is the law.
+/// Laws of the definitions: one function each, whose contract is the law.
 pub mod laws {
+    pub use crate::script::laws::{
+        appending_composes, lists_of_reads_are_known, played_calls_are_direct_calls,
+        words_have_one_length, write_runs_join,
+    };
     pub use bitstream_count::laws::{
         counts_go_back, counts_hash_as_their_numbers, equal_counts_are_equal_numbers,
         equal_signed_counts_are_equal_numbers, fixed_counts_go_back, fixed_signed_counts_go_back,
@@ -97,6 +112,7 @@ pub mod laws {
         signed_bytes_go_back, signed_shifts_round_down, unsigned_bytes_go_back, values_go_back,
         words_hold_numbers, words_split, zigzags_go_back,
     };
+    pub use bitstream_sink::recorder::laws::{recorders_lack_memory, recordings_grow};
     pub use bitstream_stream::laws::{
         bytes_are_numbers, dropped_queues_are_alignments, ends_are_known, slices_end, words_join,
     };
@@ -104,14 +120,18 @@ pub mod laws {
 }
 
 pub use bytes::{ByteRead, ByteReader, ByteWrite, ByteWriter};
+pub use compat::{BitRead2, BitWrite2};
 pub use count::{
-    BitCount, Checked, CheckedError, CheckedSigned, CheckedSignedFixed, CheckedUnsigned,
-    CheckedUnsignedFixed, Count, FixedBitCount, FixedSignedBitCount, Holds, LsbMask,
-    SignedBitCount, SignedCount,
+    BitCount, Checkable, CheckablePrimitive, Checked, CheckedError, CheckedSigned,
+    CheckedSignedFixed, CheckedUnsigned, CheckedUnsignedFixed, Count, FixedBitCount,
+    FixedSignedBitCount, Holds, LsbMask, SignedBitCount, SignedCount,
 };
 pub use error::Error;
 pub use integer::{Integer, VBRInteger};
 pub use number::{Bits, Buffer, Numeric, Primitive, SignedInteger, UnsignedInteger, Width};
 pub use order::{BE, BigEndian, Endianness, LE, LittleEndian};
 pub use read::{BitRead, BitReadExt, BitReader, Lent, SeekSource, Slice, Source};
-pub use write::{BitWrite, BitWriteExt, BitWriter, Target};
+pub use write::{
+    BitCounter, BitRecorder, BitWrite, BitWriteExt, BitWriter, BitsWritten, Growing, Recorder,
+    Target,
+};

@@ -1,0 +1,7 @@
+//! The interfaces of earlier versions: the calls of today by their older names.
+
+mod read;
+mod write;
+
+pub use read::BitRead2;
+pub use write::BitWrite2;
