@@ -1,5 +1,5 @@
 -- One packed sample of a vehicle's telemetry.
-use Rattle.std.specs.Prelude.{Bool, List, [], ◌∷◌, ◌++◌}
+use Rattle.std.specs.Prelude.{Bool, List, [], ◌∷◌, ◌++◌, length}
 use Rattle.bitstream_io.specs.Entry.{WriteEntry}
 use Rattle.bitstream_io.specs.Run.{write_run}
 use Rattle.bitstream_io.specs.Word.{Order, High}
@@ -18,3 +18,9 @@ sample_writes o sample =
 -- the words of a sample, from the first bit on, and zeros up to a whole byte
 abbrev pub packed_bits : Sample → List Bool
 packed_bits sample = write_run (sample_writes High sample ++ align ∷ []) 0
+
+-- the number of bits that a sample takes, as one byte, the words of the sample, and zeros up to a whole byte
+abbrev pub framed_bits : Sample → List Bool
+framed_bits sample =
+    let size = length (write_run (sample_writes High sample) 0) in
+    write_run ((unsigned High 8 8 size ∷ sample_writes High sample) ++ align ∷ []) 0

@@ -37,7 +37,7 @@ impl Header {
     ///
     /// # Errors
     ///
-    /// As the reader has them; each leaves it failed.
+    /// Those of the reader. After each of them it has failed.
     pub fn read<R: BitRead>(reader: &mut R) -> Result<Header, Error>
         ensures { Reads R.source (header_entry R.source.order) reader.old result reader.new }
     {
@@ -53,8 +53,8 @@ impl Header {
     ///
     /// # Errors
     ///
-    /// `Checked` for a field that its bits do not hold: the fields before it are written then. Else as
-    /// the sink has them.
+    /// `Checked` for a field that does not fit its bits. The fields before it are written then.
+    /// Else those of the sink.
     pub fn write<W: BitWrite>(&self, writer: &mut W) -> Result<(), Error>
         ensures { WritesAll W.sink (header_writes W.sink.order self.now)
             writer.old result writer.new }
@@ -66,8 +66,8 @@ impl Header {
     }
 }
 
-/// What is written of a header that fits its bits is read back as this header, in either order of bits,
-/// wherever it stands: the read takes the bits that were written, and no more.
+/// A header that fits its bits is read back as it was written, in either order of bits, wherever it
+/// stands. The read takes the bits that were written, and no more.
 pub fn headers_go_back()
     ensures { (o : Order) (header : Header) (at from : ℕ) (more : List Bool) → Fits header
         → let word = write_run (header_writes o header) at in

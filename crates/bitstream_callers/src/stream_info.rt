@@ -8,16 +8,16 @@ ghost use Rattle.bitstream_callers.specs.StreamInfo.{stream_info, stream_info_en
 use bitstream_io::{BE, BitRead, BitReadExt, BitReader, Bits, Error, Slice};
 use std::num::NonZero;
 
-/// What a FLAC file says of its samples, but for the checksum.
+/// What a FLAC file says of its samples, without the checksum.
 #[derive(Clone, Copy, Debug, PartialEq)]
 pub struct StreamInfo {
     /// The fewest samples of a block, of each channel.
     pub minimum_block_size: u16,
     /// The most samples of a block, of each channel.
     pub maximum_block_size: u16,
-    /// The bytes of the smallest frame, or 0 where they are not known.
+    /// The bytes of the smallest frame, or 0 if they are not known.
     pub minimum_frame_size: u32,
-    /// The bytes of the largest frame, or 0 where they are not known.
+    /// The bytes of the largest frame, or 0 if they are not known.
     pub maximum_frame_size: u32,
     /// Samples a second, of each channel.
     pub sample_rate: u32,
@@ -25,11 +25,11 @@ pub struct StreamInfo {
     pub channels: NonZero<u8>,
     /// The bits of a sample.
     pub bits_per_sample: NonZero<u8>,
-    /// The samples of the file, of each channel, or 0 where they are not known.
+    /// The samples of the file, of each channel, or 0 if they are not known.
     pub total_samples: u64,
 }
 
-/// Returns the samples a second that a STREAMINFO block states.
+/// Returns the samples a second of a STREAMINFO block.
 ///
 /// # Errors
 ///
@@ -45,7 +45,7 @@ impl StreamInfo {
     ///
     /// # Errors
     ///
-    /// As the reader has them; each leaves it failed.
+    /// Those of the reader. After each of them it has failed.
     pub fn read<R: BitRead>(reader: &mut R) -> Result<StreamInfo, Error>
         ensures { Reads R.source (stream_info_entry R.source.order) reader.old result reader.new }
     {

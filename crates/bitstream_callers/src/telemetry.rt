@@ -1,10 +1,11 @@
 //! One packed sample of a vehicle's telemetry.
-ghost use Rattle.std.specs.Prelude.{◌≡◌, IfOk};
+ghost use Rattle.std.specs.Prelude.{◌≡◌, IfOk, length};
+ghost use Rattle.bitstream_io.specs.Run.{write_run};
 ghost use Rattle.bitstream_io.specs.Sink.{WritesAll};
 ghost use Rattle.bitstream_io.specs.Word.{High, bits};
-ghost use Rattle.bitstream_callers.specs.Telemetry.{packed_bits, sample_writes};
+ghost use Rattle.bitstream_callers.specs.Telemetry.{framed_bits, packed_bits, sample_writes};
 
-use bitstream_io::{BE, BitWrite, BitWriteExt, BitWriter, Bits, Error, Lent};
+use bitstream_io::{BE, BitWrite, BitWriteExt, BitWriter, Bits, BitsWritten, Error, Lent};
 use std::alloc::Global;
 
 /// What is measured at one time.
@@ -24,7 +25,7 @@ pub struct Sample {
 ///
 /// # Errors
 ///
-/// `Checked` for a number of 128 or more, `OutOfMemory`.
+/// `Checked` for a number of 128 or more, or `OutOfMemory`.
 pub fn heartbeat(alloc: Global, number: u8, well: bool) -> Result<Vec<u8>, Error> {
     let mut bytes = Vec::new(alloc);
     let mut writer = BitWriter::<_, BE>::new(&mut bytes);
@@ -38,8 +39,8 @@ impl Sample {
     ///
     /// # Errors
     ///
-    /// `Checked` for a field that its bits do not hold: the fields before it are written then. Else as
-    /// the sink has them.
+    /// `Checked` for a field that does not fit its bits. The fields before it are written then.
+    /// Else those of the sink.
     pub fn write<W: BitWrite>(&self, writer: &mut W) -> Result<(), Error>
         ensures { WritesAll W.sink (sample_writes W.sink.order self.now)
             writer.old result writer.new }
@@ -54,12 +55,44 @@ impl Sample {
     ///
     /// # Errors
     ///
-    /// `Checked` for a field that its bits do not hold, `OutOfMemory`.
+    /// `Checked` for a field that does not fit its bits, or `OutOfMemory`.
     pub fn pack(&self, alloc: Global) -> Result<Vec<u8>, Error>
         ensures { IfOk result (λ bytes. bits High bytes.items ≡ packed_bits self.now) }
     {
         let mut bytes = Vec::new(alloc);
         let mut writer = BitWriter::<_, BE>::new(Lent::new(&mut bytes));
+        self.write(&mut writer)?;
+        writer.byte_align()?;
+        Ok(bytes)
+    }
+
+    /// Returns the number of bits that a sample takes. Nothing is written for it.
+    ///
+    /// # Errors
+    ///
+    /// `Checked` for a field that its bits do not hold.
+    pub fn bits(&self) -> Result<u8, Error>
+        ensures { IfOk result
+            (λ bits. bits ≡ length (write_run (sample_writes High self.now) 0)) }
+    {
+        let mut counter = BitsWritten::<u8>::new();
+        self.write(&mut counter)?;
+        Ok(counter.into_written())
+    }
+
+    /// Returns the bytes of a frame: the number of bits that the sample takes, as one byte, and then
+    /// the sample.
+    ///
+    /// # Errors
+    ///
+    /// `Checked` for a field that its bits do not hold, `OutOfMemory`.
+    pub fn frame(&self, alloc: Global) -> Result<Vec<u8>, Error>
+        ensures { IfOk result (λ bytes. bits High bytes.items ≡ framed_bits self.now) }
+    {
+        let size = self.bits()?;
+        let mut bytes = Vec::new(alloc);
+        let mut writer = BitWriter::<_, BE>::new(Lent::new(&mut bytes));
+        writer.write::<Bits<8>, u8>(size)?;
         self.write(&mut writer)?;
         writer.byte_align()?;
         Ok(bytes)
