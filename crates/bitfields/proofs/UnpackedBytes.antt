@@ -5,7 +5,7 @@ use Rattle.std.specs.Io.KnownBytes.{Consumes}
 use Rattle.std.specs.declared.io.ErrorKind.{ErrorKind}
 use Rattle.std.proofs.Common.{◌≡◌, ℕ, ◌+◌, List, [], ◌∷◌, ◌++◌, length, Option, Some, Result, Ok, Err, refl, sym, ap, ◌∙◌, subst, arith, append_assoc, inl, inr}
 use Rattle.bitstream_io.specs.Word.{Order, bits}
-use Rattle.bitstream_io.specs.TakeBits.{seen}
+use Rattle.bitstream_io.specs.Gather.{seen}
 use Rattle.bitstream_io.specs.Fault.{read_refusal_of}
 use Rattle.bitstream_io.specs.Refusal.{Refusal, MayRefuse, TrueEnds}
 use Rattle.bitstream_io.proofs.WordLemmas.{bits-append}

@@ -13,7 +13,7 @@ use Rattle.bitfields.specs.Value.{values, value_and, value_in, value_count, some
 use Rattle.bitfields.specs.Fault.{fault}
 use Rattle.bitfields.specs.Layout.{IsUnlessMemory}
 use Rattle.bitfields.proofs.MemoryLemmas.{value_expected}
-use Rattle.bitstream_io.specs.TakeBits.{seen}
+use Rattle.bitstream_io.specs.Gather.{seen}
 use Rattle.bitfields.specs.declared.fault.Reason.TheVariants.{ValueMisspelt, ValueDoesNotFit, ValueLeftOver}
 
 pub below_parts : (d l : Bool) (v n : ℕ) → (let r : Result ℕ Reason = if d then (if l then Ok v else Err ValueDoesNotFit) else Err ValueMisspelt in r) ≡ Ok n → (d ≡ true) × (l ≡ true) × (v ≡ n)

@@ -21,7 +21,7 @@ decimal_within low high text =
     if is_decimal text && nat_le low (decimal_value text) && nat_le (decimal_value text) high
     then Some (decimal_value text) else None
 
--- the number below a limit that a text spells, or what is wrong with the text
+-- the number below a limit that a text spells, or the reason why it spells none
 abbrev pub decimal_below : ℕ → List ℕ → Result ℕ Reason
 decimal_below limit text =
     if is_decimal text

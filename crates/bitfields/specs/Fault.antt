@@ -22,7 +22,7 @@ reason_status LimitPassed = 4
 reason_status StreamFault = 5
 reason_status OutOfMemory = 5
 
--- the fault of field k (0 where none is named)
+-- the fault of field k (0 if none is named)
 abbrev pub fault : ℕ → Reason → Fault
 fault k why = record { status = reason_status why; field = k; reason = why }
 
@@ -31,7 +31,7 @@ abbrev pub refusal_reason : ErrorKind → Reason
 refusal_reason kinds.OutOfMemory = OutOfMemory
 refusal_reason kind = StreamFault
 
--- how a reason is printed
+-- the printed text of a reason
 abbrev pub reason_text : Reason → List ℕ
 reason_text BadArguments = codes "bad arguments"
 reason_text TooManyFields = codes "too many fields"

@@ -30,7 +30,7 @@ abbrev pub one_more : {A E : Type 0} → A → Result (List A) E → Result (Lis
 one_more x (Ok xs) = Ok (x ∷ xs)
 one_more x (Err e) = Err e
 
--- the field number k in front of the others, or the fault that its text spells none
+-- the field number k in front of the others, or the fault if its text spells none
 abbrev pub field_and : ℕ → Option Field → Result (List Field) Fault → Result (List Field) Fault
 field_and k None others = Err (fault k BadLayout)
 field_and k (Some f) others = one_more f others

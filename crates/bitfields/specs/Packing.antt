@@ -20,7 +20,7 @@ use Rattle.bitfields.specs.declared.field_value.FieldValue.TheVariants as Value
 use Rattle.bitfields.specs.Fault.{fault}
 use Rattle.bitfields.specs.Value.{value_count}
 
--- the write call of a field whose value is the first of these; of a value that is missing, no bit
+-- the write call of a field whose value is the first of these; no bits if the value is missing
 abbrev pub field_write : Order → Field → List FieldValue → WriteEntry
 field_write o (Unsigned n) [] = plain []
 field_write o (Unsigned n) (Value.Unsigned v ∷ vs) = unsigned o 128 n v
@@ -53,8 +53,8 @@ pub record PackedBytes (o : Order) (fields : List Field) (vs : List FieldValue) 
   pub grows : Appends old new bytes
   pub says : bits o bytes ≡ packed o fields vs 0
 
--- The stream refused a request to hand on bytes, as it may refuse, and there were bytes to hand on. Those that it took before are the
--- first of them, and it is as the refusal left it.
+-- The stream refused a request to send bytes, as it may refuse, and there were bytes to send. The bytes that it took
+-- before are the first of them, and it is as the refusal left it.
 pub record PackingRefused (may : Refusal → Type 0) (o : Order) (fields : List Field) (vs : List FieldValue) (old : Option (List ℕ)) (f : Fault) (new : Option (List ℕ)) : Type 0 where
   pub refusal : Refusal
   pub allowed : may refusal
@@ -66,8 +66,8 @@ pub record PackingRefused (may : Refusal → Type 0) (o : Order) (fields : List 
   pub begins : packed o fields vs 0 ≡ bits o bytes ++ rest
   pub after : new ≡ refusal.after
 
--- The values were packed, or the first fault of the input was answered and the stream left as it was. Else memory was refused, and the
--- stream left as it was, or the stream refused a request.
+-- The values were packed, or the first fault of the input was answered and the stream is as it was. Else memory was
+-- refused and the stream is as it was, or the stream refused a request.
 abbrev pub Packs : {W : Type 0} → (W → Option (List ℕ)) → (Refusal → Type 0) → Order → List Field → Result (List FieldValue) Fault → W → Result (Unit {0}) Fault → W → Type 0
 Packs contents may o fields (Ok vs) old (Ok done) new = PackedBytes o fields vs (contents old) (contents new)
 Packs contents may o fields (Ok vs) old (Err f) new = ((f ≡ fault 0 OutOfMemory) × (new ≡ old)) ⊎ PackingRefused may o fields vs (contents old) f (contents new)

@@ -93,15 +93,15 @@ Performs I O Unpack = UnpacksInput I O
 abbrev pub IsMemoryRefused : {R W : Type 0} → R → W → Result (Unit {0}) Fault → R → W → Type 0
 IsMemoryRefused input output result input_after output_after = (result ≡ Err (fault 0 OutOfMemory)) × (input_after ≡ input) × (output_after ≡ output)
 
--- The fields of a layout are packed or unpacked; or the layout's fault is answered, and no stream touched. Want of memory aside, which is
--- answered before a stream is touched.
+-- The fields of a layout are packed or unpacked. Or the layout has a fault, or memory was refused; that is answered,
+-- and no stream is touched.
 abbrev pub Follows : {R W : Type 0} → InputStream R → OutputStream W → Command → Order → Result (List Field) Fault → R → W → Result (Unit {0}) Fault → R → W → Type 0
 Follows I O command o (Ok fields) input output result input_after output_after =
     IsMemoryRefused input output result input_after output_after ⊎ Performs I O command o fields input output result input_after output_after
 Follows I O command o (Err f) input output result input_after output_after =
     IsUnlessMemory (Err f) result × (input_after ≡ input) × (output_after ≡ output)
 
--- what is asked for is done; where nothing is, that is answered, and no stream touched
+-- what is asked for is done; if nothing is, that is answered, and no stream is touched
 abbrev pub Calls : {R W : Type 0} → InputStream R → OutputStream W → Option Request → R → W → Result (Unit {0}) Fault → R → W → Type 0
 Calls I O (Some request) input output result input_after output_after =
     Follows I O request.command request.order (layout_of request.layout) input output result input_after output_after
@@ -113,7 +113,8 @@ abbrev pub status_of : Result (Unit {0}) Fault → ℕ
 status_of (Ok done) = 0
 status_of (Err f) = f.status
 
--- The one request for a fault's line was refused, as the stream for faults may refuse. It is as the refusal left it.
+-- The one request for a fault's line was refused, as the stream for faults may refuse. The stream is as the refusal
+-- left it.
 pub record RefusedLine {X : Type 0} (T : OutputStream X) (f : Fault) (faults faults_after : X) : Type 0 where
   pub kind : ErrorKind
   pub refused : T.refuses faults (length (fault_line f)) kind faults_after

@@ -1,4 +1,4 @@
--- What streams tell of themselves, and what a request of one that was refused leaves.
+-- What streams tell of themselves, and what a refused request of one leaves.
 use Rattle.std.specs.Prelude.{◌≡◌, ℕ, List, Option}
 use Rattle.std.specs.Io.KnownBytes.{Consumes, IsAtEnd, Keeps}
 use Rattle.std.specs.declared.io.ErrorKind.{ErrorKind}
@@ -36,7 +36,8 @@ pub record RefusedInput {R : Type 0} (I : InputStream R) (input : R) (f : Fault)
   pub refused : I.refuses_rest input kind input_after
   pub reason : f ≡ fault 0 (refusal_reason kind)
 
--- The output refused a request to write so many bytes (none: to flush), as it may refuse. It is as the refusal left it.
+-- The output refused a request to write the given number of bytes (none: to flush), as it may refuse. It is as the
+-- refusal left it.
 pub record RefusedOutput {W : Type 0} (O : OutputStream W) (output : W) (wanted : ℕ) (f : Fault) (output_after : W) : Type 0 where
   pub kind : ErrorKind
   pub refused : O.refuses output wanted kind output_after

@@ -41,7 +41,7 @@ abbrev pub field_read : Order → Field → ReadEntry (Option FieldValue)
 field_read o (Unsigned n) = chain (unsigned_entry o 128 n) (λ v. gives (Some (Value.Unsigned v)))
 field_read o Align = chain align_entry (λ _. gives None)
 
--- what the answers of the fields' read calls come to, where the fields are numbered from k on
+-- what the answers of the fields' read calls come to; the fields are numbered from k on
 abbrev pub answered : ℕ → List Field → ℕ → List (Result (Option FieldValue) Error × ℕ) → Unpacked
 answered k [] at answers = Unpacks [] at
 answered k (field ∷ fields) at [] = Stops (fault k BitsEnded)
@@ -59,7 +59,7 @@ abbrev pub behind : List FieldValue → Result (List FieldValue) Fault → Resul
 behind vs (Ok ws) = Ok (vs ++ ws)
 behind vs (Err f) = Err f
 
--- A field's value was read, and no memory was left for its line.
+-- A field's value was read, and memory for its line was refused.
 pub record MemoryRefused {R : Type 0} (K : BitSource R) (k : ℕ) (field : Field) (old : R) (result : Result (List FieldValue) Fault) (new : R) : Type 0 where
   pub value : FieldValue
   pub reads : Reads K (field_read K.order field) old (Ok (Some value)) new
@@ -71,8 +71,8 @@ pub record AnswersError {R : Type 0} (K : BitSource R) (k : ℕ) (field : Field)
   pub reads : Reads K (field_read K.order field) old (Err error) new
   pub answer : result ≡ Err (fault k (read_reason error))
 
--- The read calls of fields, which are numbered from k on, in order: the values that they answer, up to the first that answers an
--- error or for whose line no memory was left. Of no fields, nothing at all.
+-- The read calls of fields, which are numbered from k on, in order: the values that they answer, up to the first that
+-- answers an error or for whose line memory was refused. Of no fields, nothing at all.
 unfoldable pub ReadsFields : {R : Type 0} → BitSource R → ℕ → List Field → R → Result (List FieldValue) Fault → R → Type 0
 ReadsFields K k [] old result new = (result ≡ Ok []) × (new ≡ old)
 ReadsFields {R} K k (field ∷ fields) old result new =
@@ -113,7 +113,8 @@ pub record ToldBytes (o : Order) (fields : List Field) (old : Option (List ℕ))
   pub taken : TakesLeastBytes old gone len new
   pub says : (more : List Bool) → unpacked o 1 fields 0 (bits o gone ++ more) ≡ Stops f
 
--- No memory was left for the line of a field. The bytes taken hold that field's bits and those of the fields before it, and no more.
+-- Memory for the line of a field was refused. The bytes taken hold that field's bits and those of the fields before it,
+-- and no more.
 pub record MemoryRefusedBytes (o : Order) (fields : List Field) (old : Option (List ℕ)) (f : Fault) (new : Option (List ℕ)) : Type 0 where
   pub front : List Field
   pub here : Field
@@ -129,8 +130,8 @@ pub record MemoryRefusedBytes (o : Order) (fields : List Field) (old : Option (L
   pub value : FieldValue
   pub says : unpacked o 1 (front ++ here ∷ []) 0 (bits o gone) ≡ Unpacks (values ++ value ∷ []) len
 
--- The stream refused a request for a field, as it may refuse. The bytes taken until then end within that field, and the stream is as
--- the refusal left it; where that was a true end, all bytes of the stream end so.
+-- The stream refused a request for a field, as it may refuse. The bytes taken before end within that field, and the
+-- stream is as the refusal left it. If that was a true end, all bytes of the stream end within that field.
 pub record UnpackingRefused (may : Refusal → Type 0) (o : Order) (fields : List Field) (old : Option (List ℕ)) (f : Fault) (new : Option (List ℕ)) : Type 0 where
   pub field : ℕ
   pub refusal : Refusal
@@ -155,7 +156,7 @@ pub record SaidBytes (o : Order) (fields : List Field) (xs text : List ℕ) : Ty
   pub says : unpacked o 1 fields 0 (bits o xs) ≡ Unpacks values len
   pub prints : text ≡ printed_lines values
 
--- the lines or the fault that all bytes of a stream say, want of memory aside
+-- the lines or the fault that all bytes of a stream say, refused memory aside
 abbrev pub IsSaid : Order → List Field → List ℕ → Result (List ℕ) Fault → Type 0
 IsSaid o fields xs (Ok text) = SaidBytes o fields xs text
 IsSaid o fields xs (Err f) = (f.reason ≡ OutOfMemory) ⊎ (unpacked o 1 fields 0 (bits o xs) ≡ Stops f)

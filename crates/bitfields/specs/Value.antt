@@ -22,17 +22,18 @@ ended parts =
 abbrev pub lines : List ℕ → List (List ℕ)
 lines input = ended (slice_split (λ b. b == 10) input)
 
--- how many values a field has, and so how many lines
+-- the number of values of a field, which is the number of its lines
 abbrev pub value_count : Field → ℕ
 value_count (Unsigned n) = 1
 value_count Align = 0
 
--- the value of a kind, or why there is none
+-- the value of a kind, or the reason why there is none
 abbrev pub some_value : {A : Type 0} → (A → FieldValue) → Result A Reason → Result (Option FieldValue) Reason
 some_value kind (Ok v) = Ok (Some (kind v))
 some_value kind (Err why) = Err why
 
--- the value of a field that the first of the lines spells, or what is wrong; None where the field has no value
+-- the value of a field that the first of the lines spells, or the reason why it spells none; `None` if the field has no
+-- value
 abbrev pub value_in : Field → List (List ℕ) → Result (Option FieldValue) Reason
 value_in (Unsigned n) [] = Err ValueMissing
 value_in (Unsigned n) (line ∷ others) = some_value Value.Unsigned (decimal_below (2 ^ n) line)
@@ -55,7 +56,7 @@ values k [] lines = if length lines == 0 then Ok [] else Err (fault 0 ValueLeftO
 values k (field ∷ fields) lines =
     value_and k (value_in field lines) (values (k + 1) fields (drop (value_count field) lines))
 
--- the field's value is there, the first of these, and fits the field; nothing is asked where the field has none
+-- the field's value is there, the first of these, and fits the field; nothing is asked if the field has none
 abbrev pub FitsField : Field → List FieldValue → Type 0
 FitsField (Unsigned n) [] = ⊥
 FitsField (Unsigned n) (Value.Unsigned v ∷ vs) = v < 2 ^ n

@@ -7,7 +7,7 @@ ghost use Rattle.bitfields.specs.Decimal.{is_decimal as spells_decimal, decimal_
 
 use crate::fault::Reason;
 
-/// Whether a text is `0`, or a digit 1 to 9 followed by digits.
+/// Returns whether a text is `0`, or a digit 1 to 9 followed by digits.
 fn is_decimal(text: &[u8]) -> bool
     ensures { result ≡ spells_decimal text.now }
 {
@@ -24,7 +24,7 @@ fn all_digits(text: &[u8]) -> bool
 ///
 /// # Errors
 ///
-/// `ValueMisspelt` where it is no decimal, else `ValueDoesNotFit` from 2^128 on.
+/// `ValueMisspelt` if it is no decimal, else `ValueDoesNotFit` if the number is 2^128 or more.
 pub fn decimal(text: &[u8]) -> Result<u128, Reason>
     ensures { result ≡ decimal_below (2 ^ 128) text.now }
 {

@@ -11,7 +11,7 @@ use std::io::ErrorKind;
 /// Why a call fails.
 #[derive(Clone, Copy, Debug, PartialEq, Eq, Drop)]
 pub enum Reason {
-    /// There are not three arguments, or they name no command or no order of bits.
+    /// There are not three arguments, or they do not name a command and an order of bits.
     BadArguments,
     /// A layout has more than 256 segments between commas.
     TooManyFields,
@@ -27,7 +27,7 @@ pub enum Reason {
     ValueLeftOver,
     /// The bits end within a field.
     BitsEnded,
-    /// A constant's bits are others.
+    /// A constant's bits have another value.
     ConstantDiffers,
     /// A variable-width word or a unary run passes its limit.
     LimitPassed,
@@ -37,8 +37,8 @@ pub enum Reason {
     OutOfMemory,
 }
 
-/// How a call fails: the status that the program ends with, the field (counted from 1, and 0 where
-/// none is named), and why.
+/// How a call fails: the program's status, the field (counted from 1, or 0 if none is named), and
+/// the reason.
 #[derive(Clone, Copy, Debug, PartialEq, Eq, Drop)]
 pub struct Fault {
     pub status: u8,
@@ -47,7 +47,7 @@ pub struct Fault {
 }
 
 impl Fault {
-    /// Returns the fault of a field (0 where none is named), with the status of its reason.
+    /// Returns the fault of a field (0 if none is named), with the status of its reason.
     pub fn new(field: usize, reason: Reason) -> Fault
         ensures { result ≡ fault field reason }
     {
@@ -59,8 +59,7 @@ impl Fault {
     }
 }
 
-/// A refusal of a stream, which names no field: `OutOfMemory` where that is its kind, else
-/// `StreamFault`.
+/// A stream's refusal, which names no field: `OutOfMemory` if that is its kind, else `StreamFault`.
 impl From<io::Error> for Fault {
     ghost use Rattle.std.specs.IoError.{error_kind};
     ghost use Rattle.bitfields.specs.Fault.{refusal_reason};
@@ -75,7 +74,7 @@ impl From<io::Error> for Fault {
     }
 }
 
-/// Memory was refused: `OutOfMemory`, which names no field.
+/// Refused memory, which names no field: `OutOfMemory`.
 impl From<AllocError> for Fault {
     ghost from_gives = { λ _ f. f ≡ fault 0 OutOfMemory };
 

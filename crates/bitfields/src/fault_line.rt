@@ -1,4 +1,4 @@
-//! The lines that are printed of faults.
+//! The lines that are printed for faults.
 ghost use Rattle.std.specs.Prelude.{◌≡◌, ◌+◌, ◌++◌, ◌∷◌, [], ◌<◌, ◌≤◌, length};
 ghost use Rattle.std.specs.Fmt.{decimal};
 ghost use Rattle.bitfields.specs.Fault.{fault_line};
@@ -6,7 +6,7 @@ ghost use Rattle.bitfields.specs.Fault.{fault_line};
 use crate::fault::Fault;
 use std::marker::Model;
 
-/// The line of a fault: `bitfields: field K: REASON`, and LF. It stands in a buffer of its own, so that
+/// The line of a fault: `bitfields: field K: REASON`, and LF. It stands in a buffer of its own. So
 /// making it takes no memory, which may be what the fault is about.
 #[derive(Drop)]
 pub struct FaultLine {

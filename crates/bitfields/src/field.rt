@@ -8,9 +8,9 @@ use crate::decimal::decimal_between;
 /// A field of a layout, with its numbers.
 #[derive(Clone, Copy, Debug, PartialEq, Eq, Drop)]
 pub enum Field {
-    /// `uN`: an unsigned word of so many bits.
+    /// `uN`: an unsigned number of N bits.
     Unsigned(u32),
-    /// `a`: bits of 0 up to the next byte.
+    /// `a`: zeros up to the next byte boundary.
     Align,
 }
 

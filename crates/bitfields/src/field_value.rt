@@ -33,13 +33,13 @@ impl fmt::Display for FieldValue {
     }
 }
 
-/// Returns the value of a field that the first of the lines spells, or none where the field has no
+/// Returns the value of a field, which the first of the lines spells, or `None` if the field has no
 /// value.
 ///
 /// # Errors
 ///
-/// `ValueMissing` where there is no line, `ValueMisspelt` where the line is no decimal,
-/// `ValueDoesNotFit` where the number takes more bits.
+/// `ValueMissing` if there is no line, `ValueMisspelt` if the line is no decimal, `ValueDoesNotFit`
+/// if the number needs more bits.
 pub fn value_in(field: Field, lines: &[&[u8]]) -> Result<Option<FieldValue>, Reason>
     requires { IsField field }
     ensures value { result ≡ value_in_of field (map (λ x. x.now) lines.now) }
@@ -55,7 +55,7 @@ pub fn value_in(field: Field, lines: &[&[u8]]) -> Result<Option<FieldValue>, Rea
     }
 }
 
-/// The number below 2^width that a text spells.
+/// Returns the number below 2^width that a text spells.
 #[tactic(auto, using(crate::proofs::DecimalLemmas::wider))]
 fn decimal_of_width(width: u32, text: &[u8]) -> Result<u128, Reason>
     requires { width ≤ 128 }
@@ -72,7 +72,7 @@ fn decimal_of_width(width: u32, text: &[u8]) -> Result<u128, Reason>
 ///
 /// # Errors
 ///
-/// Where memory is refused. A part of the line may stand then.
+/// If memory is refused. A part of the line may stand then.
 pub fn print_value(lines: &mut String, value: FieldValue) -> Result<(), AllocError>
     ensures { OnOk result (string_bytes lines.new ≡ string_bytes lines.old ++ printed_line value) }
 {

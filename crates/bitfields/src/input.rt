@@ -11,15 +11,15 @@ use std::io::Read;
 
 /// An input that can be read to its end: any `Read`.
 pub trait Input: Source {
-    // How it may refuse to be read to its end, with which kind. Of a `Read` std tells nothing.
+    // How it may refuse to be read to its end, and with which kind. Of a `Read` std tells nothing.
     ghost refuses_rest: { Self → ErrorKind → Self → Type 0 };
 
-    /// Reads all bytes that are left, and returns them.
+    /// Reads all bytes that are left.
     ///
     /// # Errors
     ///
-    /// The input's own, as [`Read::read_to_end`] has them: of kind `OutOfMemory` too if memory for the
-    /// bytes is refused. The bytes that came until then are lost.
+    /// The input's own, as [`Read::read_to_end`] has them: of kind `OutOfMemory` too if memory for
+    /// the bytes is refused. The bytes that came before are lost then.
     fn read_rest(&mut self, alloc: Global) -> io::Result<Vec<u8>>
         ensures bytes { IfOk result (λ bytes. ReadToEnd (Self.remaining self.old) bytes.items
             (Self.remaining self.new)) }

@@ -1,4 +1,4 @@
-//! What holds of the meaning of layouts and values, whatever parses or packs them.
+//! Laws of layouts and values, whatever parses or packs them.
 
 ghost use Rattle.std.specs.Prelude.{◌≡◌, ◌++◌, ◌+◌, ◌^◌, ◌<◌, ◌≤◌, ℕ, Bool, false, List, [], ◌∷◌, length, map, replicate, None, Ok};
 ghost use Rattle.std.specs.List.{All};
@@ -16,7 +16,7 @@ use crate::fault::Reason;
 use crate::field::Field;
 use crate::field_value::FieldValue;
 
-/// The texts of fields, joined by commas, spell these fields; and no other text does.
+/// The texts of fields, joined by commas, spell these fields. No other text does.
 pub fn layouts_are_spelt()
     ensures spelt { (fields : List Field) → IsLayout fields
         → layout_of (layout_text fields) ≡ Ok fields }
@@ -24,8 +24,8 @@ pub fn layouts_are_spelt()
         → IsLayout fields × (layout_text fields ≡ text) }
 {}
 
-/// Values that are spelt fit their fields; and the lines that are printed of values that fit spell
-/// these values.
+/// Values that lines spell fit their fields. The printed lines of values that fit spell these
+/// values.
 pub fn values_are_spelt()
     ensures fit { (k : ℕ) (fields : List Field) (rest : List (List ℕ)) (vs : List FieldValue)
         → values k fields rest ≡ Ok vs → Fit fields vs }
@@ -34,7 +34,7 @@ pub fn values_are_spelt()
         → values k fields (lines (printed_lines vs)) ≡ Ok vs }
 {}
 
-/// What is written of values that fit is unpacked as these values, whatever follows it.
+/// Values that fit are unpacked from their packed bits, whatever follows these.
 pub fn packed_values_are_unpacked()
     ensures { (o : Order) (k : ℕ) (fields : List Field) (vs : List FieldValue) (at : ℕ) (rest : List Bool)
         → All IsField fields → Fit fields vs
@@ -42,7 +42,7 @@ pub fn packed_values_are_unpacked()
         unpacked o k fields at (written ++ rest) ≡ Unpacks vs (at + length written)) }
 {}
 
-/// What was packed of an input's values is unpacked as the lines of this input, each ended by LF.
+/// The packed bits of an input's values are unpacked as the lines of this input, each ended by LF.
 pub fn packed_lines_are_unpacked()
     ensures { (o : Order) (fields : List Field) (input : List ℕ) (vs : List FieldValue) (bytes : List ℕ)
         → IsLayout fields → values 1 fields (lines input) ≡ Ok vs → bits o bytes ≡ packed o fields vs 0
@@ -51,7 +51,7 @@ pub fn packed_lines_are_unpacked()
         × (printed_lines vs ≡ ended_lines (lines input)) }
 {}
 
-/// Packing is the fields' write calls, none of which is refused, and a last alignment.
+/// Packing makes the fields' write calls, none of which is rejected, and a last alignment.
 pub fn packing_is_a_write_run()
     ensures words { (o : Order) (fields : List Field) (vs : List FieldValue) (at : ℕ)
         → write_run (field_writes o fields vs ++ align ∷ []) at ≡ packed o fields vs at }
@@ -60,15 +60,15 @@ pub fn packing_is_a_write_run()
         → All (λ r. r ≡ None) (write_refusals (field_writes o fields vs ++ align ∷ []) at) }
 {}
 
-/// Unpacking is the fields' read calls, up to the first whose bits are too few.
+/// Unpacking makes the fields' read calls, up to the first whose bits are too few.
 pub fn unpacking_is_a_read_run()
     ensures { (o : Order) (k : ℕ) (fields : List Field) (at : ℕ) (bits : List Bool)
         → unpacked o k fields at bits
         ≡ answered k fields at (read_run (map (field_read o) fields) at bits) }
 {}
 
-/// The packed values are the words of the numbers, with zeros up to the next byte where a field asks
-/// for it and at the end.
+/// The packed bits are the words of the numbers, with zeros up to the next byte boundary if a field
+/// asks for it, and at the end.
 pub fn packing_goes_by_fields()
     ensures number { (o : Order) (n v : ℕ) (fields : List Field) (vs : List FieldValue) (at : ℕ)
         → n ≤ 128 → v < 2 ^ n
@@ -80,8 +80,8 @@ pub fn packing_goes_by_fields()
     ensures end { (o : Order) (at : ℕ) → packed o [] [] at ≡ replicate (to_boundary at) false }
 {}
 
-/// A field's word says its number, the bits of an alignment say nothing, and where a field has too
-/// few bits left, they ended.
+/// A field's number is that of its word. The bits of an alignment say nothing. If a field has too
+/// few bits left, the bits ended.
 pub fn unpacking_goes_by_fields()
     ensures number { (o : Order) (k n : ℕ) (fields : List Field) (at : ℕ) (w rest : List Bool)
         → n ≤ 128 → length w ≡ n

@@ -33,8 +33,8 @@ const MOST_FIELDS: usize = 256;
 ///
 /// # Errors
 ///
-/// `TooManyFields` (field 0) where there are more than 256 segments between commas, `BadLayout` at the
-/// first segment that is no field, and `OutOfMemory` (field 0).
+/// `TooManyFields` (field 0) if there are more than 256 segments between commas, `BadLayout` at the
+/// first segment that is no field, or `OutOfMemory` (field 0).
 pub fn parse_layout(alloc: Global, text: &str) -> Result<Layout, Fault>
     ensures { IsUnlessMemory (layout_of text.now) result }
 {
@@ -45,7 +45,7 @@ pub fn parse_layout(alloc: Global, text: &str) -> Result<Layout, Fault>
     parse_fields(alloc, &parts)
 }
 
-/// The layout of these segments.
+/// Returns the layout of the segments.
 fn parse_fields(alloc: Global, parts: &[&str]) -> Result<Layout, Fault>
     requires some { 1 ≤ length parts.now }
     requires few { length parts.now ≤ 256 }
@@ -61,7 +61,7 @@ fn parse_fields(alloc: Global, parts: &[&str]) -> Result<Layout, Fault>
     Ok(Layout { fields })
 }
 
-/// The segments between commas.
+/// Returns the segments between commas.
 fn segments(alloc: Global, text: &str) -> Result<Vec<&str>, AllocError>
     ensures segments { IfOk result (λ v. map (λ x. x.now) v.items ≡ segments_of text.now) }
     ensures some { IfOk result (λ v. 1 ≤ length v.items) }
@@ -70,7 +70,7 @@ fn segments(alloc: Global, text: &str) -> Result<Vec<&str>, AllocError>
 }
 
 impl Layout {
-    /// The fields.
+    /// Returns the fields.
     pub fn fields(&self) -> &[Field]
         ensures fields { result.now ≡ self.now }
         ensures is_layout { IsLayout self.now }

@@ -20,9 +20,9 @@ use std::alloc::Global;
 ///
 /// # Errors
 ///
-/// Those of [`values`]: the stream is as it was then, since all values are read before the first byte
-/// is written. After that `StreamFault` or `OutOfMemory` (field 0), as the stream refuses, which
-/// is as the refusal left it.
+/// Those of [`values`]. The stream is as it was then, since all values are read before the first
+/// byte is written. Else `StreamFault` or `OutOfMemory` (field 0), as the stream refuses; the
+/// stream is as the refusal left it.
 pub fn pack<E: Endianness, W: Target>(
     alloc: Global,
     layout: &Layout,
@@ -44,8 +44,8 @@ pub fn pack<E: Endianness, W: Target>(
 ///
 /// # Errors
 ///
-/// The first call's that is refused; none is made after it. A sink without a limit refuses none,
-/// unless its stream does or it has failed.
+/// The error of the first call that answers one. No call is made after it. A sink without a limit
+/// answers none, unless its stream refuses or it has failed.
 pub fn pack_to<W: BitWrite>(
     layout: &Layout,
     values: &[FieldValue],
@@ -98,7 +98,7 @@ fn append_field<W: BitWrite>(
     }
 }
 
-/// The reason for an error of a writer.
+/// Returns the reason for an error of a writer.
 fn write_reason(error: Error) -> Reason
     ensures { result ≡ write_reason_of error }
 {

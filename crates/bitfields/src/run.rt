@@ -15,14 +15,14 @@ use crate::unpacking::unpack;
 use bitstream_io::{BigEndian, Endianness, LittleEndian, Target};
 use std::alloc::Global;
 
-/// What is done with a layout.
+/// What to do with a layout.
 #[derive(Clone, Copy, Debug, PartialEq, Eq, Drop)]
 pub enum Command {
     Pack,
     Unpack,
 }
 
-/// An order of bits, as the arguments name it.
+/// An order of bits, by its name in the arguments.
 #[derive(Clone, Copy, Debug, PartialEq, Eq, Drop)]
 pub enum NamedOrder {
     /// `be`: bit 7 of each byte first.
@@ -31,15 +31,15 @@ pub enum NamedOrder {
     Little,
 }
 
-/// Runs the program on its arguments, without the program's name, and returns the status that it ends
-/// with: 0, or that of a fault, whose line is then printed on `faults` by one request. A line that can't
-/// be printed leaves the status as it is.
+/// Runs the program on its arguments, without the program's name. Returns its status: 0, or that of
+/// a fault. The fault's line is then printed on `faults` by one request. If the line can't be
+/// printed, the status stays as it is.
 ///
-/// The input is any `Read`, the output and the stream for faults are any `Write`, or a target that is
-/// lent. The output is written and flushed only if the whole layout succeeded: at a status of 2, 3 or 4
-/// nothing was written, and at a status of 5 only if it was the output that refused a request. After a
-/// refused request nothing more is asked of the input or the output. Nothing is printed on `faults` at a
-/// status of 0.
+/// The input is any `Read`. The output and the stream for faults are any `Write`, or a target that
+/// is lent. The output is written and flushed only if the whole layout succeeded: at a status of 2,
+/// 3 or 4 nothing was written, and at a status of 5 only if the output itself refused a request.
+/// After a refused request nothing more is asked of the input or the output. At a status of 0
+/// nothing is printed on `faults`.
 pub fn run<R: Input, W: Target, X: Target>(
     alloc: Global,
     words: &[String],
@@ -68,7 +68,7 @@ pub fn report<X: Target>(fault: Fault, faults: &mut X) -> u8
     fault.status
 }
 
-/// Prints the line of a fault by one request. A refusal is passed over.
+/// Prints the line of a fault by one request. Its refusal is ignored.
 fn print_line<X: Target>(fault: Fault, faults: &mut X)
     ensures { Reports (output_stream X.contents X.refuses X.flushes) fault faults.old faults.new }
 {

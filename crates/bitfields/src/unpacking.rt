@@ -1,7 +1,7 @@
 //! Unpacking: the lines of the values that bits hold for the fields of a layout.
 
 ghost use Rattle.std.specs.Prelude.{◌≡◌, ◌++◌, ℕ, List, Some, string_bytes, IsErr, IsSome, OnOk};
-ghost use Rattle.bitstream_io.specs.TakeBits.{seen};
+ghost use Rattle.bitstream_io.specs.Gather.{seen};
 ghost use Rattle.bitstream_io.specs.Refusal.{MayRefuse, TrueEnds};
 ghost use Rattle.bitstream_io.specs.Reads.{Reads};
 ghost use Rattle.bitfields.specs.Unpacking.{field_read, read_reason as read_reason_of, IsSaid, ReadsLines, UnpacksBytes};
@@ -14,16 +14,16 @@ use crate::layout::Layout;
 use bitstream_io::{BitRead, BitReader, Endianness, Error, Lent, Source};
 use std::alloc::{AllocError, Global};
 
-/// Unpacks the fields of a layout from the first byte of a stream on, and returns the line of each
-/// value, ended by LF. No byte after the last field's is asked for, and after a refused
-/// request the stream is as that left it.
+/// Unpacks the fields of a layout from the first byte of a stream on. Returns the line of each
+/// value, ended by LF. No byte after the last field's is asked for. After a refused request the
+/// stream is as the refusal left it.
 ///
 /// # Errors
 ///
-/// `BitsEnded` at the first field whose bits are not all there, `StreamFault` or `OutOfMemory` at the
-/// field for which the stream refused a request, `OutOfMemory` at the field for whose line no memory
-/// was left. Where each refusal of the stream is an end with fewer bytes left than were asked for, as
-/// a `Slice` refuses, the refusals are exactly those of the bits; memory aside.
+/// `BitsEnded` at the first field whose bits are not all there, `StreamFault` or `OutOfMemory` at
+/// the field for which the stream refused a request, `OutOfMemory` at the field for whose line
+/// memory was refused. If each refusal of the stream is a true end, as of a `Slice`, the bits alone
+/// decide the answer, memory aside.
 pub fn unpack<E: Endianness, R: Source>(
     alloc: Global,
     layout: &Layout,
@@ -36,28 +36,18 @@ pub fn unpack<E: Endianness, R: Source>(
         → IsSaid E.order layout.now xs (seen (λ v. v.items) result) }
 {
     let mut reader = BitReader::<Lent<R>, E>::new(Lent::new(input));
-    let lines = unpack_from(alloc, layout, &mut reader)?;
+    let lines = unpack_from(alloc, layout.fields(), &mut reader)?;
     Ok(lines.into_bytes())
 }
 
-/// Unpacks the fields of a layout from a reader: makes their read calls in order, and returns the line
-/// of each value, ended by LF.
+/// Unpacks fields from a reader: makes their read calls in order. Returns the line of each value,
+/// ended by LF.
 ///
 /// # Errors
 ///
-/// At the first field whose call answers an error, or for whose line no memory is left; no call is
-/// made after that.
+/// At the first field whose call answers an error, or for whose line memory is refused. No call is
+/// made after it.
 pub fn unpack_from<R: BitRead>(
-    alloc: Global,
-    layout: &Layout,
-    reader: &mut R,
-) -> Result<String, Fault>
-    ensures { ReadsLines R.source layout.now reader.old (seen (λ s. string_bytes s) result) reader.new }
-{
-    unpack_fields(alloc, layout.fields(), reader)
-}
-
-fn unpack_fields<R: BitRead>(
     alloc: Global,
     fields: &[Field],
     reader: &mut R,
@@ -94,7 +84,7 @@ fn unpack_field<R: BitRead>(field: Field, reader: &mut R) -> Result<Option<Field
     }
 }
 
-/// The reason for an error of a reader.
+/// Returns the reason for an error of a reader.
 fn read_reason(error: Error) -> Reason
     ensures { result ≡ read_reason_of error }
 {

@@ -4,7 +4,7 @@ ghost use Rattle.std.specs.Prelude.{◌≡◌, ◌+◌, ◌++◌, [], ◌∷◌,
 ghost use Rattle.std.specs.List.{All};
 ghost use Rattle.bitfields.specs.Fault.{fault};
 ghost use Rattle.bitfields.specs.Layout.{IsField, IsLayout, IsUnlessMemory};
-ghost use Rattle.bitstream_io.specs.TakeBits.{seen};
+ghost use Rattle.bitstream_io.specs.Gather.{seen};
 ghost use Rattle.bitfields.specs.Value.{lines as lines_of, values as values_of, value_in as value_in_of, value_count as value_count_of, Fit, value_list};
 
 use crate::fault::{Fault, Reason};
@@ -18,9 +18,9 @@ use std::alloc::Global;
 ///
 /// # Errors
 ///
-/// At the first value field with a fault: `ValueMissing` where its line is missing, `ValueMisspelt`
-/// where the line is no decimal, `ValueDoesNotFit` where the number is too great. Else
-/// `ValueLeftOver` (field 0) where lines remain, and `OutOfMemory` (field 0).
+/// At the first value field with a fault: `ValueMissing` if its line is missing, `ValueMisspelt` if
+/// the line is no decimal, `ValueDoesNotFit` if the number is too great. Else `ValueLeftOver`
+/// (field 0) if lines remain, or `OutOfMemory` (field 0).
 pub fn values(alloc: Global, layout: &Layout, input: &[u8]) -> Result<Vec<FieldValue>, Fault>
     ensures values { IsUnlessMemory (values_of 1 layout.now (lines_of input.now))
         (seen (λ v. v.items) result) }
@@ -61,7 +61,7 @@ fn push_value(values: &mut Vec<FieldValue>, value: Option<FieldValue>) -> Result
     Ok(())
 }
 
-/// Returns how many values a field has, and so how many lines.
+/// Returns the number of values of a field, which is the number of its lines.
 pub fn value_count(field: Field) -> usize
     ensures { result ≡ value_count_of field }
 {
@@ -71,7 +71,7 @@ pub fn value_count(field: Field) -> usize
     }
 }
 
-/// Returns what follows the field's own lines, or its own values.
+/// Returns the items behind those of the field: lines, or values.
 pub fn behind_value<T>(field: Field, items: &[T]) -> &[T]
     requires { value_count_of field ≤ length items.now }
     ensures { result.now ≡ drop (value_count_of field) items.now }

@@ -1,5 +1,5 @@
 use Rattle.std.proofs.Common.{rules, ◌≡◌, ◌∷◌, subst, string_bytes, Ok}
-use Rattle.bitstream_io.specs.TakeBits.{seen}
+use Rattle.bitstream_io.specs.Gather.{seen}
 use Rattle.bitstream_io.specs.Refusal.{MayRefuse}
 use Rattle.bitstream_io.proofs.ReadsLemmas.{first_name}
 use Rattle.bitfields.specs.Unpacking.{UnpacksBytes}
@@ -16,7 +16,7 @@ returns g c =
     let first = c.new.result in
     let last = c.unpack_from.new.reader.port.stream in
     let inside = MayRefuse-seen (λ l. l.at.now) source.remaining source.refuses in
-    let all = Unpacks-from _ may fields (source.remaining first.at.now) (first.at.ghost_name ∷ source.reference_names first.at.now) _ _ _ inside c.new-reader.ensures.state c.in_ok-lines.ensures in
+    let all = Unpacks-from _ may fields (source.remaining first.at.now) (first.at.ghost_name ∷ source.reference_names first.at.now) _ _ _ inside c.new-reader.ensures.state (rw c.fields.ensures.fields at c.in_ok-lines.ensures) in
     let place = first_name {m = last.at.ghost_name} {n = first.at.ghost_name} all.1 in
     let names = c.new.ensures.name in
     let result = Ok c.into_bytes.result.items in
@@ -35,7 +35,7 @@ returns-in_err-lines g c =
     let first = c.new.result in
     let last = c.unpack_from.new.reader.port.stream in
     let inside = MayRefuse-seen (λ l. l.at.now) source.remaining source.refuses in
-    let all = Unpacks-from _ may fields (source.remaining first.at.now) (first.at.ghost_name ∷ source.reference_names first.at.now) _ _ _ inside c.new-reader.ensures.state c.in_err-lines.ensures in
+    let all = Unpacks-from _ may fields (source.remaining first.at.now) (first.at.ghost_name ∷ source.reference_names first.at.now) _ _ _ inside c.new-reader.ensures.state (rw c.fields.ensures.fields at c.in_err-lines.ensures) in
     let place = first_name {m = last.at.ghost_name} {n = first.at.ghost_name} all.1 in
     let names = c.new.ensures.name in
     let result = seen (λ v. v.items) c.from_residual.result in

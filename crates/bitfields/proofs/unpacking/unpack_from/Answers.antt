@@ -2,7 +2,7 @@ use Rattle.std.proofs.Common.{rules, ◌≡◌, ◌++◌, ◌<◌, length, strin
 use Rattle.bitfields.specs.Fault.{fault}
 use Rattle.bitfields.specs.Value.{value_list, printed_lines}
 use Rattle.bitfields.proofs.UnpackingLemmas.{Unpacking-start, Unpacking-more, Unpacking-err, Unpacking-end, Unpacking-memory_refused}
-use Rattle.bitfields.proofs.unpacking.unpack_fields.Goals as goal
+use Rattle.bitfields.proofs.unpacking.unpack_from.Goals as goal
 
 pub loop-index-init : goal.loop-index-init
 loop-index-init g c = Unpacking-start g.R.BitRead.source c.args.fields.now _ _ (search rules)
