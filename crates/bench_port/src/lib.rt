@@ -5,6 +5,7 @@
 mod missing;
 mod mix;
 mod reading;
+mod sinks;
 mod writing;
 
 use crate::reading::{

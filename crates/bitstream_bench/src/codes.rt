@@ -10,7 +10,7 @@ use std::test::Fail;
 
 type Tree = HuffmanTree<u16, Global>;
 
-/// The tree of so many symbols more than one, from 0 on, each a bit longer than the one before it.
+/// The tree of one symbol more than the given number, from 0 on, each a bit longer than the one before it.
 fn chain(alloc: Global, branches: u16) -> Result<Tree, AllocError> {
     let mut tree = HuffmanTree::leaf(alloc, branches)?;
     for below in 0..branches {
@@ -68,7 +68,7 @@ fn r12_long_chain(rt: HostRuntime) -> Result<(), Fail> {
     Ok(())
 }
 
-/// The tree of 20 symbols whose table has memory for so many blocks.
+/// The tree of 20 symbols whose table has memory for the given number of blocks.
 fn grown(alloc: Global, served: u32) -> Result<HuffmanTree<u16, RefuseMemory<Global>>, AllocError> {
     let mut tree = HuffmanTree::leaf(RefuseMemory::new(alloc, served), 0)?;
     for symbol in 1..20 {

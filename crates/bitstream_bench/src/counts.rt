@@ -98,7 +98,7 @@ fn each_type(rt: HostRuntime) {
     assert_eq!(rt; (unsigned, signed), ([true; 5], [true; 5]));
 }
 
-/// The sum and the difference of 5 bits and so many, of at most 16 and 8 bits.
+/// The sum and the difference of 5 bits and the given number, of at most 16 and 8 bits.
 fn sums(number: u32) -> (Option<u32>, Option<u32>, Option<u32>) {
     let five = BitCount::<8>::new::<5>();
     let signed = SignedBitCount::<8>::new::<5>();
@@ -125,7 +125,7 @@ fn sums_of_counts(rt: &impl Abort) {
     }
 }
 
-/// The numbers of a signed `i8` and of a `u8` in so many bits.
+/// The numbers of a signed `i8` and of a `u8` in the given number of bits.
 fn ranges(bits: u32) -> Option<(i8, i8, u8, u8)> {
     let signed = SignedBitCount::<128>::try_from(bits).ok()?.range::<i8>();
     let unsigned = BitCount::<128>::try_from(bits).ok()?.range::<u8>();
@@ -151,7 +151,7 @@ fn ranges_of_counts(rt: &impl Abort) {
     }
 }
 
-/// The parts of 222 at so many bits, with the count of the lower.
+/// The parts of 222 at the given number of bits, with the count of the lower.
 fn split(bits: u32) -> Option<(u8, u32, u8)> {
     let mask = BitCount::<16>::try_from(bits).ok()?.mask_lsb::<u8>();
     let (high, low) = mask.split(222);
@@ -171,7 +171,7 @@ fn parts_of_numbers(rt: &impl Abort) {
     }
 }
 
-/// What a signed value of so many bits is refused for.
+/// What a signed value of the given number of bits is refused for.
 fn refused(bits: u32, value: i8) -> Option<CheckedError> {
     let count = SignedBitCount::<16>::try_from(bits).ok()?;
     CheckedSigned::new(count, value).err()

@@ -8,6 +8,8 @@ mod bytes;
 #[cfg(test)]
 mod callers;
 #[cfg(test)]
+mod checked;
+#[cfg(test)]
 mod codes;
 mod count;
 #[cfg(test)]
@@ -22,10 +24,16 @@ mod memory;
 #[cfg(test)]
 mod numbers;
 #[cfg(test)]
+mod older;
+#[cfg(test)]
 mod own;
 mod refuse;
 mod refuse_once;
+#[cfg(test)]
+mod script;
 pub mod sign_code;
+#[cfg(test)]
+mod sinks;
 pub mod sure;
 #[cfg(test)]
 mod whole_bytes;

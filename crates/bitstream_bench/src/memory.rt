@@ -2,7 +2,7 @@
 use std::alloc::{AllocError, Allocator};
 use std::cell::Cell;
 
-/// Serves so many requests for a block of memory, and refuses each later one. What it has served
+/// Serves the given number of requests for a block of memory, and refuses each later one. What it has served
 /// stands in a cell, of which no contract tells.
 #[derive(Drop)]
 pub struct RefuseMemory<A> {
@@ -11,7 +11,7 @@ pub struct RefuseMemory<A> {
 }
 
 impl<A: Allocator> RefuseMemory<A> {
-    /// Returns memory that asks another for so many blocks.
+    /// Returns memory that asks another for the given number of blocks.
     pub fn new(inner: A, left: u32) -> RefuseMemory<A> {
         RefuseMemory {
             inner,

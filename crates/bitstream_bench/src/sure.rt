@@ -1,7 +1,7 @@
 //! What is known of functions that read bytes in memory: their contracts have no premise on a stream.
 ghost use Rattle.std.specs.Prelude.{◌≡◌, ◌+◌, ◌*◌, ◌<◌, ◌≤◌, length, map, take, Ok, Err, IsOkAnd};
 ghost use Rattle.std.specs.Int.NonZero.{non_zero_u8_get};
-ghost use Rattle.bitstream_io.specs.Items.{words};
+ghost use Rattle.bitstream_io.specs.Array.{words};
 ghost use Rattle.bitstream_io.specs.Word.{High, Low, number, bits};
 ghost use Rattle.bitstream_io.specs.Error.TheVariants.{EndOfInput};
 

@@ -7,7 +7,7 @@ use bitstream_io::{
 use std::alloc::{AllocError, Global};
 use std::test::Fail;
 
-/// So many bytes, of which neighbours differ.
+/// The given number of bytes, of which neighbours differ.
 fn pattern(alloc: Global, len: usize) -> Result<Vec<u8>, AllocError> {
     let mut bytes = Vec::new(alloc);
     bytes.resize(len, 0)?;
@@ -19,7 +19,7 @@ fn pattern(alloc: Global, len: usize) -> Result<Vec<u8>, AllocError> {
     Ok(bytes)
 }
 
-/// Writes so many bits and then bytes.
+/// Writes the given number of bits and then bytes.
 fn writes_behind<W: BitWrite>(writer: &mut W, place: u32, bytes: &[u8]) -> Result<(), Error> {
     writer.write_unsigned_var(place, 1u8)?;
     writer.write_bytes(bytes)?;
@@ -35,7 +35,7 @@ enum Form {
     Vector,
 }
 
-/// Reads so many bits and then bytes, and tells whether they are these.
+/// Reads the given number of bits and then bytes, and tells whether they are these.
 fn reads_behind<R: BitRead>(
     alloc: Global,
     reader: &mut R,
@@ -54,7 +54,8 @@ fn reads_behind<R: BitRead>(
     }
 }
 
-/// Whether so many bits and these bytes behind them are read as they were written, by so many requests.
+/// Whether the given number of bits and these bytes behind them are read as they were written, by the
+/// given number of requests.
 fn goes_in<E: Endianness>(
     alloc: Global,
     form: Form,

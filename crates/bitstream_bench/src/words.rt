@@ -68,7 +68,7 @@ impl Shape {
         least <= self.width && self.width <= N::BITS_SIZE
     }
 
-    /// Returns the bit at a place among so many bits of a number.
+    /// Returns the bit at a place among the given number of bits of a number.
     fn bit(self, number: u128, bits: u32, at: u32) -> bool {
         let digit = if self.high_first {
             bits.saturating_sub(at).saturating_sub(1)
@@ -130,7 +130,7 @@ fn write_singly<W: BitWrite>(writer: &mut W, shape: Shape) -> Result<(), Error> 
     Ok(())
 }
 
-/// Reads so many bits a bit at a time, and tells whether they are those of a number.
+/// Reads the given number of bits a bit at a time, and tells whether they are those of a number.
 fn has_bits<R: BitRead>(
     reader: &mut R,
     shape: Shape,
