@@ -4,18 +4,20 @@ ghost use Rattle.std.specs.Prelude.{◌<◌, IfSome};
 use crate::objection::Objection;
 use bitstream_io::{CheckedError, Error};
 use std::alloc::Global;
-use std::fmt::Display;
 use std::io::ErrorKind;
+use std::num::ParseIntError;
+use std::str::FromStr;
 
 /// What a write call answers, where its row spells one.
 pub type Answer = Result<Result<(), Error>, Objection>;
 
 /// The name of an error.
-pub fn error_name(error: Error) -> &'static str {
+pub fn error_name(error: &Error) -> &'static str {
     match error {
         Error::ReadBits => "ReadBits",
         Error::Checked(CheckedError::ExcessiveBits) => "ExcessiveBits",
         Error::Checked(CheckedError::ExcessiveValue) => "ExcessiveValue",
+        Error::CounterOverflow => "CounterOverflow",
         Error::NoSignBit => "NoSignBit",
         Error::BoolWidth => "BoolWidth",
         Error::NonZeroWidth => "NonZeroWidth",
@@ -31,32 +33,37 @@ pub fn error_name(error: Error) -> &'static str {
     }
 }
 
-/// A text of one's own.
-pub fn text(alloc: Global, name: &str) -> Result<String, Objection> {
-    Ok(String::from_str(alloc, name)?)
-}
-
-/// The name of an error, as an answer.
-pub fn refused(alloc: Global, error: Error) -> Result<String, Objection> {
-    text(alloc, error_name(error))
-}
-
-/// The value that was read, or the name of the error.
-pub fn shown<T: Display + Drop>(
-    alloc: Global,
-    answer: Result<T, Error>,
-) -> Result<String, Objection> {
+/// Whether a text is what a call answered: `ok`, or the name of the error.
+pub fn is_done(want: &str, answer: &Result<(), Error>) -> bool {
     match answer {
-        Ok(value) => Ok(format!(in alloc; "{value}")?),
-        Err(error) => refused(alloc, error),
+        Ok(()) => want == "ok",
+        Err(error) => want == error_name(error),
     }
 }
 
-/// `ok`, or the name of the error.
-pub fn accepted(alloc: Global, answer: Result<(), Error>) -> Result<String, Objection> {
+/// Whether a text is what a call answered: the number, or the name of the error.
+pub fn is_number<T: FromStr<Err = ParseIntError> + PartialEq + Drop>(
+    want: &str,
+    answer: Result<T, Error>,
+) -> bool {
     match answer {
-        Ok(()) => text(alloc, "ok"),
-        Err(error) => refused(alloc, error),
+        Ok(number) => match want.parse::<T>() {
+            Ok(want) => want == number,
+            Err(_) => false,
+        },
+        Err(error) => want == error_name(&error),
+    }
+}
+
+/// Whether a text is what a call answered: a number, `none`, or the name of the error.
+pub fn is_optional<T: FromStr<Err = ParseIntError> + PartialEq + Drop>(
+    want: &str,
+    answer: Result<Option<T>, Error>,
+) -> bool {
+    match answer {
+        Ok(Some(number)) => is_number(want, Ok(number)),
+        Ok(None) => want == "none",
+        Err(error) => want == error_name(&error),
     }
 }
 

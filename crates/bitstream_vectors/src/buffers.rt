@@ -12,7 +12,7 @@ use std::io;
 /// and two bytes.
 const LENGTHS: usize = 2051;
 
-/// What is written before the bytes, at each place in a byte: so many bits, each 1.
+/// What is written before the bytes, at each place in a byte: the given number of bits, each 1.
 const LEADS: [u8; 8] = [0, 1, 3, 7, 15, 31, 63, 127];
 
 /// The byte of each buffer at an index. Neighbours differ, and so do the first and the last bit of a

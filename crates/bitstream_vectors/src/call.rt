@@ -1,5 +1,5 @@
 //! Calls, as rows spell them.
-use crate::form::{Form, Items, Tree, form_of};
+use crate::form::{Form, Items, Number, Tree, form_of, form_of_calls};
 use crate::objection::Objection;
 use crate::row::Kind;
 use std::alloc::Global;
@@ -13,7 +13,7 @@ pub struct Call<'a> {
     pub form: Form,
     /// In how many bits, how many bytes, or the greatest number of a count.
     pub bits: u32,
-    /// What it writes, or the number of a constant.
+    /// What it writes, the number of a constant, or the calls that it is given.
     pub value: &'a str,
     /// What it answers.
     pub answer: &'a str,
@@ -26,6 +26,9 @@ impl<'a> Call<'a> {
             Some((call, answer)) => (call, Some(answer.trim())),
             None => (spelled, None),
         };
+        if let Some((name, calls)) = call.split_once('[') {
+            return Call::of_calls(name.trim(), calls.trim(), answer.unwrap_or("ok"));
+        }
         let words: Vec<&'a str> = call.split_whitespace().collect(alloc)?;
         let form = form_of(word_at(&words, 0), word_at(&words, 1))?;
         let (reads, writes) = form.arguments();
@@ -40,7 +43,7 @@ impl<'a> Call<'a> {
             return Err(Objection::BAD_FORM);
         }
         let (bits, value) = match (form, kind) {
-            (Form::Bytes, Kind::Write) => (0, word_at(&words, 1)),
+            (Form::Bytes | Form::Bit | Form::Unary(_), Kind::Write) => (0, word_at(&words, 1)),
             (Form::Whole(_, _), _) => (0, word_at(&words, 2)),
             (Form::Variable(_, _, _) | Form::VariablePair(_), _) => (0, word_at(&words, 2)),
             (Form::Prefix(_) | Form::Limited(_, _), _) => (0, word_at(&words, 2)),
@@ -53,6 +56,19 @@ impl<'a> Call<'a> {
             value,
             answer,
         })
+    }
+
+    /// The call of this name that is given calls, which end with a bracket.
+    fn of_calls(name: &str, calls: &'a str, answer: &'a str) -> Result<Call<'a>, Objection> {
+        match calls.strip_suffix(']') {
+            Some(value) => Ok(Call {
+                form: form_of_calls(name)?,
+                bits: 0,
+                value,
+                answer,
+            }),
+            None => Err(Objection::BAD_FORM),
+        }
     }
 
     /// The call that reads one bit, which is answered so.
@@ -97,13 +113,16 @@ impl<'a> Call<'a> {
         }
     }
 
-    /// What it answers on a reader or writer of bits that has failed.
-    pub fn answer_of_failed(&self, kind: Kind) -> &'static str {
+    /// What it answers on a reader or writer of bits that has failed. A checked value that is none,
+    /// or a count that is none, was refused before any call.
+    pub fn answer_of_failed(&self, kind: Kind) -> &'a str {
         match (self.form, kind) {
             (Form::Aligned, _) => "no",
             (Form::Align, Kind::Read) => "ok",
             (Form::Array(Items::None), Kind::Read) => "-",
             (Form::Array(Items::None), Kind::Write) => "ok",
+            (Form::Checked(_), Kind::Write) if self.answer != "ok" => self.answer,
+            (Form::Checked(Number::Signed(_)), Kind::Read) if self.bits == 0 => self.answer,
             (Form::Limited(_, 0), Kind::Read) => "none",
             (Form::Prefix(Tree::Leaf), Kind::Read) => "9",
             (Form::Limited(_, _) | Form::Prefix(_), Kind::Write) if !self.has_bits() => "ok",

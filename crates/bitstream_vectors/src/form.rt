@@ -1,6 +1,6 @@
 //! The forms of calls, as rows spell them.
 use crate::objection::Objection;
-use crate::to_come::ToCome;
+use crate::row::Order;
 
 /// The number of bits of a type.
 #[derive(Clone, Copy, Drop)]
@@ -70,17 +70,23 @@ pub enum Form {
     Aligned,
     Align,
     Array(Items),
+    /// The shorter of a recorder and a new one that is given calls.
+    Best,
     Bit,
     Bool,
     /// A buffer of bytes.
     Bytes,
+    /// A number as a checked value.
+    Checked(Number),
+    /// A recorder is emptied.
+    Clear,
     Const,
     Count,
     /// A number in a counted number of bits.
     Counted(Number),
     /// A number in a constant number of bits.
     Fixed(Number),
-    /// Digits up to a stop digit, or at most so many.
+    /// Digits up to a stop digit, or at most the given number of them.
     Limited(bool, u32),
     NonZero(Size),
     Optional(Size),
@@ -88,21 +94,23 @@ pub enum Form {
     Pad,
     /// A symbol of a tree.
     Prefix(Tree),
+    /// A new recorder of an order is given calls, and played.
+    Record(Order),
     /// Bits, or bytes, that are skipped.
     Skip,
     /// Digits up to a stop digit.
     Unary(bool),
-    /// A number in so many bits, as a value.
+    /// A number in the given number of bits, as a value.
     Value(Number),
-    /// A number of a size, in groups of so many bits.
+    /// A number of a size, in groups of the given number of bits.
     Variable(Grouped, Size, u32),
-    /// Two of `u8`, each in groups of so many bits.
+    /// Two of `u8`, each in groups of the given number of bits.
     VariablePair(u32),
     /// A vector of bytes.
     Vector,
     /// A primitive.
     Whole(ByteOrder, Number),
-    /// A number in so many bits, by the calls for words alone.
+    /// A number in the given number of bits, by the calls for words alone.
     Word(Number),
 }
 
@@ -110,7 +118,7 @@ impl Form {
     /// How many words stand behind the call's name where it reads, and where it writes.
     pub fn arguments(self) -> (usize, usize) {
         match self {
-            Form::Align | Form::Aligned => (0, 0),
+            Form::Align | Form::Aligned | Form::Clear => (0, 0),
             Form::Bit | Form::Unary(_) => (0, 1),
             Form::Bytes | Form::Pad | Form::Skip | Form::Vector => (1, 1),
             Form::Const => (2, 2),
@@ -123,18 +131,14 @@ impl Form {
 ///
 /// # Errors
 ///
-/// `NotYet` for a call that is still to come, else that the name spells none.
+/// That the name spells none.
 pub fn form_of(name: &str, next: &str) -> Result<Form, Objection> {
     let named = plain_form(name).or_else(|| whole_form(name, next));
     let named = named.or_else(|| variable_form(name, next));
     let named = named.or_else(|| symbol_form(name, next));
-    if let Some(form) = named.or_else(|| number_form(name)) {
-        Ok(form)
-    } else if let Some(call) = call_to_come(name) {
-        Err(Objection::NotYet(call))
-    } else {
-        Err(Objection::BAD_FORM)
-    }
+    named
+        .or_else(|| number_form(name))
+        .ok_or(Objection::BAD_FORM)
 }
 
 fn plain_form(name: &str) -> Option<Form> {
@@ -149,6 +153,7 @@ fn plain_form(name: &str) -> Option<Form> {
         "bool" => Some(Form::Bool),
         "bytes" => Some(Form::Bytes),
         "const" => Some(Form::Const),
+        "clear" => Some(Form::Clear),
         "count" => Some(Form::Count),
         "pad" => Some(Form::Pad),
         "skip" => Some(Form::Skip),
@@ -170,24 +175,40 @@ fn whole_form(name: &str, next: &str) -> Option<Form> {
     Some(Form::Whole(order, number_of(next)?))
 }
 
+/// What stands before the size in the name of a type that goes in groups.
+const GROUPED: [(&str, Grouped); 4] = [
+    ("u", Grouped::Unsigned),
+    ("i", Grouped::Signed),
+    ("nonzero", Grouped::NonZero),
+    ("optional", Grouped::Optional),
+];
+
+/// The type that goes in groups and that a name spells.
+fn grouped_of(name: &str) -> Option<(Grouped, Size)> {
+    for (prefix, value) in GROUPED {
+        if let Some(size) = name.strip_prefix(prefix) {
+            return size_of(size).map(|size| (value, size));
+        }
+    }
+    None
+}
+
 /// The form of a call for a number in groups, of the type that the next word spells.
 fn variable_form(name: &str, next: &str) -> Option<Form> {
-    if let Some(field) = name.strip_prefix("svbr") {
-        let size = size_of(next.strip_prefix('i')?)?;
-        return Some(Form::Variable(Grouped::Signed, size, field.parse().ok()?));
-    }
-    let field = name.strip_prefix("vbr")?.parse().ok()?;
+    let (field, signed) = match name.strip_prefix("svbr") {
+        Some(field) => (field, true),
+        None => (name.strip_prefix("vbr")?, false),
+    };
+    let field = field.parse().ok()?;
     if next == "array2-u8" {
         return Some(Form::VariablePair(field));
     }
-    let (value, size) = if let Some(size) = next.strip_prefix("nonzero") {
-        (Grouped::NonZero, size)
-    } else if let Some(size) = next.strip_prefix("optional") {
-        (Grouped::Optional, size)
+    let (value, size) = grouped_of(next)?;
+    if signed == matches!(value, Grouped::Signed) {
+        Some(Form::Variable(value, size, field))
     } else {
-        (Grouped::Unsigned, next.strip_prefix('u')?)
-    };
-    Some(Form::Variable(value, size_of(size)?, field))
+        None
+    }
 }
 
 /// The form of a call for a symbol of the code that the next word spells.
@@ -205,7 +226,9 @@ fn symbol_form(name: &str, next: &str) -> Option<Form> {
 
 /// The form of a call whose name ends with a type.
 fn number_form(name: &str) -> Option<Form> {
-    if let Some(number) = name.strip_prefix("counted-") {
+    if let Some(number) = name.strip_prefix("checked-") {
+        number_of(number).map(Form::Checked)
+    } else if let Some(number) = name.strip_prefix("counted-") {
         number_of(number).map(Form::Counted)
     } else if let Some(number) = name.strip_prefix("fixed-") {
         number_of(number).map(Form::Fixed)
@@ -240,11 +263,12 @@ fn size_of(name: &str) -> Option<Size> {
     }
 }
 
-/// The call to come whose name, with a type behind it, a name spells.
-fn call_to_come(name: &str) -> Option<ToCome> {
-    let (call, number) = name.split_once('-')?;
-    number_of(number)?;
-    ToCome::ALL
-        .into_iter()
-        .find(|to_come| to_come.name() == call)
+/// The form of a call that is given calls.
+pub fn form_of_calls(name: &str) -> Result<Form, Objection> {
+    match name {
+        "best" => Ok(Form::Best),
+        "record-be" => Ok(Form::Record(Order::Big)),
+        "record-le" => Ok(Form::Record(Order::Little)),
+        _ => Err(Objection::BAD_FORM),
+    }
 }

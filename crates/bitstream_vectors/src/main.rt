@@ -2,9 +2,8 @@
 //!
 //! Each file says in its head what its rows and columns mean, and where the answers come from. Each row
 //! is played over a slice or a vector, over a stream that gives or takes a byte a request, and over
-//! streams that refuse from each of its requests on. A row with a call that the library does not have
-//! yet is passed over, and counted by the name of the call. Buffers of each length are written and read
-//! at each place in a byte.
+//! streams that refuse from each of its requests on. What is written is written to a counter and to a
+//! recorder too. Buffers of each length are written and read at each place in a byte.
 //!
 //! The program fails if a row or a buffer differs, or if a row has a form, a width or a constant that the
 //! player does not know.
@@ -39,15 +38,19 @@ macro_rules! signed {
 mod answer;
 mod buffers;
 mod call;
+mod checked;
+mod counts;
 mod fixed;
 mod form;
 mod objection;
 mod play;
 mod reads;
+mod records;
 mod replay;
 mod row;
+mod sinks;
 mod symbols;
-mod to_come;
+mod trio;
 mod variable;
 mod whole;
 mod writes;
@@ -60,84 +63,46 @@ use std::io;
 use std::io::ErrorKind;
 use std::process::ExitCode;
 use std::rt::Files;
-use to_come::ToCome;
 
 /// The files of rows.
-const FILES: [&str; 6] = [
+const FILES: [&str; 9] = [
     "vectors.tsv",
+    "count.tsv",
+    "record.tsv",
     "r03_words.tsv",
     "r04_bytes.tsv",
     "r05_codes.tsv",
     "r06_prefix.tsv",
+    "r07_sinks.tsv",
     "r10_word_kernels.tsv",
 ];
 
-/// How many rows a file has, how many were played, and how many differ.
-#[derive(Drop)]
-struct Totals {
-    rows: u32,
-    played: u32,
-    differing: u32,
-    /// A call to come for each row that was passed over.
-    passed_over: Vec<ToCome>,
-}
-
-impl Totals {
-    /// Counts a row, and prints one that differs.
-    fn note(
-        &mut self,
-        rt: &impl Print,
-        line: &str,
-        outcome: Result<(), Objection>,
-    ) -> io::Result<()> {
-        self.rows = self.rows.saturating_add(1);
-        match outcome {
-            Err(Objection::OutOfMemory) => return Err(io::Error::from(ErrorKind::OutOfMemory)),
-            Err(Objection::NotYet(call)) => self.passed_over.push(call)?,
-            Err(Objection::Differs(what)) => {
-                println!(rt; "{}: {line}", what.text())?;
-                self.played = self.played.saturating_add(1);
-                self.differing = self.differing.saturating_add(1);
-            }
-            Ok(()) => self.played = self.played.saturating_add(1),
+/// Plays a row. Prints one that differs, and tells whether it does.
+fn differs(rt: &impl Print, alloc: Global, line: &str) -> io::Result<bool> {
+    match replay(alloc, line) {
+        Ok(()) => Ok(false),
+        Err(Objection::Differs(what)) => {
+            println!(rt; "{}: {line}", what.text())?;
+            Ok(true)
         }
-        Ok(())
-    }
-
-    /// Prints them for a file of this name.
-    fn print(&self, rt: &impl Print, name: &str) -> io::Result<()> {
-        let (rows, played, differing) = (self.rows, self.played, self.differing);
-        println!(rt; "{name}: {rows} rows, {played} played, {differing} differ")?;
-        for call in ToCome::ALL {
-            let rows = self
-                .passed_over
-                .iter()
-                .filter(|over| **over == call)
-                .count();
-            if rows > 0 {
-                println!(rt; "{name}: {rows} rows passed over for {}", call.name())?;
-            }
-        }
-        Ok(())
+        Err(Objection::OutOfMemory) => Err(io::Error::from(ErrorKind::OutOfMemory)),
     }
 }
 
 /// Plays the rows of a file, and gives how many differ.
 fn play_file(rt: &(impl Files + Print + Alloc), alloc: Global, name: &str) -> io::Result<u32> {
     let text = std::fs::read_to_string(rt, name)?;
-    let mut totals = Totals {
-        rows: 0,
-        played: 0,
-        differing: 0,
-        passed_over: Vec::new(alloc),
-    };
+    let (mut rows, mut differing) = (0u32, 0u32);
     for line in text.as_str().lines() {
         if !line.starts_with('#') {
-            totals.note(rt, line, replay(alloc, line))?;
+            rows = rows.saturating_add(1);
+            if differs(rt, alloc, line)? {
+                differing = differing.saturating_add(1);
+            }
         }
     }
-    totals.print(rt, name)?;
-    Ok(totals.differing)
+    println!(rt; "{name}: {rows} rows, {differing} differ")?;
+    Ok(differing)
 }
 
 fn main(rt: HostRuntime) -> io::Result<ExitCode> {

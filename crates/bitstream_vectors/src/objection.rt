@@ -1,6 +1,5 @@
 //! Why a row does not stand.
 
-use crate::to_come::ToCome;
 use std::alloc::{AllocError, AllocFailed};
 
 /// What is not as a row says.
@@ -22,6 +21,10 @@ pub enum Difference {
     Place,
     /// How many requests were made.
     Requests,
+    /// An answer, or the number of bits, of a counter or a recorder beside a writer.
+    Beside,
+    /// How many bits a counter or a recorder holds.
+    Length,
 }
 
 impl Difference {
@@ -36,6 +39,8 @@ impl Difference {
             Difference::Bytes => "differs in its bytes",
             Difference::Place => "differs in its place",
             Difference::Requests => "differs in its requests",
+            Difference::Beside => "differs on a counter or a recorder beside the writer",
+            Difference::Length => "differs in its number of bits",
         }
     }
 }
@@ -43,8 +48,6 @@ impl Difference {
 /// Why a row does not stand.
 #[derive(Clone, Copy, Drop)]
 pub enum Objection {
-    /// It makes a call that the library does not have yet.
-    NotYet(ToCome),
     /// Something is not as it says.
     Differs(Difference),
     /// Memory was refused.

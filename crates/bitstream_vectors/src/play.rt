@@ -1,17 +1,19 @@
 //! Plays of a row's calls over a stream.
-use crate::answer::{accepted, error_name};
+use crate::answer::{error_name, is_done};
 use crate::call::Call;
 use crate::objection::{Difference, Objection, agrees};
 use crate::reads::read_call;
 use crate::row::{Kind, Layer, Order, Row};
+use crate::sinks::{Recorder, sink_call};
+use crate::trio::Trio;
 use crate::whole::{read_whole, write_whole};
-use crate::writes::write_call;
 use bitstream_bench::{Count, Drip, Refuse};
 use bitstream_io::{
-    BE, BitReader, BitWriter, ByteReader, ByteWriter, Endianness, Error, LE, Source, Target,
+    BE, BitReader, BitRecorder, BitWrite, BitWriter, BitsWritten, ByteReader, ByteWriter,
+    Endianness, Error, LE, Source, Target,
 };
 use std::alloc::Global;
-use std::io::{ErrorKind, Read, Write};
+use std::io::ErrorKind;
 
 /// A request that a stream refuses, as each later one.
 #[derive(Clone, Copy, Drop)]
@@ -41,7 +43,7 @@ impl Fault {
         match (kind, self.kind) {
             (Kind::Read, ErrorKind::UnexpectedEof) => "EndOfInput",
             (_, ErrorKind::OutOfMemory) => "OutOfMemory",
-            (_, kind) => error_name(Error::Stream(kind)),
+            (_, kind) => error_name(&Error::Stream(kind)),
         }
     }
 
@@ -90,35 +92,35 @@ pub struct Moved {
 
 /// A reader or writer on which calls are made.
 trait Stage {
-    /// Makes a call, and spells its answer.
-    fn call(&mut self, alloc: Global, call: &Call<'_>) -> Result<String, Objection>;
+    /// Makes a call, and tells whether it answers so.
+    fn call(&mut self, alloc: Global, call: &Call<'_>, want: &str) -> Result<bool, Objection>;
 }
 
 impl<R: Source, E: Endianness> Stage for BitReader<R, E> {
-    fn call(&mut self, alloc: Global, call: &Call<'_>) -> Result<String, Objection> {
-        read_call(alloc, self, call)
+    fn call(&mut self, alloc: Global, call: &Call<'_>, want: &str) -> Result<bool, Objection> {
+        read_call(alloc, self, call, want)
     }
 }
 
-impl<W: Target, E: Endianness> Stage for BitWriter<W, E> {
-    fn call(&mut self, alloc: Global, call: &Call<'_>) -> Result<String, Objection> {
-        write_call(alloc, self, call)
+impl<P: BitWrite, Q: BitWrite, R: BitWrite> Stage for Trio<P, Q, R> {
+    fn call(&mut self, alloc: Global, call: &Call<'_>, want: &str) -> Result<bool, Objection> {
+        sink_call(alloc, self, call, want)
     }
 }
 
 impl<R: Source, E: Endianness> Stage for ByteReader<R, E> {
-    fn call(&mut self, alloc: Global, call: &Call<'_>) -> Result<String, Objection> {
-        read_whole(alloc, self, call)
+    fn call(&mut self, alloc: Global, call: &Call<'_>, want: &str) -> Result<bool, Objection> {
+        read_whole(alloc, self, call, want)
     }
 }
 
 impl<W: Target, E: Endianness> Stage for ByteWriter<W, E> {
-    fn call(&mut self, alloc: Global, call: &Call<'_>) -> Result<String, Objection> {
-        accepted(alloc, write_whole(alloc, self, call)?)
+    fn call(&mut self, alloc: Global, call: &Call<'_>, want: &str) -> Result<bool, Objection> {
+        Ok(is_done(want, &write_whole(alloc, self, call)?))
     }
 }
 
-/// Makes calls of a row one behind the other, and objects to the first answer that differs.
+/// Makes calls of a row.
 fn make_calls<S: Stage>(
     alloc: Global,
     stage: &mut S,
@@ -127,80 +129,27 @@ fn make_calls<S: Stage>(
     way: Way,
 ) -> Result<(), Objection> {
     for (at, call) in calls.iter().enumerate() {
-        let answer = stage.call(alloc, call)?;
-        agrees(
-            answer.as_str() == way.answer(row, at, call),
-            way.difference(),
-        )?;
+        let same = stage.call(alloc, call, way.answer(row, at, call))?;
+        agrees(same, way.difference())?;
     }
     Ok(())
 }
 
-/// Makes read calls of a row on a stream. Gives how many requests they made, and how many were
-/// refused.
-fn read_over<S: Read + Drop, E: Endianness + Drop>(
-    alloc: Global,
-    stream: S,
-    row: &Row<'_>,
-    calls: &[Call<'_>],
-    way: Way,
-) -> Result<(u64, u64), Objection> {
-    let mut count = Count {
-        inner: stream,
-        requests: 0,
-        refused: 0,
-    };
-    match row.layer {
-        Layer::Bits => {
-            let mut reader = BitReader::<_, E>::new(&mut count);
-            make_calls(alloc, &mut reader, row, calls, way)?;
-        }
-        Layer::Bytes => {
-            let mut reader = ByteReader::<_, E>::new(&mut count);
-            make_calls(alloc, &mut reader, row, calls, way)?;
-        }
-    }
-    Ok((count.requests, count.refused))
-}
-
-/// Makes write calls of a row on a stream. Gives how many requests they made, and how many were
-/// refused.
-fn write_over<S: Write + Drop, E: Endianness + Drop>(
-    alloc: Global,
-    stream: S,
-    row: &Row<'_>,
-    calls: &[Call<'_>],
-    way: Way,
-) -> Result<(u64, u64), Objection> {
-    let mut count = Count {
-        inner: stream,
-        requests: 0,
-        refused: 0,
-    };
-    match row.layer {
-        Layer::Bits => {
-            let mut writer = BitWriter::<_, E>::new(&mut count);
-            make_calls(alloc, &mut writer, row, calls, way)?;
-        }
-        Layer::Bytes => {
-            let mut writer = ByteWriter::<_, E>::new(&mut count);
-            make_calls(alloc, &mut writer, row, calls, way)?;
-        }
-    }
-    Ok((count.requests, count.refused))
-}
-
 /// A stream that does what a way says.
-fn stream_of<S>(inner: S, way: Way) -> Refuse<Drip<S>> {
+fn stream_of<S>(inner: S, way: Way) -> Count<Refuse<Drip<S>>> {
     let drips = matches!(way, Way::Dripped);
     let (left, kind) = match way {
         Way::Refused(fault) => (fault.served, fault.kind),
         _ => (u32::MAX, ErrorKind::Other),
     };
-    Refuse {
-        inner: Drip { inner, drips },
-        left,
-        kind,
+    Count {
+        inner: Refuse {
+            inner: Drip { inner, drips },
+            left,
+            kind,
+        },
+        requests: 0,
+        refused: 0,
     }
 }
 
@@ -212,13 +161,78 @@ fn read_bytes<E: Endianness + Drop>(
     way: Way,
 ) -> Result<Moved, Objection> {
     let mut left = row.bytes.as_slice();
-    let stream = stream_of(&mut left, way);
-    let (requests, refused) = read_over::<_, E>(alloc, stream, row, calls, way)?;
+    let mut stream = stream_of(&mut left, way);
+    match row.layer {
+        Layer::Bits => {
+            let mut reader = BitReader::<_, E>::new(&mut stream);
+            make_calls(alloc, &mut reader, row, calls, way)?;
+        }
+        Layer::Bytes => {
+            let mut reader = ByteReader::<_, E>::new(&mut stream);
+            make_calls(alloc, &mut reader, row, calls, way)?;
+        }
+    }
     Ok(Moved {
-        requests,
-        refused,
+        requests: stream.requests,
+        refused: stream.refused,
         bytes: row.bytes.len().saturating_sub(left.len()),
     })
+}
+
+/// Objects where a counter and a recorder do not hold the bits that were written, of which these are
+/// the whole bytes.
+fn hold_bits<E: Endianness>(
+    alloc: Global,
+    counter: &BitsWritten<u32>,
+    recorder: &Recorder<E>,
+    written: &[u8],
+) -> Result<(), Objection> {
+    let bits = counter.written();
+    let recorded = matches!(recorder.written_checked(), Ok(recorded) if recorded == bits);
+    let mut played: Vec<u8> = Vec::new(alloc);
+    let mut writer = BitWriter::<_, E>::new(&mut played);
+    let answer = recorder.playback(&mut writer);
+    let same = is_done("ok", &answer) && played.as_slice() == written;
+    let counted = (bits / 8) as usize == written.len();
+    agrees(recorded && same && counted, Difference::Beside)
+}
+
+/// Makes write calls on a writer of bits, on a counter and on a recorder. Gives how many requests they
+/// made, and how many were refused.
+fn write_beside<E: Endianness + Drop>(
+    alloc: Global,
+    written: &mut Vec<u8>,
+    row: &Row<'_>,
+    calls: &[Call<'_>],
+    way: Way,
+) -> Result<(u64, u64), Objection> {
+    let mut stream = stream_of(&mut *written, way);
+    let (mut counter, mut recorder) = (BitsWritten::<u32>::new(), Recorder::<E>::new(alloc));
+    let writer = BitWriter::<_, E>::new(&mut stream);
+    let mut sink = Trio::new(writer, &mut counter, &mut recorder);
+    make_calls(alloc, &mut sink, row, calls, way)?;
+    let agree = sink.agree;
+    let moved = (stream.requests, stream.refused);
+    if !matches!(way, Way::Refused(_)) {
+        agrees(agree, Difference::Beside)?;
+        hold_bits(alloc, &counter, &recorder, written.as_slice())?;
+    }
+    Ok(moved)
+}
+
+/// Makes write calls on a writer of bytes. Gives how many requests they made, and how many were
+/// refused.
+fn write_whole_bytes<E: Endianness>(
+    alloc: Global,
+    written: &mut Vec<u8>,
+    row: &Row<'_>,
+    calls: &[Call<'_>],
+    way: Way,
+) -> Result<(u64, u64), Objection> {
+    let mut stream = stream_of(written, way);
+    let mut writer = ByteWriter::<_, E>::new(&mut stream);
+    make_calls(alloc, &mut writer, row, calls, way)?;
+    Ok((stream.requests, stream.refused))
 }
 
 /// Makes write calls, whose bytes are a beginning of those that a row has.
@@ -229,8 +243,10 @@ fn write_bytes<E: Endianness + Drop>(
     way: Way,
 ) -> Result<Moved, Objection> {
     let mut written: Vec<u8> = Vec::new(alloc);
-    let stream = stream_of(&mut written, way);
-    let (requests, refused) = write_over::<_, E>(alloc, stream, row, calls, way)?;
+    let (requests, refused) = match row.layer {
+        Layer::Bits => write_beside::<E>(alloc, &mut written, row, calls, way)?,
+        Layer::Bytes => write_whole_bytes::<E>(alloc, &mut written, row, calls, way)?,
+    };
     let begins = row.bytes.starts_with(written.as_slice());
     agrees(begins, Difference::Bytes)?;
     Ok(Moved {

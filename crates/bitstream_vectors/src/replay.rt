@@ -1,7 +1,9 @@
 //! Rows played in each way.
 use crate::call::Call;
+use crate::counts::play_count;
 use crate::objection::{Difference, Objection, agrees};
 use crate::play::{Fault, Moved, Way, play};
+use crate::records::play_record;
 use crate::row::{Kind, Layer, Order, Row};
 use std::alloc::Global;
 use std::io::ErrorKind;
@@ -20,18 +22,35 @@ const WRITE_FAULTS: [ErrorKind; 3] = [
     ErrorKind::UnexpectedEof,
 ];
 
-/// Plays a row as it is, over a stream that drips, and over streams that refuse from each of its
-/// requests on.
+/// Plays a row.
 ///
 /// # Errors
 ///
 /// The first thing that is not as the row says.
 pub fn replay(alloc: Global, line: &str) -> Result<(), Objection> {
-    let row = Row::parse(alloc, line)?;
-    let steps = steps_of(alloc, &row)?;
-    play_whole(alloc, &row, Way::Plain)?;
-    play_whole(alloc, &row, Way::Dripped)?;
-    refuse_each(alloc, &row, &steps)
+    let columns: Vec<&str> = line.split('\t').collect(alloc)?;
+    match columns.as_slice() {
+        ["count", kind, calls, "-", after] => play_count(alloc, kind, calls, after),
+        ["record", order, calls, bytes, after] => play_record(alloc, order, calls, bytes, after),
+        [kind, order, calls, bytes] => play_stream(
+            alloc,
+            &Row::parse(alloc, kind, order, calls, bytes, "")?,
+        ),
+        [kind, order, calls, bytes, after] => play_stream(
+            alloc,
+            &Row::parse(alloc, kind, order, calls, bytes, after)?,
+        ),
+        _ => Err(Objection::BAD_FORM),
+    }
+}
+
+/// Plays a row as it is, over a stream that drips, and over streams that refuse from each of its
+/// requests on.
+fn play_stream(alloc: Global, row: &Row<'_>) -> Result<(), Objection> {
+    let steps = steps_of(alloc, row)?;
+    play_whole(alloc, row, Way::Plain)?;
+    play_whole(alloc, row, Way::Dripped)?;
+    refuse_each(alloc, row, &steps)
 }
 
 /// What the calls before each call move, and then what all of them do.
@@ -75,7 +94,7 @@ fn agrees_with<T: Copy + PartialEq>(
     }
 }
 
-/// Objects where a row's calls take other than so many bits: the bits that are left follow one by
+/// Objects where a row's calls take other than the given number of bits: the bits that are left follow one by
 /// one, and then the input ends.
 fn stands_at(
     alloc: Global,
@@ -126,7 +145,7 @@ fn refuse_each(alloc: Global, row: &Row<'_>, steps: &[Moved]) -> Result<(), Obje
     Ok(())
 }
 
-/// Plays a row over streams that serve so many requests, and refuse each later one.
+/// Plays a row over streams that serve the given number of requests, and refuse each later one.
 fn refuse(alloc: Global, row: &Row<'_>, steps: &[Moved], served: u64) -> Result<(), Objection> {
     let call = steps
         .iter()

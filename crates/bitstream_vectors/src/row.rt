@@ -54,19 +54,20 @@ pub struct After {
 }
 
 impl<'a> Row<'a> {
-    /// The row of a line: its kind, order, calls, bytes and, where it has more to say, what holds
-    /// after the calls, apart by tabs.
+    /// The row of a kind, an order, calls, bytes and, if it has more to say, what holds after the
+    /// calls.
     ///
     /// # Errors
     ///
-    /// `NotYet` where a call is still to come, else that the row is of a bad form.
-    pub fn parse(alloc: Global, line: &'a str) -> Result<Row<'a>, Objection> {
-        let columns: Vec<&'a str> = line.split('\t').collect(alloc)?;
-        let (kind, order, calls, bytes, after) = match columns.as_slice() {
-            [kind, order, calls, bytes] => (*kind, *order, *calls, *bytes, ""),
-            [kind, order, calls, bytes, after] => (*kind, *order, *calls, *bytes, *after),
-            _ => return Err(Objection::BAD_FORM),
-        };
+    /// That the row is of a bad form.
+    pub fn parse(
+        alloc: Global,
+        kind: &str,
+        order: &str,
+        calls: &'a str,
+        bytes: &str,
+        after: &str,
+    ) -> Result<Row<'a>, Objection> {
         let (layer, kind) = kind_of(kind)?;
         let order = order_of(order)?;
         let bytes = bytes_of(alloc, bytes)?;
@@ -99,7 +100,8 @@ fn kind_of(name: &str) -> Result<(Layer, Kind), Objection> {
     }
 }
 
-fn order_of(name: &str) -> Result<Order, Objection> {
+/// The order that a name spells.
+pub fn order_of(name: &str) -> Result<Order, Objection> {
     match name {
         "be" => Ok(Order::Big),
         "le" => Ok(Order::Little),
@@ -107,22 +109,13 @@ fn order_of(name: &str) -> Result<Order, Objection> {
     }
 }
 
-/// The calls of a list. A call of a bad form is named before one that is still to come, and of those
-/// the first.
-fn calls_of<'a>(alloc: Global, kind: Kind, list: &'a str) -> Result<Vec<Call<'a>>, Objection> {
+/// The calls of a list.
+pub fn calls_of<'a>(alloc: Global, kind: Kind, list: &'a str) -> Result<Vec<Call<'a>>, Objection> {
     let mut calls = Vec::new(alloc);
-    let mut to_come = None;
     for spelled in list.split(';') {
-        match Call::parse(alloc, kind, spelled) {
-            Ok(call) => calls.push(call)?,
-            Err(Objection::NotYet(call)) => to_come = to_come.or(Some(call)),
-            Err(objection) => return Err(objection),
-        }
+        calls.push(Call::parse(alloc, kind, spelled)?)?;
     }
-    match to_come {
-        Some(call) => Err(Objection::NotYet(call)),
-        None => Ok(calls),
-    }
+    Ok(calls)
 }
 
 impl After {

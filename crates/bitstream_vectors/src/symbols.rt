@@ -1,9 +1,8 @@
 //! Calls for symbols of prefix codes, by the codes that the rows name.
-use crate::answer::{Answer, shown};
+use crate::answer::{Answer, is_number, is_optional};
 use crate::call::number;
 use crate::form::Tree;
 use crate::objection::Objection;
-use crate::reads::shown_or_none;
 use bitstream_io::huffman::{HuffmanTree, LimitedUnary};
 use bitstream_io::{BitRead, BitReadExt, BitWrite, BitWriteExt};
 use std::alloc::{AllocError, Global};
@@ -36,13 +35,14 @@ fn code(alloc: Global, tree: Tree) -> Result<Code, AllocError> {
     }
 }
 
-/// Reads a symbol of a tree, and spells the answer.
+/// Reads a symbol of a tree, and tells whether it answers so.
 pub fn read_symbol<R: BitRead>(
     alloc: Global,
     reader: &mut R,
     tree: Tree,
-) -> Result<String, Objection> {
-    shown(alloc, reader.read_huffman(&code(alloc, tree)?))
+    want: &str,
+) -> Result<bool, Objection> {
+    Ok(is_number(want, reader.read_huffman(&code(alloc, tree)?)))
 }
 
 /// Writes the symbol of a tree that a text spells.
@@ -50,13 +50,13 @@ pub fn write_symbol<W: BitWrite>(alloc: Global, writer: &mut W, tree: Tree, valu
     Ok(writer.write_huffman(&code(alloc, tree)?, number(value)?))
 }
 
-/// Reads a run of at most so many digits, and spells the answer.
+/// Reads a run of at most the given number of digits, and tells whether it answers so.
 pub fn read_limited<R: BitRead>(
-    alloc: Global,
     reader: &mut R,
     stop: bool,
     most: u32,
-) -> Result<String, Objection> {
+    want: &str,
+) -> Result<bool, Objection> {
     let answer = match (stop, most) {
         (false, 0) => reader.read_huffman(&LimitedUnary::<0, 0> {}),
         (false, 3) => reader.read_huffman(&LimitedUnary::<0, 3> {}),
@@ -65,10 +65,10 @@ pub fn read_limited<R: BitRead>(
         (true, 10) => reader.read_huffman(&LimitedUnary::<1, 10> {}),
         _ => return Err(Objection::UNLISTED),
     };
-    shown_or_none(alloc, answer)
+    Ok(is_optional(want, answer))
 }
 
-/// Writes the run of at most so many digits that a text spells: a number, or none.
+/// Writes the run of at most the given number of digits that a text spells: a number, or none.
 pub fn write_limited<W: BitWrite>(writer: &mut W, stop: bool, most: u32, value: &str) -> Answer {
     let run: Option<u32> = match value {
         "none" => None,

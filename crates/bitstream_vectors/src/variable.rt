@@ -1,37 +1,37 @@
 //! Calls for numbers of variable width, at the sizes of groups that the rows have.
-use crate::answer::{Answer, shown};
+use crate::answer::{Answer, is_number, is_optional};
 use crate::call::number;
 use crate::form::{Grouped, Size};
 use crate::objection::Objection;
-use crate::reads::{shown_or_none, shown_pair};
+use crate::reads::is_pair;
 use crate::writes::pair_of;
 use bitstream_io::{BitRead, BitReadExt, BitWrite, BitWriteExt, Bits, VBRInteger, Width};
-use std::alloc::Global;
-use std::fmt::Display;
 use std::num::{NonZero, ParseIntError};
 use std::str::FromStr;
 
 /// Reads a value of a type of one size in groups of as many bits as F says: U is the type of what
 /// is not below 0, S of what may be, and N of what is not 0.
-fn read_in<F: Width, U: VBRInteger + Display + Drop, S: VBRInteger + Display + Drop, N, R: BitRead>(
-    alloc: Global,
+fn read_in<F: Width, U, S, N, R: BitRead>(
     reader: &mut R,
     value: Grouped,
-) -> Result<String, Objection>
+    want: &str,
+) -> Result<bool, Objection>
 where
-    N: VBRInteger + Display + Drop,
+    U: VBRInteger + FromStr<Err = ParseIntError> + PartialEq + Drop,
+    S: VBRInteger + FromStr<Err = ParseIntError> + PartialEq + Drop,
+    N: VBRInteger + FromStr<Err = ParseIntError> + PartialEq + Drop,
     Option<N>: VBRInteger,
     requires unsigned { U.IsFieldSize F.BITS }
     requires signed { S.IsFieldSize F.BITS }
     requires non_zero { N.IsFieldSize F.BITS }
     requires optional { ⟦<Option<N> as VBRInteger>⟧.IsFieldSize F.BITS }
 {
-    match value {
-        Grouped::Unsigned => shown(alloc, reader.read_vbr::<F, U>()),
-        Grouped::Signed => shown(alloc, reader.read_vbr::<F, S>()),
-        Grouped::NonZero => shown(alloc, reader.read_vbr::<F, N>()),
-        Grouped::Optional => shown_or_none(alloc, reader.read_vbr::<F, Option<N>>()),
-    }
+    Ok(match value {
+        Grouped::Unsigned => is_number(want, reader.read_vbr::<F, U>()),
+        Grouped::Signed => is_number(want, reader.read_vbr::<F, S>()),
+        Grouped::NonZero => is_number(want, reader.read_vbr::<F, N>()),
+        Grouped::Optional => is_optional(want, reader.read_vbr::<F, Option<N>>()),
+    })
 }
 
 /// The value that a text spells, or none where it spells 0.
@@ -89,18 +89,18 @@ macro_rules! in_fields {
     };
 }
 
-/// Reads a value in groups of so many bits, and spells the answer.
+/// Reads a value in groups of the given number of bits, and tells whether it answers so.
 pub fn read_variable<R: BitRead>(
-    alloc: Global,
     reader: &mut R,
     value: Grouped,
     size: Size,
     field: u32,
-) -> Result<String, Objection> {
-    in_fields!(size, field, read_in, (alloc, reader, value))
+    want: &str,
+) -> Result<bool, Objection> {
+    in_fields!(size, field, read_in, (reader, value, want))
 }
 
-/// Writes the value that a text spells in groups of so many bits.
+/// Writes the value that a text spells in groups of the given number of bits.
 pub fn write_variable<W: BitWrite>(
     writer: &mut W,
     kind: Grouped,
@@ -111,19 +111,19 @@ pub fn write_variable<W: BitWrite>(
     in_fields!(size, field, write_in, (writer, kind, value))
 }
 
-/// Reads two of `u8` in groups of so many bits, and spells the answer.
+/// Reads two of `u8` in groups of the given number of bits, and tells whether it answers so.
 pub fn read_variable_pair<R: BitRead>(
-    alloc: Global,
     reader: &mut R,
     field: u32,
-) -> Result<String, Objection> {
+    want: &str,
+) -> Result<bool, Objection> {
     match field {
-        4 => shown_pair(alloc, reader.read_vbr::<Bits<4>, [u8; 2]>()),
+        4 => is_pair(want, reader.read_vbr::<Bits<4>, [u8; 2]>()),
         _ => Err(Objection::UNLISTED),
     }
 }
 
-/// Writes the two of `u8` that a text spells in groups of so many bits.
+/// Writes the two of `u8` that a text spells in groups of the given number of bits.
 pub fn write_variable_pair<W: BitWrite>(writer: &mut W, field: u32, value: &str) -> Answer {
     match field {
         4 => Ok(writer.write_vbr::<Bits<4>, [u8; 2]>(pair_of(value)?)),

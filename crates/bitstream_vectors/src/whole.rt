@@ -1,14 +1,14 @@
 //! Calls for whole bytes, which readers and writers of bits and those of bytes have alike.
-use crate::answer::{Answer, accepted, bytes_of, refused, shown, text};
+use crate::answer::{Answer, bytes_of, error_name, is_done, is_number};
 use crate::call::{Call, number};
 use crate::form::{ByteOrder, Form, Number, Size};
 use crate::objection::Objection;
+use crate::trio::{Trio, note};
 use bitstream_io::{
-    BE, BitRead, BitReader, BitWrite, BitWriter, ByteRead, ByteReader, ByteWrite, ByteWriter,
-    Endianness, Error, LE, Primitive, Source, Target,
+    BE, BitRead, BitReader, BitWrite, ByteRead, ByteReader, ByteWrite, ByteWriter, Endianness,
+    Error, LE, Primitive, Source, Target,
 };
 use std::alloc::Global;
-use std::fmt::Display;
 use std::num::ParseIntError;
 use std::str::FromStr;
 
@@ -20,10 +20,10 @@ pub trait WholeRead {
     /// Fills a buffer.
     fn fill(&mut self, buf: &mut [u8]) -> Result<(), Error>;
 
-    /// Reads a vector of so many bytes.
+    /// Reads a vector of the given number of bytes.
     fn vector(&mut self, alloc: Global, bytes: u32) -> Result<Vec<u8>, Error>;
 
-    /// Skips so many bits or bytes, as its layer counts.
+    /// Skips the given number of bits or bytes, as its layer counts.
     fn pass(&mut self, count: u32) -> Result<(), Error>;
 }
 
@@ -74,22 +74,38 @@ impl<R: Source, E: Endianness> WholeRead for ByteReader<R, E> {
 /// Writes whole bytes, by the calls of its layer.
 pub trait WholeWrite {
     /// Writes a primitive in an order of bytes.
-    fn primitive<V: Primitive>(&mut self, order: ByteOrder, value: V) -> Result<(), Error>;
+    fn primitive<V: Primitive + Copy>(&mut self, order: ByteOrder, value: V) -> Result<(), Error>;
 
     /// Writes the bytes of a buffer.
     fn send(&mut self, bytes: &[u8]) -> Result<(), Error>;
 
-    /// Writes so many zeros, bits or bytes, as its layer counts.
+    /// Writes the given number of zeros, bits or bytes, as its layer counts.
     fn zeros(&mut self, count: u32) -> Result<(), Error>;
 }
 
-impl<W: Target, E: Endianness> WholeWrite for BitWriter<W, E> {
-    fn primitive<V: Primitive>(&mut self, order: ByteOrder, value: V) -> Result<(), Error> {
-        match order {
-            ByteOrder::Own => self.write_from::<V>(value),
-            ByteOrder::Big => self.write_as_from::<BE, V>(value),
-            ByteOrder::Little => self.write_as_from::<LE, V>(value),
-        }
+/// Writes a primitive in an order of bytes.
+fn write_in<V: Primitive, W: BitWrite>(
+    writer: &mut W,
+    order: ByteOrder,
+    value: V,
+) -> Result<(), Error> {
+    match order {
+        ByteOrder::Own => writer.write_from::<V>(value),
+        ByteOrder::Big => writer.write_as_from::<BE, V>(value),
+        ByteOrder::Little => writer.write_as_from::<LE, V>(value),
+    }
+}
+
+impl<P: BitWrite, Q: BitWrite, R: BitWrite> WholeWrite for Trio<P, Q, R> {
+    fn primitive<V: Primitive + Copy>(&mut self, order: ByteOrder, value: V) -> Result<(), Error> {
+        let answer = write_in(&mut self.first, order, value);
+        let second = write_in(&mut self.second, order, value);
+        note(
+            &mut self.agree,
+            &answer,
+            [second, write_in(&mut self.third, order, value)],
+        );
+        answer
     }
 
     fn send(&mut self, bytes: &[u8]) -> Result<(), Error> {
@@ -102,7 +118,7 @@ impl<W: Target, E: Endianness> WholeWrite for BitWriter<W, E> {
 }
 
 impl<W: Target, E: Endianness> WholeWrite for ByteWriter<W, E> {
-    fn primitive<V: Primitive>(&mut self, order: ByteOrder, value: V) -> Result<(), Error> {
+    fn primitive<V: Primitive + Copy>(&mut self, order: ByteOrder, value: V) -> Result<(), Error> {
         match order {
             ByteOrder::Own => self.write::<V>(value),
             ByteOrder::Big => self.write_as::<BE, V>(value),
@@ -119,43 +135,33 @@ impl<W: Target, E: Endianness> WholeWrite for ByteWriter<W, E> {
     }
 }
 
-/// Makes a read call for whole bytes, and spells its answer.
+/// Makes a read call for whole bytes, and tells whether it answers so.
 pub fn read_whole<R: WholeRead>(
     alloc: Global,
     reader: &mut R,
     call: &Call<'_>,
-) -> Result<String, Objection> {
+    want: &str,
+) -> Result<bool, Objection> {
     match call.form {
-        Form::Bytes => read_buffer(alloc, reader, call.bits),
-        Form::Skip => accepted(alloc, reader.pass(call.bits)),
-        Form::Vector => read_vector(alloc, reader, call.bits),
-        Form::Whole(order, number) => read_number(alloc, reader, order, number),
+        Form::Bytes => read_buffer(alloc, reader, call.bits, want),
+        Form::Skip => Ok(is_done(want, &reader.pass(call.bits))),
+        Form::Vector => read_vector(alloc, reader, call.bits, want),
+        Form::Whole(order, number) => Ok(read_number(reader, order, number, want)),
         _ => Err(Objection::BAD_FORM),
     }
-}
-
-/// Bytes as hexadecimal digits; `-` for none.
-fn shown_hex(alloc: Global, bytes: &[u8]) -> Result<String, Objection> {
-    if bytes.is_empty() {
-        return text(alloc, "-");
-    }
-    let mut digits = String::new(alloc);
-    for byte in bytes {
-        digits.push_str(format!(in alloc; "{byte:02X}")?.as_str())?;
-    }
-    Ok(digits)
 }
 
 fn read_buffer<R: WholeRead>(
     alloc: Global,
     reader: &mut R,
     bytes: u32,
-) -> Result<String, Objection> {
+    want: &str,
+) -> Result<bool, Objection> {
     let mut buf: Vec<u8> = Vec::new(alloc);
     buf.resize(bytes as usize, 0)?;
     match reader.fill(buf.as_mut_slice()) {
-        Ok(()) => shown_hex(alloc, buf.as_slice()),
-        Err(error) => refused(alloc, error),
+        Ok(()) => Ok(bytes_of(alloc, want)?.as_slice() == buf.as_slice()),
+        Err(error) => Ok(want == error_name(&error)),
     }
 }
 
@@ -163,31 +169,27 @@ fn read_vector<R: WholeRead>(
     alloc: Global,
     reader: &mut R,
     bytes: u32,
-) -> Result<String, Objection> {
+    want: &str,
+) -> Result<bool, Objection> {
     match reader.vector(alloc, bytes) {
-        Ok(buf) => shown_hex(alloc, buf.as_slice()),
-        Err(error) => refused(alloc, error),
+        Ok(buf) => Ok(bytes_of(alloc, want)?.as_slice() == buf.as_slice()),
+        Err(error) => Ok(want == error_name(&error)),
     }
 }
 
 /// Reads a primitive in an order of bytes.
-fn read_primitive<V: Primitive + Display + Drop, R: WholeRead>(
-    alloc: Global,
+fn read_primitive<V: Primitive + FromStr<Err = ParseIntError> + PartialEq + Drop, R: WholeRead>(
     reader: &mut R,
     order: ByteOrder,
-) -> Result<String, Objection> {
-    shown(alloc, reader.primitive::<V>(order))
+    want: &str,
+) -> bool {
+    is_number(want, reader.primitive::<V>(order))
 }
 
-fn read_number<R: WholeRead>(
-    alloc: Global,
-    reader: &mut R,
-    order: ByteOrder,
-    number: Number,
-) -> Result<String, Objection> {
+fn read_number<R: WholeRead>(reader: &mut R, order: ByteOrder, number: Number, want: &str) -> bool {
     match number {
-        Number::Unsigned(size) => unsigned!(size, read_primitive(alloc, reader, order)),
-        Number::Signed(size) => signed!(size, read_primitive(alloc, reader, order)),
+        Number::Unsigned(size) => unsigned!(size, read_primitive(reader, order, want)),
+        Number::Signed(size) => signed!(size, read_primitive(reader, order, want)),
     }
 }
 
@@ -203,7 +205,7 @@ pub fn write_whole<W: WholeWrite>(alloc: Global, writer: &mut W, call: &Call<'_>
 }
 
 /// Writes the primitive that a text spells, in an order of bytes.
-fn write_primitive<V: Primitive + FromStr<Err = ParseIntError>, W: WholeWrite>(
+fn write_primitive<V: Primitive + Copy + FromStr<Err = ParseIntError>, W: WholeWrite>(
     writer: &mut W,
     order: ByteOrder,
     value: &str,

@@ -1,34 +1,37 @@
 //! Write calls of the rows.
 ghost use Rattle.std.specs.Prelude.{◌≡◌, ◌≤◌, ◌<◌, ◌^◌, ◌⊎◌};
 
-use crate::answer::{Answer, accepted, bytes_of, text};
+use crate::answer::{Answer, bytes_of, is_done};
 use crate::call::{Call, number};
+use crate::checked::write_checked;
 use crate::fixed::write_fixed;
 use crate::form::{Form, Items, Number, Size};
 use crate::objection::Objection;
 use crate::symbols::{write_limited, write_symbol};
 use crate::variable::{write_variable, write_variable_pair};
 use crate::whole::{WholeWrite, write_whole};
-use bitstream_io::{
-    BitCount, BitWrite, BitWriteExt, Bits, Error, Integer, SignedInteger, UnsignedInteger, Width,
-};
+use bitstream_io::{BitCount, BitWrite, BitWriteExt, Bits, Integer, Width};
 use std::alloc::Global;
 use std::num::{NonZero, ParseIntError};
 use std::str::FromStr;
 
-/// Makes a write call, and spells its answer.
+/// Makes a write call, and tells whether it answers so.
 pub fn write_call<W: BitWrite + WholeWrite>(
     alloc: Global,
     writer: &mut W,
     call: &Call<'_>,
-) -> Result<String, Objection> {
+    want: &str,
+) -> Result<bool, Objection> {
     let (bits, value) = (call.bits, call.value);
     let answer = match call.form {
         Form::Align => Ok(writer.byte_align()),
-        Form::Aligned => return text(alloc, if writer.byte_aligned() { "yes" } else { "no" }),
+        Form::Aligned => {
+            return Ok(want == if writer.byte_aligned() { "yes" } else { "no" });
+        }
         Form::Array(items) => write_array(alloc, writer, items, bits, value),
-        Form::Bit => write_bit(writer, bits),
-        Form::Bool => write_bool(writer, bits, value),
+        Form::Bit => Ok(writer.write_bit(truth(value)?)),
+        Form::Bool => Ok(writer.write_var(bits, truth(value)?)),
+        Form::Checked(number) => write_checked(writer, number, bits, value),
         Form::Const => write_const(writer, bits, number(value)?),
         Form::Count => write_count(writer, bits, number(value)?),
         Form::Counted(number) => write_counted(writer, number, bits, value),
@@ -37,47 +40,22 @@ pub fn write_call<W: BitWrite + WholeWrite>(
         Form::NonZero(size) => write_non_zero(writer, size, bits, value),
         Form::Optional(size) => write_optional(writer, size, bits, value),
         Form::Prefix(tree) => write_symbol(alloc, writer, tree, value),
-        Form::Unary(stop) => Ok(write_unary(writer, stop, bits)),
+        Form::Unary(false) => Ok(writer.write_unary::<Bits<0>>(number(value)?)),
+        Form::Unary(true) => Ok(writer.write_unary::<Bits<1>>(number(value)?)),
         Form::Value(number) => write_number(writer, number, bits, value),
         Form::Variable(kind, size, field) => write_variable(writer, kind, size, field, value),
         Form::VariablePair(field) => write_variable_pair(writer, field, value),
         Form::Word(number) => write_word(writer, number, bits, value),
-        Form::Bytes | Form::Pad | Form::Skip | Form::Vector | Form::Whole(_, _) => {
-            write_whole(alloc, writer, call)
-        }
+        _ => write_whole(alloc, writer, call),
     };
-    accepted(alloc, answer?)
+    Ok(is_done(want, &answer?))
 }
 
 /// The truth that a binary digit spells.
-fn truth(digit: char) -> Result<bool, Objection> {
+fn truth(digit: &str) -> Result<bool, Objection> {
     match digit {
-        '0' => Ok(false),
-        '1' => Ok(true),
-        _ => Err(Objection::BAD_FORM),
-    }
-}
-
-fn write_bit<W: BitWrite>(writer: &mut W, bit: u32) -> Answer {
-    match bit {
-        0 => Ok(writer.write_bit(false)),
-        1 => Ok(writer.write_bit(true)),
-        _ => Err(Objection::BAD_FORM),
-    }
-}
-
-fn write_unary<W: BitWrite>(writer: &mut W, stop: bool, run: u32) -> Result<(), Error> {
-    if stop {
-        writer.write_unary::<Bits<1>>(run)
-    } else {
-        writer.write_unary::<Bits<0>>(run)
-    }
-}
-
-fn write_bool<W: BitWrite>(writer: &mut W, bits: u32, value: &str) -> Answer {
-    match value {
-        "0" => Ok(writer.write_var(bits, false)),
-        "1" => Ok(writer.write_var(bits, true)),
+        "0" => Ok(false),
+        "1" => Ok(true),
         _ => Err(Objection::BAD_FORM),
     }
 }
@@ -98,45 +76,33 @@ fn write_number<W: BitWrite>(writer: &mut W, number: Number, bits: u32, value: &
     }
 }
 
-/// Writes the value that a text spells in a number of bits that is known to be no more than 128.
-fn write_value_counted<I: Integer + FromStr<Err = ParseIntError>, W: BitWrite>(
-    writer: &mut W,
-    bits: BitCount<128>,
-    value: &str,
-) -> Answer {
-    Ok(writer.write_counted::<BitCount<128>, I>(bits, number(value)?))
-}
-
-fn write_counted<W: BitWrite>(writer: &mut W, number: Number, bits: u32, value: &str) -> Answer {
+/// Writes a number in a number of bits that is known to be no more than 128, at the types that the
+/// rows have.
+fn write_counted<W: BitWrite>(writer: &mut W, kind: Number, bits: u32, value: &str) -> Answer {
     let Ok(count) = BitCount::<128>::try_from(bits) else {
         return Err(Objection::BAD_FORM);
     };
-    match number {
-        Number::Unsigned(size) => unsigned!(size, write_value_counted(writer, count, value)),
-        Number::Signed(size) => signed!(size, write_value_counted(writer, count, value)),
+    match kind {
+        Number::Unsigned(Size::Bits8) => Ok(writer.write_counted::<_, u8>(count, number(value)?)),
+        Number::Unsigned(Size::Bits16) => Ok(writer.write_counted::<_, u16>(count, number(value)?)),
+        Number::Signed(Size::Bits8) => Ok(writer.write_counted::<_, i8>(count, number(value)?)),
+        _ => Err(Objection::UNLISTED),
     }
 }
 
-fn write_unsigned_word<U: UnsignedInteger + FromStr<Err = ParseIntError>, W: BitWrite>(
-    writer: &mut W,
-    bits: u32,
-    value: &str,
-) -> Answer {
-    Ok(writer.write_unsigned_var::<U>(bits, number(value)?))
-}
-
-fn write_signed_word<S: SignedInteger + FromStr<Err = ParseIntError>, W: BitWrite>(
-    writer: &mut W,
-    bits: u32,
-    value: &str,
-) -> Answer {
-    Ok(writer.write_signed_var::<S>(bits, number(value)?))
-}
-
-fn write_word<W: BitWrite>(writer: &mut W, number: Number, bits: u32, value: &str) -> Answer {
-    match number {
-        Number::Unsigned(size) => unsigned!(size, write_unsigned_word(writer, bits, value)),
-        Number::Signed(size) => signed!(size, write_signed_word(writer, bits, value)),
+/// Writes a number by the calls for words alone, at the types that the rows have.
+fn write_word<W: BitWrite>(writer: &mut W, kind: Number, bits: u32, value: &str) -> Answer {
+    match kind {
+        Number::Unsigned(Size::Bits8) => Ok(writer.write_unsigned_var::<u8>(bits, number(value)?)),
+        Number::Unsigned(Size::Bits32) => {
+            Ok(writer.write_unsigned_var::<u32>(bits, number(value)?))
+        }
+        Number::Unsigned(Size::Bits128) => {
+            Ok(writer.write_unsigned_var::<u128>(bits, number(value)?))
+        }
+        Number::Signed(Size::Bits8) => Ok(writer.write_signed_var::<i8>(bits, number(value)?)),
+        Number::Signed(Size::Bits32) => Ok(writer.write_signed_var::<i32>(bits, number(value)?)),
+        _ => Err(Objection::UNLISTED),
     }
 }
 
@@ -170,9 +136,10 @@ fn write_array<W: BitWrite>(
 ) -> Answer {
     match items {
         Items::Bytes => write_bytes(alloc, writer, bits, value),
-        Items::None => write_nothing(writer, bits, value),
+        Items::None if value == "-" => Ok(writer.write_var::<[u8; 0]>(bits, [])),
+        Items::None => Err(Objection::BAD_FORM),
         Items::Signed => Ok(writer.write_var::<[i8; 2]>(bits, pair_of(value)?)),
-        Items::Truths => write_truths(alloc, writer, bits, value),
+        Items::Truths => Ok(writer.write_var::<[bool; 4]>(bits, truths_of(value)?)),
     }
 }
 
@@ -184,14 +151,6 @@ fn write_bytes<W: BitWrite>(alloc: Global, writer: &mut W, bits: u32, value: &st
     Ok(writer.write_var(bits, [*a, *b, *c, *d]))
 }
 
-fn write_nothing<W: BitWrite>(writer: &mut W, bits: u32, value: &str) -> Answer {
-    if value == "-" {
-        Ok(writer.write_var::<[u8; 0]>(bits, []))
-    } else {
-        Err(Objection::BAD_FORM)
-    }
-}
-
 /// The two values that a text spells, with a comma between them.
 pub fn pair_of<T: FromStr<Err = ParseIntError> + Drop>(text: &str) -> Result<[T; 2], Objection> {
     match text.split_once(',') {
@@ -200,13 +159,12 @@ pub fn pair_of<T: FromStr<Err = ParseIntError> + Drop>(text: &str) -> Result<[T;
     }
 }
 
-fn write_truths<W: BitWrite>(alloc: Global, writer: &mut W, bits: u32, value: &str) -> Answer {
-    let digits: Vec<char> = value.chars().collect(alloc)?;
-    let [a, b, c, d] = digits.as_slice() else {
-        return Err(Objection::BAD_FORM);
-    };
-    let truths = [truth(*a)?, truth(*b)?, truth(*c)?, truth(*d)?];
-    Ok(writer.write_var::<[bool; 4]>(bits, truths))
+/// The four truths that binary digits spell.
+pub fn truths_of(text: &str) -> Result<[bool; 4], Objection> {
+    match text.as_bytes() {
+        [a, b, c, d] => Ok([*a == b'1', *b == b'1', *c == b'1', *d == b'1']),
+        _ => Err(Objection::BAD_FORM),
+    }
 }
 
 /// Writes a count of no more than MAX.

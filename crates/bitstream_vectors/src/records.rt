@@ -1,0 +1,112 @@
+//! Rows of recorders.
+use crate::answer::{bytes_of, is_done};
+use crate::call::{Call, number};
+use crate::form::Form;
+use crate::objection::{Difference, Objection, agrees};
+use crate::row::{Kind, Order, calls_of, order_of};
+use crate::sinks::{Recorder, beside_counters, give, sink_call};
+use bitstream_io::{BE, BitRecorder, BitWrite, BitWriter, Endianness, Error, LE};
+use std::alloc::Global;
+
+/// What is done with a recorder.
+#[derive(Clone, Copy, Drop)]
+struct Played {
+    /// How many bits it holds.
+    recorded: u32,
+    /// The order of the writer to which it is played.
+    to: Order,
+    /// What is written before: how many bits, and a number.
+    behind: (u32, u8),
+}
+
+/// Makes a call on a recorder, which is another one if it is `best`.
+fn record_call<E: Endianness + Drop>(
+    alloc: Global,
+    mut recorder: Recorder<E>,
+    call: &Call<'_>,
+) -> Result<Recorder<E>, Objection> {
+    match call.form {
+        Form::Clear => recorder.clear(),
+        Form::Best => {
+            let mut candidate: Recorder<E> = BitRecorder::new(alloc);
+            return recorder.best(
+                &mut candidate,
+                |candidate| give(alloc, candidate, call.value),
+            );
+        }
+        _ => {
+            let mut sink = beside_counters(&mut recorder);
+            let same = sink_call(alloc, &mut sink, call, call.answer)?;
+            agrees(same, Difference::Answer)?;
+            agrees(sink.agree, Difference::Beside)?;
+        }
+    }
+    Ok(recorder)
+}
+
+/// Plays a recorder to a writer behind some bits, and aligns it.
+fn play_behind<E: Endianness, F: Endianness>(
+    recorder: &Recorder<E>,
+    written: &mut Vec<u8>,
+    behind: (u32, u8),
+) -> Result<(), Error> {
+    let mut writer = BitWriter::<_, F>::new(written);
+    writer.write_unsigned_var(behind.0, behind.1)?;
+    recorder.playback(&mut writer)?;
+    writer.byte_align()
+}
+
+/// Makes calls on a new recorder, and plays it.
+fn record_in<E: Endianness + Drop>(
+    alloc: Global,
+    calls: &[Call<'_>],
+    bytes: &[u8],
+    played: Played,
+) -> Result<(), Objection> {
+    let mut recorder: Recorder<E> = BitRecorder::new(alloc);
+    for call in calls {
+        recorder = record_call(alloc, recorder, call)?;
+    }
+    let recorded = matches!(recorder.written_checked(), Ok(bits) if bits == played.recorded);
+    agrees(recorded, Difference::Length)?;
+    let mut written = Vec::new(alloc);
+    let answer = match played.to {
+        Order::Big => play_behind::<E, BE>(&recorder, &mut written, played.behind),
+        Order::Little => play_behind::<E, LE>(&recorder, &mut written, played.behind),
+    };
+    agrees(is_done("ok", &answer), Difference::Answer)?;
+    agrees(written.as_slice() == bytes, Difference::Bytes)
+}
+
+/// What a text says of a recorder: `to ORDER ; behind N V ; recorded L`.
+fn played_of(text: &str) -> Option<(&str, &str, &str, &str)> {
+    let (to, rest) = text.strip_prefix("to ")?.split_once(" ; behind ")?;
+    let (behind, recorded) = rest.split_once(" ; recorded ")?;
+    let (bits, value) = behind.split_once(' ')?;
+    Some((to, bits, value, recorded))
+}
+
+/// Plays a row of a recorder's order, its calls, the bytes that stand written, and what is done with
+/// the recorder.
+pub fn play_record(
+    alloc: Global,
+    order: &str,
+    calls: &str,
+    bytes: &str,
+    after: &str,
+) -> Result<(), Objection> {
+    let Some((to, bits, value, recorded)) = played_of(after) else {
+        return Err(Objection::BAD_FORM);
+    };
+    let played = Played {
+        recorded: number(recorded)?,
+        to: order_of(to)?,
+        behind: (number(bits)?, number(value)?),
+    };
+    let calls = calls_of(alloc, Kind::Write, calls)?;
+    let bytes = bytes_of(alloc, bytes)?;
+    match order_of(order)? {
+        Order::Big => record_in::<BE>(alloc, &calls, &bytes, played),
+        Order::Little => record_in::<LE>(alloc, &calls, &bytes, played),
+    }
+}
