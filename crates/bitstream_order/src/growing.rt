@@ -1,8 +1,9 @@
 //! A vector of bytes, as a target that refuses if the vector cannot grow, and never else.
-ghost use Rattle.std.specs.Prelude.{◌≡◌, []};
+ghost use Rattle.std.specs.Prelude.{◌≡◌, [], length};
+ghost use Rattle.bitstream_order.specs.Growing.{IsExtended};
 
 use crate::target::Target;
-use std::alloc::Allocator;
+use std::alloc::{AllocError, Allocator};
 use std::io;
 use std::io::ErrorKind;
 
@@ -57,6 +58,37 @@ impl<A: Allocator> Growing<A> {
     }
 }
 
+/// Puts N bytes behind those of a vector.
+#[inline(always)]
+fn extend_by<const N: usize, A: Allocator>(
+    vec: &mut Vec<u8, A>,
+    bytes: &[u8],
+) -> Result<(), AllocError>
+    requires { length bytes.now ≡ N }
+    ensures { IsExtended vec.old bytes.now result vec.new }
+{
+    vec.extend_from_slice(&bytes[..N])
+}
+
+/// Puts bytes behind those of a vector. Up to 8, as many as most words fill, are copied by a constant
+/// length, so without a call.
+#[inline(always)]
+fn extend<A: Allocator>(vec: &mut Vec<u8, A>, bytes: &[u8]) -> Result<(), AllocError>
+    ensures { IsExtended vec.old bytes.now result vec.new }
+{
+    match bytes.len() {
+        1 => extend_by::<1, A>(vec, bytes),
+        2 => extend_by::<2, A>(vec, bytes),
+        3 => extend_by::<3, A>(vec, bytes),
+        4 => extend_by::<4, A>(vec, bytes),
+        5 => extend_by::<5, A>(vec, bytes),
+        6 => extend_by::<6, A>(vec, bytes),
+        7 => extend_by::<7, A>(vec, bytes),
+        8 => extend_by::<8, A>(vec, bytes),
+        _ => vec.extend_from_slice(bytes),
+    }
+}
+
 impl<A: Allocator> Target for Growing<A> {
     ghost use Rattle.bitstream_order.specs.Growing.{growing_contents, GrowthRefused};
 
@@ -70,7 +102,7 @@ impl<A: Allocator> Target for Growing<A> {
 
     #[inline(always)]
     fn write_all(&mut self, bytes: &[u8]) -> io::Result<()> {
-        match self.bytes.extend_from_slice(bytes) {
+        match extend(&mut self.bytes, bytes) {
             Ok(()) => Ok(()),
             Err(_refused) => Err(io::Error::from(ErrorKind::OutOfMemory)),
         }

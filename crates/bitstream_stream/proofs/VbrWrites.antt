@@ -1,6 +1,6 @@
 -- Writing groups one after another, as a loop does.
 use Rattle.std.specs.Prelude.{bit_and, bit_or}
-use Rattle.std.proofs.Common.{◌≡◌, ◌≢◌, ℕ, ◌+◌, ◌-◌, ◌/◌, ◌%◌, ◌^◌, ◌<◌, ◌≤◌, inl, inr, List, Bool, true, false, not, [], ◌++◌, length, Result, Ok, Err, refl, sym, ap, ap₂, ◌∙◌, subst, arith, append_assoc, length-append}
+use Rattle.std.proofs.Common.{◌≡◌, ◌≢◌, ℕ, ◌+◌, ◌-◌, ◌*◌, ◌/◌, ◌%◌, ◌^◌, ◌<◌, ◌≤◌, inl, inr, List, Bool, true, false, not, [], ◌++◌, length, Result, Ok, Err, refl, sym, ap, ap₂, ◌∙◌, subst, arith, append_assoc, length-append, div-one}
 use Rattle.std.proofs.Math.Nat.{div-eq_of_lt, div-lt_self, mod-lt, mod_self}
 use Rattle.std.proofs.lemmas.Bool.{cases_lt}
 use Rattle.std.proofs.lemmas.Nat.{pow_pos, pow_below, shr-shr, le-div}
@@ -90,10 +90,50 @@ module _ (field m : ℕ) (wide : 2 ≤ field) (payload : m ≡ field - 1) where
       let small : rest < 2 ^ m = small_of m rest next in
       omega (arith, count, ap length ((group_last rest small).whole o), length-word o field rest)
 
--- ---- tests of a number that is shifted
-
-pub begins_within : (size v shift : ℕ) → v < 2 ^ size → v / 2 ^ shift ≢ 0 → shift < size
+-- a number with digits from `shift` on has them within its size
+begins_within : (size v shift : ℕ) → v < 2 ^ size → v / 2 ^ shift ≢ 0 → shift < size
 begins_within size v shift small some = elim (cases_lt shift size) [ inl less ↦ less | inr past ↦ absurd (some (shr_past v size shift small past)) ]
+
+-- the first groups of v have this many bits, and `rest` is what is above their digits
+pub record GroupsCounted (field v bits rest : ℕ) : Type 0 where
+  pub shift : ℕ
+  pub begun : field - 1 ≤ shift
+  pub few : bits ≤ 2 * shift
+  pub left : rest ≡ v / 2 ^ shift
+  pub count : (o : Order) → bits + length (vbr_word o field (v / 2 ^ (shift - (field - 1)))) ≡ length (vbr_word o field v) + field
+
+module _ (field m : ℕ) (wide : 2 ≤ field) (payload : m ≡ field - 1) (v : ℕ) where
+  pub counted-first : (bits rest : ℕ) → bits ≡ field → rest ≡ v / 2 ^ m → GroupsCounted field v bits rest
+  counted-first bits rest one left = record {
+      shift = m;
+      begun = omega (arith, payload);
+      few = omega (arith, one, payload, wide);
+      left = left;
+      count = λ o.
+          let none : m - (field - 1) ≡ 0 = omega (arith, payload) in
+          let same : v / 2 ^ (m - (field - 1)) ≡ v = ap (λ k. v / 2 ^ k) none ∙ div-one v in
+          omega (arith, one, ap (λ k. length (vbr_word o field k)) same);
+    }
+
+  pub counted-more : (bits step rest next : ℕ) → step ≡ field → rest ≢ 0 → next ≡ rest / 2 ^ m → GroupsCounted field v bits rest → GroupsCounted field v (bits + step) next
+  counted-more bits step rest next one some shifted counted =
+      let at = counted.shift in
+      record {
+        shift = at + (field - 1);
+        begun = omega arith;
+        few = omega (arith, counted.few, one, wide);
+        left = shifted ∙ ap₂ (λ a k. a / 2 ^ k) counted.left payload ∙ shr-shr v at (field - 1);
+        count = λ o. bits-more field (field - 1) wide refl o v at bits step one counted.begun (λ none. some (counted.left ∙ none)) (counted.count o);
+      }
+
+  pub counted-all : (bits rest : ℕ) → rest ≡ 0 → GroupsCounted field v bits rest → (o : Order) → length (vbr_word o field v) ≡ bits
+  counted-all bits rest none counted o = bits-all field (field - 1) wide refl o v counted.shift bits counted.begun (sym counted.left ∙ none) (counted.count o)
+
+  pub counted-few : (size bits rest : ℕ) → v < 2 ^ size → rest ≢ 0 → GroupsCounted field v bits rest → bits ≤ 2 * size
+  counted-few size bits rest small some counted =
+      omega (arith, counted.few, begins_within size v counted.shift small (λ none. some (counted.left ∙ none)))
+
+-- ---- tests of a number that is shifted
 
 pub is_other : {b : Bool} → true ≡ not b → b ≢ true
 is_other {b = true} p q = cc

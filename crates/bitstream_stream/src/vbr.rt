@@ -7,6 +7,7 @@ ghost use Rattle.bitstream_stream.specs.Groups.{IsFirstGroup, IsLastGroup};
 use bitstream_number::number::{Numeric, UnsignedInteger, Width};
 
 /// Returns the number of bits of a number in groups of `F::BITS` bits.
+#[inline(always)]
 pub fn vbr_bits<F: Width, U: UnsignedInteger>(value: U) -> u32
     requires some { 2 ≤ F.BITS }
     requires within { F.BITS < U.BITS_SIZE }
@@ -15,10 +16,10 @@ pub fn vbr_bits<F: Width, U: UnsignedInteger>(value: U) -> u32
     value.known();
     let payload = F::BITS - 1;
     let mut bits = F::BITS;
-    let mut shift = payload;
-    while value.shr_default(shift) != U::ZERO {
+    let mut rest = value >> payload;
+    while rest != U::ZERO {
         bits += F::BITS;
-        shift += payload;
+        rest >>= payload;
     }
     bits
 }

@@ -1,18 +1,11 @@
-use Rattle.std.proofs.Common.{◌≡◌, ◌+◌, ◌-◌, ◌*◌, ◌/◌, ◌^◌, ◌≤◌, length}
-use Rattle.bitstream_number.specs.Word.{Order}
-use Rattle.bitstream_count.specs.Vbr.{vbr_word}
+use Rattle.bitstream_stream.proofs.VbrWrites.{GroupsCounted}
 use Rattle.bitstream_stream.proofs.vbr.vbr_bits.Given as goal
 
--- the groups up to `shift` digits are counted
-abbrev pub invariant-loop-value : goal.invariant-loop-value
-invariant-loop-value g l =
-    let v = g.U.UnsignedInteger.value l.value in
-    let field = g.F.Width.BITS in
-    record {
-      begun : l.payload ≤ l.shift;
-      few : l.bits ≤ 2 * l.shift;
-      count : (o : Order) → l.bits + length (vbr_word o field (v / 2 ^ (l.shift - l.payload))) ≡ length (vbr_word o field v) + field;
-    }
+-- the groups below `rest` are counted
+abbrev pub invariant-loop-rest : goal.invariant-loop-rest
+invariant-loop-rest g l =
+    let value = g.U.UnsignedInteger.value in
+    GroupsCounted g.F.Width.BITS (value l.fn.value) l.bits (value l.rest)
 
-abbrev pub decreases-loop-value : goal.decreases-loop-value
-decreases-loop-value g l = g.U.Numeric.BITS_SIZE - l.shift
+abbrev pub decreases-loop-rest : goal.decreases-loop-rest
+decreases-loop-rest g l = g.U.UnsignedInteger.value l.rest
