@@ -3,9 +3,10 @@ ghost use Rattle.std.specs.Prelude.{◌≡◌, OnOk};
 ghost use Rattle.bitstream_bench.specs.Counting.{counted, counted_if_refused};
 ghost use Rattle.std.specs.Io.{ReadsAtMost, WritesAtMost};
 ghost use Rattle.std.specs.Io.KnownBytes.{ReadConsumes, WriteAppends, Consumes, Appends, Keeps};
+ghost use Rattle.std.specs.Io.Seek.{SeekMoves};
 
 use std::io;
-use std::io::{Read, Write};
+use std::io::{Read, Seek, SeekFrom, Write};
 
 /// Counts the requests made of a stream, and those that the stream refused.
 #[derive(Drop)]
@@ -91,6 +92,24 @@ impl<S: Write> Write for Count<S> {
         ensures refused { self.new.refused ≡ counted_if_refused result self.old.refused }
     {
         let answer = self.inner.flush();
+        self.note(&answer);
+        answer
+    }
+}
+
+impl<S: Seek> Seek for Count<S> {
+    ghost stream_position = { λ c. S.stream_position c.inner };
+
+    ghost stream_bytes = { λ c. S.stream_bytes c.inner };
+
+    fn seek(&mut self, to: SeekFrom) -> io::Result<u64>
+        ensures moves { SeekMoves (S.stream_position self.old.inner) (S.stream_position self.new.inner)
+            (S.stream_bytes self.old.inner) to result }
+        ensures bytes { Keeps (S.stream_bytes self.old.inner) (S.stream_bytes self.new.inner) }
+        ensures requests { self.new.requests ≡ counted self.old.requests }
+        ensures refused { self.new.refused ≡ counted_if_refused result self.old.refused }
+    {
+        let answer = self.inner.seek(to);
         self.note(&answer);
         answer
     }

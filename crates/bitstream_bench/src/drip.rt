@@ -4,7 +4,7 @@ ghost use Rattle.std.specs.Io.KnownBytes.{ReadConsumes, WriteAppends};
 ghost use Rattle.std.specs.Io.{ReadsAtMost, WritesAtMost};
 
 use std::io;
-use std::io::{Read, Write};
+use std::io::{Read, Seek, SeekFrom, Write};
 
 /// Gives or takes one byte at each `read` or `write`, where it drips.
 #[derive(Drop)]
@@ -52,5 +52,15 @@ impl<S: Write> Write for Drip<S> {
 
     fn flush(&mut self) -> io::Result<()> {
         self.inner.flush()
+    }
+}
+
+impl<S: Seek> Seek for Drip<S> {
+    ghost stream_position = { λ d. S.stream_position d.inner };
+
+    ghost stream_bytes = { λ d. S.stream_bytes d.inner };
+
+    fn seek(&mut self, to: SeekFrom) -> io::Result<u64> {
+        self.inner.seek(to)
     }
 }

@@ -3,9 +3,10 @@ ghost use Rattle.std.specs.Prelude.{◌≡◌, ◌-◌, ◌<◌, OnOk, IsOk, IsE
 ghost use Rattle.std.specs.IoError.{error_kind};
 ghost use Rattle.std.specs.Io.{ReadsAtMost, WritesAtMost};
 ghost use Rattle.std.specs.Io.KnownBytes.{ReadConsumes, WriteAppends, Consumes, Appends, Keeps};
+ghost use Rattle.std.specs.Io.Seek.{SeekMoves};
 
 use std::io;
-use std::io::{ErrorKind, Read, Write};
+use std::io::{ErrorKind, Read, Seek, SeekFrom, Write};
 
 /// Serves `left` requests, and refuses each later one. A refused request reaches no byte.
 #[derive(Drop)]
@@ -93,5 +94,23 @@ impl<S: Write> Write for Refuse<S> {
         ensures left { self.new.left ≡ self.old.left }
     {
         self.inner.flush()
+    }
+}
+
+impl<S: Seek> Seek for Refuse<S> {
+    ghost stream_position = { λ r. S.stream_position r.inner };
+
+    ghost stream_bytes = { λ r. S.stream_bytes r.inner };
+
+    fn seek(&mut self, to: SeekFrom) -> io::Result<u64>
+        ensures moves { SeekMoves (S.stream_position self.old.inner) (S.stream_position self.new.inner)
+            (S.stream_bytes self.old.inner) to result }
+        ensures bytes { Keeps (S.stream_bytes self.old.inner) (S.stream_bytes self.new.inner) }
+        ensures refuses { self.old.left ≡ 0 → IsErrAnd result (λ e. error_kind e ≡ self.old.kind) }
+        ensures untouched { self.old.left ≡ 0 → self.new.inner ≡ self.old.inner }
+        ensures left { self.new.left ≡ self.old.left - 1 }
+    {
+        self.ask()?;
+        self.inner.seek(to)
     }
 }
