@@ -25,6 +25,7 @@ pub fn error_name(error: &Error) -> &'static str {
         Error::RunTooLong => "RunTooLong",
         Error::EndOfInput => "EndOfInput",
         Error::OutOfMemory => "OutOfMemory",
+        Error::Place => "Place",
         Error::Failed => "Failed",
         Error::Stream(ErrorKind::BrokenPipe) => "Stream(BrokenPipe)",
         Error::Stream(ErrorKind::ConnectionReset) => "Stream(ConnectionReset)",

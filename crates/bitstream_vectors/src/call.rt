@@ -1,5 +1,5 @@
 //! Calls, as rows spell them.
-use crate::form::{Form, Items, Number, Tree, form_of, form_of_calls};
+use crate::form::{Form, Items, Number, Tree, Whence, form_of, form_of_calls};
 use crate::objection::Objection;
 use crate::row::Kind;
 use std::alloc::Global;
@@ -45,6 +45,7 @@ impl<'a> Call<'a> {
         let (bits, value) = match (form, kind) {
             (Form::Bytes | Form::Bit | Form::Unary(_), Kind::Write) => (0, word_at(&words, 1)),
             (Form::Whole(_, _), _) => (0, word_at(&words, 2)),
+            (Form::Seek(_) | Form::Cursor, _) => (0, word_at(&words, 1)),
             (Form::Variable(_, _, _) | Form::VariablePair(_), _) => (0, word_at(&words, 2)),
             (Form::Prefix(_) | Form::Limited(_, _), _) => (0, word_at(&words, 2)),
             _ if arguments == 0 => (0, ""),
@@ -75,6 +76,16 @@ impl<'a> Call<'a> {
     pub fn reads_bit(answer: &'static str) -> Call<'static> {
         Call {
             form: Form::Bit,
+            bits: 0,
+            value: "",
+            answer,
+        }
+    }
+
+    /// The call that asks for the place in bits, which is answered so.
+    pub fn asks_place(answer: &'a str) -> Call<'a> {
+        Call {
+            form: Form::Place,
             bits: 0,
             value: "",
             answer,
@@ -113,12 +124,26 @@ impl<'a> Call<'a> {
         }
     }
 
+    /// Whether it seeks, and so asks the stream also once its reader has failed.
+    pub fn recovers(&self) -> bool {
+        matches!(self.form, Form::Seek(Whence::Start | Whence::End))
+    }
+
+    /// How many of the requests that it makes first are seeks.
+    pub fn seeks(&self) -> u64 {
+        match self.form {
+            Form::Seek(Whence::Start) | Form::Place => 1,
+            Form::Seek(_) => 2,
+            _ => 0,
+        }
+    }
+
     /// What it answers on a reader or writer of bits that has failed. A checked value that is none,
     /// or a count that is none, was refused before any call.
     pub fn answer_of_failed(&self, kind: Kind) -> &'a str {
         match (self.form, kind) {
             (Form::Aligned, _) => "no",
-            (Form::Align, Kind::Read) => "ok",
+            (Form::Align | Form::Cursor, Kind::Read) => "ok",
             (Form::Array(Items::None), Kind::Read) => "-",
             (Form::Array(Items::None), Kind::Write) => "ok",
             (Form::Checked(_), Kind::Write) if self.answer != "ok" => self.answer,

@@ -63,6 +63,14 @@ pub enum ByteOrder {
     Little,
 }
 
+/// From where a seek counts its bits.
+#[derive(Clone, Copy, Drop)]
+pub enum Whence {
+    Start,
+    End,
+    Current,
+}
+
 /// What a call reads or writes, or asks.
 #[derive(Clone, Copy, Drop)]
 pub enum Form {
@@ -84,6 +92,8 @@ pub enum Form {
     Count,
     /// A number in a counted number of bits.
     Counted(Number),
+    /// The stream is set to a byte before its reader is made.
+    Cursor,
     /// A number in a constant number of bits.
     Fixed(Number),
     /// Digits up to a stop digit, or at most the given number of them.
@@ -92,10 +102,14 @@ pub enum Form {
     Optional(Size),
     /// Zeros.
     Pad,
+    /// The place in bits.
+    Place,
     /// A symbol of a tree.
     Prefix(Tree),
     /// A new recorder of an order is given calls, and played.
     Record(Order),
+    /// A place in bits is sought.
+    Seek(Whence),
     /// Bits, or bytes, that are skipped.
     Skip,
     /// Digits up to a stop digit.
@@ -118,7 +132,7 @@ impl Form {
     /// How many words stand behind the call's name where it reads, and where it writes.
     pub fn arguments(self) -> (usize, usize) {
         match self {
-            Form::Align | Form::Aligned | Form::Clear => (0, 0),
+            Form::Align | Form::Aligned | Form::Clear | Form::Place => (0, 0),
             Form::Bit | Form::Unary(_) => (0, 1),
             Form::Bytes | Form::Pad | Form::Skip | Form::Vector => (1, 1),
             Form::Const => (2, 2),
@@ -155,8 +169,13 @@ fn plain_form(name: &str) -> Option<Form> {
         "const" => Some(Form::Const),
         "clear" => Some(Form::Clear),
         "count" => Some(Form::Count),
+        "current" => Some(Form::Seek(Whence::Current)),
+        "cursor" => Some(Form::Cursor),
+        "end" => Some(Form::Seek(Whence::End)),
         "pad" => Some(Form::Pad),
+        "place" => Some(Form::Place),
         "skip" => Some(Form::Skip),
+        "start" => Some(Form::Seek(Whence::Start)),
         "unary0" => Some(Form::Unary(false)),
         "unary1" => Some(Form::Unary(true)),
         "vector" => Some(Form::Vector),

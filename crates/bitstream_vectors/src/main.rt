@@ -42,6 +42,7 @@ mod checked;
 mod counts;
 mod fixed;
 mod form;
+mod memory;
 mod objection;
 mod play;
 mod reads;
@@ -65,7 +66,7 @@ use std::process::ExitCode;
 use std::rt::Files;
 
 /// The files of rows.
-const FILES: [&str; 9] = [
+const FILES: [&str; 11] = [
     "vectors.tsv",
     "count.tsv",
     "record.tsv",
@@ -74,6 +75,8 @@ const FILES: [&str; 9] = [
     "r05_codes.tsv",
     "r06_prefix.tsv",
     "r07_sinks.tsv",
+    "seek.tsv",
+    "r08_seek_compat.tsv",
     "r10_word_kernels.tsv",
 ];
 

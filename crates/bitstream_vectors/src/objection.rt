@@ -9,15 +9,17 @@ pub enum Difference {
     Form,
     /// A call has a width, a greatest number or a constant for which the player has no line.
     Unlisted,
-    /// An answer, over a slice or a vector.
+    /// An answer, over std's bytes in memory.
     Answer,
+    /// An answer over a `Slice`.
+    Sliced,
     /// An answer over a stream that gives or takes a byte a request.
     Dripped,
     /// An answer, the requests or the bytes over a stream that refuses.
     Refused,
     /// The bytes, or how many were moved.
     Bytes,
-    /// How many bits were taken.
+    /// The place in bits.
     Place,
     /// How many requests were made.
     Requests,
@@ -34,6 +36,7 @@ impl Difference {
             Difference::Form => "has a form that the player does not know",
             Difference::Unlisted => "has a width or constant that the player does not list",
             Difference::Answer => "differs in an answer",
+            Difference::Sliced => "differs over a slice",
             Difference::Dripped => "differs over a stream that drips",
             Difference::Refused => "differs over a stream that refuses",
             Difference::Bytes => "differs in its bytes",

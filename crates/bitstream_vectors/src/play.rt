@@ -1,6 +1,8 @@
 //! Plays of a row's calls over a stream.
-use crate::answer::{error_name, is_done};
-use crate::call::Call;
+use crate::answer::{error_name, is_done, is_number};
+use crate::call::{Call, number};
+use crate::form::{Form, Whence};
+use crate::memory::Memory;
 use crate::objection::{Difference, Objection, agrees};
 use crate::reads::read_call;
 use crate::row::{Kind, Layer, Order, Row};
@@ -10,10 +12,10 @@ use crate::whole::{read_whole, write_whole};
 use bitstream_bench::{Count, Drip, Refuse};
 use bitstream_io::{
     BE, BitReader, BitRecorder, BitWrite, BitWriter, BitsWritten, ByteReader, ByteWriter,
-    Endianness, Error, LE, Source, Target,
+    Endianness, Error, LE, SeekSource, Slice, Source, Target,
 };
 use std::alloc::Global;
-use std::io::ErrorKind;
+use std::io::{ErrorKind, SeekFrom};
 
 /// A request that a stream refuses, as each later one.
 #[derive(Clone, Copy, Drop)]
@@ -24,6 +26,8 @@ pub struct Fault {
     pub kind: ErrorKind,
     /// The place of the call that makes the request.
     pub call: usize,
+    /// Whether the request is a seek.
+    pub seeks: bool,
 }
 
 /// What the stream of a play does.
@@ -31,6 +35,8 @@ pub struct Fault {
 pub enum Way {
     /// It gives or takes what it has room for.
     Plain,
+    /// It does so, and is the library's own source of bytes in memory.
+    Slice,
     /// It gives or takes a byte a request.
     Dripped,
     /// It refuses requests from one on.
@@ -41,16 +47,24 @@ impl Fault {
     /// What the call answers whose request is refused.
     fn answer(self, kind: Kind) -> &'static str {
         match (kind, self.kind) {
-            (Kind::Read, ErrorKind::UnexpectedEof) => "EndOfInput",
-            (_, ErrorKind::OutOfMemory) => "OutOfMemory",
-            (_, kind) => error_name(&Error::Stream(kind)),
+            (Kind::Read, ErrorKind::UnexpectedEof) if !self.seeks => "EndOfInput",
+            _ => self.answer_of_seek(),
         }
     }
 
-    /// What a call behind that one answers: on a reader or writer of bits, that it has failed; on
-    /// one of bytes the refusal again, unless it asks for nothing.
+    /// What a call answers whose seek is refused, or whose bytes are not taken.
+    fn answer_of_seek(self) -> &'static str {
+        match self.kind {
+            ErrorKind::OutOfMemory => "OutOfMemory",
+            kind => error_name(&Error::Stream(kind)),
+        }
+    }
+
+    /// What a call behind that one answers: on a reader or writer of bits, that it has failed, unless
+    /// it seeks, which is refused again; on one of bytes the refusal again, unless it asks for nothing.
     fn later_answer<'a>(self, row: &Row<'_>, call: &Call<'a>) -> &'a str {
         match row.layer {
+            Layer::Bits if call.recovers() => self.answer_of_seek(),
             Layer::Bits => call.answer_of_failed(row.kind),
             Layer::Bytes if call.moves_bytes() => self.answer(row.kind),
             Layer::Bytes => call.answer,
@@ -73,6 +87,7 @@ impl Way {
     fn difference(self) -> Difference {
         match self {
             Way::Plain => Difference::Answer,
+            Way::Slice => Difference::Sliced,
             Way::Dripped => Difference::Dripped,
             Way::Refused(_) => Difference::Refused,
         }
@@ -86,7 +101,7 @@ pub struct Moved {
     pub requests: u64,
     /// How many of them were refused.
     pub refused: u64,
-    /// How many bytes were fetched or handed on.
+    /// At which byte the stream stands that was read, or how many bytes were handed on.
     pub bytes: usize,
 }
 
@@ -96,9 +111,26 @@ trait Stage {
     fn call(&mut self, alloc: Global, call: &Call<'_>, want: &str) -> Result<bool, Objection>;
 }
 
-impl<R: Source, E: Endianness> Stage for BitReader<R, E> {
+impl<R: SeekSource, E: Endianness> Stage for BitReader<R, E> {
     fn call(&mut self, alloc: Global, call: &Call<'_>, want: &str) -> Result<bool, Objection> {
-        read_call(alloc, self, call, want)
+        match call.form {
+            Form::Cursor => Ok(want == "ok"),
+            Form::Place => Ok(is_number(want, self.position_in_bits())),
+            Form::Seek(whence) => {
+                let to = target(whence, call.value)?;
+                Ok(is_number(want, self.seek_bits(to)))
+            }
+            _ => read_call(alloc, self, call, want),
+        }
+    }
+}
+
+/// The place in bits that is sought.
+fn target(whence: Whence, value: &str) -> Result<SeekFrom, Objection> {
+    match whence {
+        Whence::Start => Ok(SeekFrom::Start(number(value)?)),
+        Whence::End => Ok(SeekFrom::End(number(value)?)),
+        Whence::Current => Ok(SeekFrom::Current(number(value)?)),
     }
 }
 
@@ -160,8 +192,12 @@ fn read_bytes<E: Endianness + Drop>(
     calls: &[Call<'_>],
     way: Way,
 ) -> Result<Moved, Objection> {
-    let mut left = row.bytes.as_slice();
-    let mut stream = stream_of(&mut left, way);
+    let bytes = row.bytes.as_slice();
+    let mut memory = match way {
+        Way::Slice => Memory::Slice(Slice::new(bytes)),
+        _ => Memory::cursor(bytes, calls)?,
+    };
+    let mut stream = stream_of(&mut memory, way);
     match row.layer {
         Layer::Bits => {
             let mut reader = BitReader::<_, E>::new(&mut stream);
@@ -172,10 +208,11 @@ fn read_bytes<E: Endianness + Drop>(
             make_calls(alloc, &mut reader, row, calls, way)?;
         }
     }
+    let (requests, refused) = (stream.requests, stream.refused);
     Ok(Moved {
-        requests: stream.requests,
-        refused: stream.refused,
-        bytes: row.bytes.len().saturating_sub(left.len()),
+        requests,
+        refused,
+        bytes: memory.position(),
     })
 }
 

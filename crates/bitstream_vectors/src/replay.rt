@@ -6,6 +6,7 @@ use crate::play::{Fault, Moved, Way, play};
 use crate::records::play_record;
 use crate::row::{Kind, Layer, Order, Row};
 use std::alloc::Global;
+use std::fmt::Write;
 use std::io::ErrorKind;
 
 /// The kinds of refusals of streams that are read.
@@ -44,11 +45,14 @@ pub fn replay(alloc: Global, line: &str) -> Result<(), Objection> {
     }
 }
 
-/// Plays a row as it is, over a stream that drips, and over streams that refuse from each of its
-/// requests on.
+/// Plays a row as it is, over a stream that drips, over a `Slice`, and over streams that refuse from
+/// each of its requests on.
 fn play_stream(alloc: Global, row: &Row<'_>) -> Result<(), Objection> {
     let steps = steps_of(alloc, row)?;
     play_whole(alloc, row, Way::Plain)?;
+    if row.kind == Kind::Read && !row.begins_elsewhere() {
+        play_whole(alloc, row, Way::Slice)?;
+    }
     play_whole(alloc, row, Way::Dripped)?;
     refuse_each(alloc, row, &steps)
 }
@@ -94,8 +98,8 @@ fn agrees_with<T: Copy + PartialEq>(
     }
 }
 
-/// Objects where a row's calls take other than the given number of bits: the bits that are left follow one by
-/// one, and then the input ends.
+/// Objects where a row's reader does not stand at the given bit of its stream: the reader answers so, the
+/// bits that are left follow one by one, and then the input ends.
 fn stands_at(
     alloc: Global,
     row: &Row<'_>,
@@ -104,7 +108,11 @@ fn stands_at(
     place: usize,
 ) -> Result<(), Objection> {
     agrees(moved.bytes == place.div_ceil(8), Difference::Place)?;
-    let calls = with_rest(alloc, row, place)?;
+    let mut text = String::new(alloc);
+    if write!(text, "{place}").is_err() {
+        return Err(Objection::OutOfMemory);
+    }
+    let calls = with_rest(alloc, row, place, text.as_str())?;
     match play(alloc, row, &calls, way) {
         Err(Objection::Differs(_)) => Err(Objection::Differs(Difference::Place)),
         Err(objection) => Err(objection),
@@ -112,9 +120,16 @@ fn stands_at(
     }
 }
 
-/// The calls of a row, and then calls that read its bits from a place on, and its end.
-fn with_rest<'a>(alloc: Global, row: &Row<'a>, place: usize) -> Result<Vec<Call<'a>>, Objection> {
+/// The calls of a row, and then calls that ask for its place, and read its bits from there on, and its
+/// end.
+fn with_rest<'a>(
+    alloc: Global,
+    row: &Row<'a>,
+    place: usize,
+    text: &'a str,
+) -> Result<Vec<Call<'a>>, Objection> {
     let mut calls: Vec<Call<'a>> = row.calls.iter().copied().collect(alloc)?;
+    calls.push(Call::asks_place(text))?;
     for at in place..row.bytes.len().saturating_mul(8) {
         calls.push(Call::reads_bit(bit_at(row, at)))?;
     }
@@ -156,11 +171,13 @@ fn refuse(alloc: Global, row: &Row<'_>, steps: &[Moved], served: u64) -> Result<
         Kind::Read => READ_FAULTS,
         Kind::Write => WRITE_FAULTS,
     };
+    let seeks = seeks_at(row, steps, call, served);
     for kind in faults {
         let fault = Fault {
             served: u32::try_from(served).unwrap_or(u32::MAX),
             kind,
             call,
+            seeks,
         };
         let moved = play(alloc, row, &row.calls, Way::Refused(fault))?;
         stops_at(row, steps, fault, moved)?;
@@ -168,11 +185,21 @@ fn refuse(alloc: Global, row: &Row<'_>, steps: &[Moved], served: u64) -> Result<
     Ok(())
 }
 
-/// How many requests a row's calls make from the one on that is refused: that one alone, or, of a
-/// reader or writer of bytes, one for each call from there on that asks for anything.
+/// Whether the request of a call that comes behind the given number of requests is a seek.
+fn seeks_at(row: &Row<'_>, steps: &[Moved], call: usize, served: u64) -> bool {
+    let before = steps.get(call).map_or(0, |step| step.requests);
+    let seeks = row.calls.get(call).map_or(0, |call| call.seeks());
+    served.saturating_sub(before) < seeks
+}
+
+/// How many requests a row's calls make from the one on that is refused: that one, and each seek behind
+/// it; or, of a reader or writer of bytes, one for each call from there on that asks for anything.
 fn refusals(row: &Row<'_>, fault: Fault) -> u64 {
     match row.layer {
-        Layer::Bits => 1,
+        Layer::Bits => {
+            let left = row.calls.iter().skip(fault.call.saturating_add(1));
+            (left.filter(|call| call.recovers()).count() as u64).saturating_add(1)
+        }
         Layer::Bytes => {
             let left = row.calls.iter().skip(fault.call);
             left.filter(|call| call.moves_bytes()).count() as u64
@@ -181,7 +208,8 @@ fn refusals(row: &Row<'_>, fault: Fault) -> u64 {
 }
 
 /// Objects where more or fewer requests were made than the refused ones and those before, or where
-/// other bytes moved than those of the calls before and of a part of the call that was refused.
+/// other bytes moved than those of the calls before and of a part of the call that was refused. (Where
+/// calls seek, no bytes lie between.)
 fn stops_at(row: &Row<'_>, steps: &[Moved], fault: Fault, moved: Moved) -> Result<(), Objection> {
     let refusals = refusals(row, fault);
     let requests = u64::from(fault.served).saturating_add(refusals);
@@ -195,5 +223,5 @@ fn stops_at(row: &Row<'_>, steps: &[Moved], fault: Fault, moved: Moved) -> Resul
         .get(fault.call.saturating_add(1))
         .map_or(usize::MAX, |step| step.bytes);
     let within = least <= moved.bytes && moved.bytes <= most;
-    agrees(within, Difference::Refused)
+    agrees(within || row.seeks(), Difference::Refused)
 }

@@ -1,10 +1,11 @@
 //! Rows of the files.
 use crate::answer::bytes_of;
 use crate::call::{Call, number};
+use crate::form::Form;
 use crate::objection::Objection;
 use std::alloc::Global;
 
-/// Whether the calls of a row read or write.
+/// Whether the calls of a row read (and seek) or write.
 #[derive(Clone, Copy, PartialEq, Eq, Drop)]
 pub enum Kind {
     Read,
@@ -41,7 +42,7 @@ pub struct Row<'a> {
 /// What a row says of the stream after its calls.
 #[derive(Clone, Copy, Drop)]
 pub struct After {
-    /// How many bits were taken.
+    /// At which bit of the stream the reader stands.
     pub place: Option<usize>,
     /// How many bytes were fetched or handed on.
     pub moved: Option<usize>,
@@ -88,11 +89,25 @@ impl<'a> Row<'a> {
             after,
         })
     }
+
+    /// Whether its stream begins elsewhere than at its first byte.
+    pub fn begins_elsewhere(&self) -> bool {
+        self.calls
+            .first()
+            .is_some_and(|call| matches!(call.form, Form::Cursor))
+    }
+
+    /// Whether a call of it seeks, or its stream begins elsewhere than at its first byte.
+    pub fn seeks(&self) -> bool {
+        self.calls
+            .iter()
+            .any(|call| matches!(call.form, Form::Seek(_) | Form::Cursor))
+    }
 }
 
 fn kind_of(name: &str) -> Result<(Layer, Kind), Objection> {
     match name {
-        "read" => Ok((Layer::Bits, Kind::Read)),
+        "read" | "seek" => Ok((Layer::Bits, Kind::Read)),
         "write" => Ok((Layer::Bits, Kind::Write)),
         "read-bytes" => Ok((Layer::Bytes, Kind::Read)),
         "write-bytes" => Ok((Layer::Bytes, Kind::Write)),
