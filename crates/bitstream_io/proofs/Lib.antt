@@ -1,4 +1,5 @@
 pub mod RunLemmas
+mod ReadBackLemmas
 mod ReadScriptLemmas
 mod ScriptLemmas
 pub use Rattle.bitstream_number.proofs.SignedLemmas

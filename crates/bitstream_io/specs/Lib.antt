@@ -1,4 +1,5 @@
 pub mod NonZeroTypes
+pub mod ReadBack
 pub mod ReadScript
 pub mod Script
 pub mod Steps

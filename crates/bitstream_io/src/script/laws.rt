@@ -1,12 +1,14 @@
 //! What holds of lists of calls, whatever reader or sink they are made on.
 
 ghost use Rattle.std.specs.Prelude.{◌≡◌, ◌⊎◌, ◌+◌, ◌%◌, ◌++◌, ℕ, Bool, false, List, length, Option, None, Some, Result};
+ghost use Rattle.std.specs.List.{All};
 ghost use Rattle.bitstream_number.specs.Word.{Order, bits as bits_of};
 ghost use Rattle.bitstream_count.specs.declared.error.Error.{Error};
 ghost use Rattle.bitstream_order.specs.Refusal.{TrueEnds};
 ghost use Rattle.bitstream_stream.specs.Run.{read_run, write_run, write_refusals};
 ghost use Rattle.bitstream_io.specs.Script.{write_entry, write_entries, word_size, AlignsNowhere};
-ghost use Rattle.bitstream_io.specs.ReadScript.{read_entries, ReadsEach, sure_answers, AsksNoMemory};
+ghost use Rattle.bitstream_io.specs.ReadBack.{IsCall, accepted_calls, matching_reads, answers_of};
+ghost use Rattle.bitstream_io.specs.ReadScript.{read_entries, ReadsEach, run_answers, place_behind, sure_answers, AsksNoMemory};
 ghost use Rattle.bitstream_io.specs.declared.script.answers.Answer.{Answer};
 ghost use Rattle.bitstream_io.specs.declared.script.read_call.ReadCall.{ReadCall};
 
@@ -62,4 +64,20 @@ pub fn lists_of_reads_are_known<R: BitRead>()
         → answers ≡ sure_answers R.source.order calls
         (read_run (read_entries R.source.order calls) (R.source.state old).taken
         ((R.source.state old).queue ++ bits_of R.source.order bytes)) }
+{}
+
+/// What a list of write calls appends, the matching reads of its accepted calls read back, whatever
+/// follows it: each value that was written is answered, and 0 where it was written in no bits. The
+/// reads begin at the same place in a byte as the writes, which may be another number of bits.
+pub fn written_calls_are_read()
+    ensures answers { (o : Order) (calls : List WriteCall) (len p : ℕ) (more : List Bool)
+        → All IsCall calls → p % 8 ≡ len % 8
+        → let kept = accepted_calls o calls len in
+        run_answers (read_run (read_entries o (matching_reads kept)) p
+        (write_run (write_entries None o calls) len ++ more)) ≡ answers_of kept }
+    ensures place { (o : Order) (calls : List WriteCall) (len p : ℕ) (more : List Bool)
+        → All IsCall calls → p % 8 ≡ len % 8
+        → let words = write_run (write_entries None o calls) len in
+        place_behind p (read_run (read_entries o (matching_reads (accepted_calls o calls len))) p
+        (words ++ more)) ≡ p + length words }
 {}

@@ -1,7 +1,12 @@
 //! A list of read calls on any reader.
-ghost use Rattle.std.specs.Prelude.{◌≡◌, ℕ, ◌++◌, List, Some, length};
+ghost use Rattle.std.specs.Prelude.{◌≡◌, ℕ, ◌++◌, List, None, Some, length};
+ghost use Rattle.std.specs.List.{All};
 ghost use Rattle.bitstream_number.specs.Word.{bits as bits_of};
+ghost use Rattle.bitstream_stream.specs.Run.{write_run};
+ghost use Rattle.bitstream_io.specs.ReadBack.{IsCall, accepted_calls, matching_reads, StandsBefore, ReadsBack};
 ghost use Rattle.bitstream_io.specs.ReadScript.{ReadsEach, ReadsRun};
+ghost use Rattle.bitstream_io.specs.Script.{write_entries};
+ghost use Rattle.bitstream_io.specs.declared.script.write_call.WriteCall.{WriteCall};
 
 use crate::script::answers::Answer;
 use crate::script::read_call::ReadCall;
@@ -28,6 +33,12 @@ pub fn read_calls<R: BitRead>(
     ensures run { (bytes : List ℕ) → (R.source.state reader.old).bytes ≡ Some bytes
         → ReadsRun R.source calls.now
         ((R.source.state reader.old).queue ++ bits_of R.source.order bytes)
+        reader.old answers.new reader.new }
+    // What write calls wrote is read back by the matching reads of those that were accepted.
+    ensures back { (written : List WriteCall) (len : ℕ) → All IsCall written
+        → StandsBefore R.source written len reader.old
+        → let kept = accepted_calls R.source.order written len in calls.now ≡ matching_reads kept
+        → ReadsBack R.source kept (write_run (write_entries None R.source.order written) len)
         reader.old answers.new reader.new }
 {
     for (i, call) in calls.iter().enumerate() {

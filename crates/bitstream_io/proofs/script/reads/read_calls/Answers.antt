@@ -6,6 +6,7 @@ use Rattle.bitstream_io.specs.ReadScript.{ReadsEach}
 use Rattle.bitstream_io.specs.declared.script.answers.Answer.{Answer}
 use Rattle.bitstream_io.specs.declared.script.read_call.ReadCall.{ReadCall}
 use Rattle.bitstream_io.specs.declared.script.read_call.ReadCall.TheVariants.{Bit}
+use Rattle.bitstream_io.proofs.ReadBackLemmas.{reads_back}
 use Rattle.bitstream_io.proofs.ReadScriptLemmas.{each_none, each_more, run_of}
 use Rattle.bitstream_io.proofs.script.reads.read_calls.Goals as goal
 
@@ -40,3 +41,7 @@ returns-clause-each g c =
 
 pub returns-clause-run : goal.returns-clause-run
 returns-clause-run g c bytes known = run_of g.R.BitRead.source c.args.calls.now _ _ _ (returns-clause-each g c) bytes known
+
+pub returns-clause-back : goal.returns-clause-back
+returns-clause-back g c written len typed stands same =
+    reads_back g.R.BitRead.source written len c.args.calls.now _ _ _ typed stands same (returns-clause-run g c)

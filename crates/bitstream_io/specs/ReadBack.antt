@@ -1,0 +1,124 @@
+-- Lists of write calls and their matching reads: what was written is read back.
+use Rattle.std.specs.Prelude.{◌≡◌, ◌++◌, ℕ, ◌+◌, ◌%◌, ◌^◌, ◌<◌, ◌==◌, if◌then◌else◌, Bool, true, false, List, [], ◌∷◌, length, map, Option, Some, None, Result, Ok, Err, is_ok, ⊤}
+use Rattle.std.specs.List.{All}
+use Rattle.bitstream_number.specs.Word.{Order, FitsSignedBits, bits}
+use Rattle.bitstream_count.specs.declared.error.Error.{Error}
+use Rattle.bitstream_count.specs.declared.error.Error.TheVariants.{OutOfMemory}
+use Rattle.bitstream_order.specs.Fault.{read_refusal_of}
+use Rattle.bitstream_order.specs.Refusal.{Refusal, IsTrueEnd}
+use Rattle.bitstream_stream.specs.Reads.{BitSource}
+use Rattle.bitstream_stream.specs.Run.{accepted, write_run}
+use Rattle.bitstream_io.specs.declared.script.answers.Answer.{Answer}
+use Rattle.bitstream_io.specs.declared.script.answers.Answer.TheVariants as answer
+use Rattle.bitstream_io.specs.declared.script.read_call.ReadCall.{ReadCall}
+use Rattle.bitstream_io.specs.declared.script.read_call.ReadCall.TheVariants as read
+use Rattle.bitstream_io.specs.declared.script.write_call.WriteCall.{WriteCall}
+use Rattle.bitstream_io.specs.declared.script.write_call.WriteCall.TheVariants.{Bit, U8, U16, U32, U64, U128, I8, I16, I32, I64, I128, Unary0, Unary1, Vbr4, Vbr8, SignedVbr4, SignedVbr8, Bytes, Pad, Align}
+use Rattle.bitstream_io.specs.ReadScript.{asks_memory, failed_answers}
+use Rattle.bitstream_io.specs.Script.{write_entry, write_entries}
+
+-- The values of a call are values of their types. Of a number in so many bits nothing is asked: if it is accepted, it
+-- fits these bits.
+abbrev pub IsCall : WriteCall → Type 0
+IsCall (Unary0 k) = k < 2 ^ 32
+IsCall (Unary1 k) = k < 2 ^ 32
+IsCall (Vbr4 v) = v < 2 ^ 64
+IsCall (Vbr8 v) = v < 2 ^ 64
+IsCall (SignedVbr4 x) = FitsSignedBits 64 x
+IsCall (SignedVbr8 x) = FitsSignedBits 64 x
+IsCall (Bytes bytes) = All (λ b. b < 256) bytes
+IsCall _ = ⊤
+
+-- the accepted ones of calls, in their order, each called at the length that is reached before it
+abbrev pub accepted_calls : Order → List WriteCall → ℕ → List WriteCall
+accepted_calls o [] len = []
+accepted_calls o (call ∷ calls) len =
+    let word = write_entry o call len in
+    let others = accepted_calls o calls (len + length (accepted word)) in
+    if is_ok word then call ∷ others else others
+
+-- the read of the same name and width; for a pad the skip of as many bits, for bytes as many bytes
+abbrev pub matching_read : WriteCall → ReadCall
+matching_read (Bit b) = read.Bit
+matching_read (U8 n v) = read.U8 n
+matching_read (U16 n v) = read.U16 n
+matching_read (U32 n v) = read.U32 n
+matching_read (U64 n v) = read.U64 n
+matching_read (U128 n v) = read.U128 n
+matching_read (I8 n x) = read.I8 n
+matching_read (I16 n x) = read.I16 n
+matching_read (I32 n x) = read.I32 n
+matching_read (I64 n x) = read.I64 n
+matching_read (I128 n x) = read.I128 n
+matching_read (Unary0 k) = read.Unary0
+matching_read (Unary1 k) = read.Unary1
+matching_read (Vbr4 v) = read.Vbr4
+matching_read (Vbr8 v) = read.Vbr8
+matching_read (SignedVbr4 x) = read.SignedVbr4
+matching_read (SignedVbr8 x) = read.SignedVbr8
+matching_read (Bytes bytes) = read.Bytes (length bytes)
+matching_read (Pad n) = read.Skip n
+matching_read Align = read.Align
+
+-- the matching reads of calls
+abbrev pub matching_reads : List WriteCall → List ReadCall
+matching_reads calls = map matching_read calls
+
+-- what n bits of v answer: v, and 0 if they are none
+abbrev pub value_in : ℕ → ℕ → ℕ
+value_in n v = if n == 0 then 0 else v
+
+-- what the matching read of an accepted call answers: its value, if it has one
+abbrev pub answer_of : WriteCall → Answer
+answer_of (Bit b) = answer.Bit b
+answer_of (U8 n v) = answer.U8 (value_in n v)
+answer_of (U16 n v) = answer.U16 (value_in n v)
+answer_of (U32 n v) = answer.U32 (value_in n v)
+answer_of (U64 n v) = answer.U64 (value_in n v)
+answer_of (U128 n v) = answer.U128 (value_in n v)
+answer_of (I8 n x) = answer.I8 x
+answer_of (I16 n x) = answer.I16 x
+answer_of (I32 n x) = answer.I32 x
+answer_of (I64 n x) = answer.I64 x
+answer_of (I128 n x) = answer.I128 x
+answer_of (Unary0 k) = answer.Unary k
+answer_of (Unary1 k) = answer.Unary k
+answer_of (Vbr4 v) = answer.Vbr v
+answer_of (Vbr8 v) = answer.Vbr v
+answer_of (SignedVbr4 x) = answer.SignedVbr x
+answer_of (SignedVbr8 x) = answer.SignedVbr x
+answer_of (Bytes bytes) = answer.Bytes bytes
+answer_of (Pad n) = answer.Done
+answer_of Align = answer.Done
+
+-- the answers of the matching reads of calls, each in its place
+abbrev pub answers_of : List WriteCall → List (Option (Result Answer Error))
+answers_of calls = map (λ call. Some (Ok (answer_of call))) calls
+
+-- the bits left of a reader begin with the words of these calls, written behind `len` bits of the same place in a byte
+pub record StandsBefore {R : Type 0} (K : BitSource R) (calls : List WriteCall) (len : ℕ) (reader : R) : Type 0 where
+  pub bytes : List ℕ
+  pub more : List Bool
+  pub known : (K.state reader).bytes ≡ Some bytes
+  pub begins : (K.state reader).queue ++ bits K.order bytes ≡ write_run (write_entries None K.order calls) len ++ more
+  pub place : (K.state reader).taken % 8 ≡ len % 8
+
+-- What the matching reads of accepted calls answer, if the bits left begin with these words. A reader that had failed
+-- is as it was. Else each call answers what was written; or up to one of which a request was refused, or memory, and
+-- each behind it answers as on a failed reader. No refusal is a true end.
+pub data ReadsBack {R : Type 0} (K : BitSource R) (calls : List WriteCall) (words : List Bool) (old : R) (answers : List (Option (Result Answer Error))) (new : R) : Type 0 where
+  had_failed : (K.state old).failed ≡ true → answers ≡ failed_answers K.order (matching_reads calls) → K.state new ≡ K.state old
+      → ReadsBack K calls words old answers new
+  was_done : (K.state old).failed ≡ false → (K.state new).failed ≡ false
+      → answers ≡ answers_of calls → (K.state new).taken ≡ (K.state old).taken + length words
+      → ReadsBack K calls words old answers new
+  was_refused : (before : List WriteCall) (call : WriteCall) (behind : List WriteCall) (refusal : Refusal)
+      → (K.state old).failed ≡ false → (K.state new).failed ≡ true → calls ≡ before ++ call ∷ behind
+      → K.may refusal → (K.state new).refusals ≡ refusal ∷ (K.state old).refusals → (IsTrueEnd refusal → ⊥)
+      → answers ≡ answers_of before ++ Some (Err (read_refusal_of refusal.kind)) ∷ failed_answers K.order (matching_reads behind)
+      → ReadsBack K calls words old answers new
+  memory_refused : (before : List WriteCall) (call : WriteCall) (behind : List WriteCall)
+      → (K.state old).failed ≡ false → (K.state new).failed ≡ true → calls ≡ before ++ call ∷ behind
+      → asks_memory (matching_read call) ≡ true → (K.state new).refusals ≡ (K.state old).refusals
+      → answers ≡ answers_of before ++ Some (Err OutOfMemory) ∷ failed_answers K.order (matching_reads behind)
+      → ReadsBack K calls words old answers new
