@@ -68,70 +68,65 @@ module _ (field m : ℕ) (wide : 2 ≤ field) (payload : m ≡ field - 1) where
 
   -- ---- how many bits the groups have
 
-  -- where the groups up to `shift` digits are counted, the last of them begins m digits before
-  pub bits-more : (o : Order) (v shift bits step : ℕ) → step ≡ field → m ≤ shift → v / 2 ^ shift ≢ 0 → bits + length (vbr_word o field (v / 2 ^ (shift - m))) ≡ length (vbr_word o field v) + field
-      → bits + step + length (vbr_word o field (v / 2 ^ (shift + m - m))) ≡ length (vbr_word o field v) + field
-  bits-more o v shift bits step one le some count =
-      let rest = v / 2 ^ (shift - m) in
-      let all : shift - m + m ≡ shift = omega arith in
-      let back : shift + m - m ≡ shift = omega arith in
-      let next : rest / 2 ^ m ≡ v / 2 ^ shift = shr-shr v (shift - m) m ∙ ap (λ k. v / 2 ^ k) all in
-      let large : 2 ^ m ≤ rest = large_of m rest (λ e. some (sym next ∙ e)) in
-      let parts = ap length ((group_first rest (2 ^ m + rest % 2 ^ m) (rest / 2 ^ m) large refl refl).parts o) in
-      let len = length-append (word o field (2 ^ m + rest % 2 ^ m)) (vbr_word o field (rest / 2 ^ m)) in
-      let same : length (vbr_word o field (v / 2 ^ (shift + m - m))) ≡ length (vbr_word o field (rest / 2 ^ m)) = ap (λ k. length (vbr_word o field k)) (ap (λ k. v / 2 ^ k) back ∙ sym next) in
-      omega (arith, one, count, parts, len, same, length-word o field (2 ^ m + rest % 2 ^ m))
+  group_counted : (o : Order) (v rest : ℕ) → rest ≡ v / 2 ^ m → rest ≢ 0 → length (vbr_word o field v) ≡ field + length (vbr_word o field rest)
+  group_counted o v rest shifted some =
+      let large : 2 ^ m ≤ v = large_of m v (λ none. some (shifted ∙ none)) in
+      let group = 2 ^ m + v % 2 ^ m in
+      let parts = ap length ((group_first v group rest large refl shifted).parts o) in
+      omega (arith, parts, length-append (word o field group) (vbr_word o field rest), length-word o field group)
 
-  pub bits-all : (o : Order) (v shift bits : ℕ) → m ≤ shift → v / 2 ^ shift ≡ 0 → bits + length (vbr_word o field (v / 2 ^ (shift - m))) ≡ length (vbr_word o field v) + field → length (vbr_word o field v) ≡ bits
-  bits-all o v shift bits le none count =
-      let rest = v / 2 ^ (shift - m) in
-      let all : shift - m + m ≡ shift = omega arith in
-      let next : rest / 2 ^ m ≡ 0 = shr-shr v (shift - m) m ∙ ap (λ k. v / 2 ^ k) all ∙ none in
-      let small : rest < 2 ^ m = small_of m rest next in
-      omega (arith, count, ap length ((group_last rest small).whole o), length-word o field rest)
+  last_counted : (o : Order) (v : ℕ) → v / 2 ^ m ≡ 0 → length (vbr_word o field v) ≡ field
+  last_counted o v none = ap length ((group_last v (small_of m v none)).whole o) ∙ length-word o field v
+
+-- a number with something left above its lowest digits is not 0
+pub some_of : (v shift : ℕ) → v / 2 ^ shift ≢ 0 → v ≢ 0
+some_of v shift some = λ none. some (ap (λ k. k / 2 ^ shift) none ∙ div-eq_of_lt (pow_pos shift))
 
 -- a number with digits from `shift` on has them within its size
 begins_within : (size v shift : ℕ) → v < 2 ^ size → v / 2 ^ shift ≢ 0 → shift < size
 begins_within size v shift small some = elim (cases_lt shift size) [ inl less ↦ less | inr past ↦ absurd (some (shr_past v size shift small past)) ]
 
--- the first groups of v have this many bits, and `rest` is what is above their digits
+-- the first groups of v and one more have this many bits, and `rest` is what is above the digits of the first groups
 pub record GroupsCounted (field v bits rest : ℕ) : Type 0 where
   pub shift : ℕ
-  pub begun : field - 1 ≤ shift
-  pub few : bits ≤ 2 * shift
+  pub few : bits ≤ field + 2 * shift
   pub left : rest ≡ v / 2 ^ shift
-  pub count : (o : Order) → bits + length (vbr_word o field (v / 2 ^ (shift - (field - 1)))) ≡ length (vbr_word o field v) + field
+  pub count : (o : Order) → bits + length (vbr_word o field rest) ≡ length (vbr_word o field v) + field
 
 module _ (field m : ℕ) (wide : 2 ≤ field) (payload : m ≡ field - 1) (v : ℕ) where
-  pub counted-first : (bits rest : ℕ) → bits ≡ field → rest ≡ v / 2 ^ m → GroupsCounted field v bits rest
-  counted-first bits rest one left = record {
-      shift = m;
-      begun = omega (arith, payload);
-      few = omega (arith, one, payload, wide);
-      left = left;
-      count = λ o.
-          let none : m - (field - 1) ≡ 0 = omega (arith, payload) in
-          let same : v / 2 ^ (m - (field - 1)) ≡ v = ap (λ k. v / 2 ^ k) none ∙ div-one v in
-          omega (arith, one, ap (λ k. length (vbr_word o field k)) same);
-    }
+  pub counted-first : (bits : ℕ) → bits ≡ field → GroupsCounted field v bits v
+  counted-first bits one = record { shift = 0; few = omega (arith, one); left = sym (div-one v); count = λ o. omega (arith, one) }
 
-  pub counted-more : (bits step rest next : ℕ) → step ≡ field → rest ≢ 0 → next ≡ rest / 2 ^ m → GroupsCounted field v bits rest → GroupsCounted field v (bits + step) next
-  counted-more bits step rest next one some shifted counted =
+  -- two groups more
+  pub counted-more : (bits step rest next : ℕ) → step ≡ 2 * field → next ≡ rest / 2 ^ (2 * m) → next ≢ 0 → GroupsCounted field v bits rest → GroupsCounted field v (bits + step) next
+  counted-more bits step rest next two shifted some counted =
       let at = counted.shift in
+      let middle = rest / 2 ^ m in
+      let twice : 2 * m ≡ m + m = omega arith in
+      let second : next ≡ middle / 2 ^ m = shifted ∙ ap (λ k. rest / 2 ^ k) twice ∙ sym (shr-shr rest m m) in
+      let begun : middle ≢ 0 = some_of middle m (λ none. some (second ∙ none)) in
       record {
-        shift = at + (field - 1);
-        begun = omega arith;
-        few = omega (arith, counted.few, one, wide);
-        left = shifted ∙ ap₂ (λ a k. a / 2 ^ k) counted.left payload ∙ shr-shr v at (field - 1);
-        count = λ o. bits-more field (field - 1) wide refl o v at bits step one counted.begun (λ none. some (counted.left ∙ none)) (counted.count o);
+        shift = at + 2 * m;
+        few = omega (arith, counted.few, two, payload, wide);
+        left = shifted ∙ ap (λ k. k / 2 ^ (2 * m)) counted.left ∙ shr-shr v at (2 * m);
+        count = λ o. omega (arith, two, counted.count o, group_counted field m wide payload o rest middle refl begun, group_counted field m wide payload o middle next second some);
       }
 
-  pub counted-all : (bits rest : ℕ) → rest ≡ 0 → GroupsCounted field v bits rest → (o : Order) → length (vbr_word o field v) ≡ bits
-  counted-all bits rest none counted o = bits-all field (field - 1) wide refl o v counted.shift bits counted.begun (sym counted.left ∙ none) (counted.count o)
-
-  pub counted-few : (size bits rest : ℕ) → v < 2 ^ size → rest ≢ 0 → GroupsCounted field v bits rest → bits ≤ 2 * size
+  pub counted-few : (size bits rest : ℕ) → v < 2 ^ size → rest ≢ 0 → GroupsCounted field v bits rest → bits ≤ field + 2 * size
   counted-few size bits rest small some counted =
       omega (arith, counted.few, begins_within size v counted.shift small (λ none. some (counted.left ∙ none)))
+
+  -- the rest is one group
+  pub counted-all : (bits rest : ℕ) → rest / 2 ^ m ≡ 0 → GroupsCounted field v bits rest → (o : Order) → length (vbr_word o field v) ≡ bits
+  counted-all bits rest none counted o = omega (arith, counted.count o, last_counted field m wide payload o rest none)
+
+  -- the rest is two groups
+  pub counted-last : (bits step rest : ℕ) → step ≡ field → rest / 2 ^ m ≢ 0 → rest / 2 ^ (2 * m) ≡ 0 → GroupsCounted field v bits rest → (o : Order) → length (vbr_word o field v) ≡ bits + step
+  counted-last bits step rest one some none counted o =
+      let middle = rest / 2 ^ m in
+      let twice : 2 * m ≡ m + m = omega arith in
+      let ended : middle / 2 ^ m ≡ 0 = shr-shr rest m m ∙ ap (λ k. rest / 2 ^ k) (sym twice) ∙ none in
+      omega (arith, one, counted.count o, group_counted field m wide payload o rest middle refl some, last_counted field m wide payload o middle ended)
 
 -- ---- tests of a number that is shifted
 

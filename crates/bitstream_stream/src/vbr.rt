@@ -16,10 +16,14 @@ pub fn vbr_bits<F: Width, U: UnsignedInteger>(value: U) -> u32
     value.known();
     let payload = F::BITS - 1;
     let mut bits = F::BITS;
-    let mut rest = value >> payload;
-    while rest != U::ZERO {
+    let mut rest = value;
+    // Two groups a turn.
+    while rest.shr_default(2 * payload) != U::ZERO {
+        bits += 2 * F::BITS;
+        rest = rest.shr_default(2 * payload);
+    }
+    if rest >> payload != U::ZERO {
         bits += F::BITS;
-        rest >>= payload;
     }
     bits
 }
