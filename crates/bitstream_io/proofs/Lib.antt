@@ -1,6 +1,7 @@
 pub mod RunLemmas
 mod ReadBackLemmas
 mod ReadScriptLemmas
+mod Rows
 mod ScriptLemmas
 pub use Rattle.bitstream_number.proofs.SignedLemmas
 pub use Rattle.bitstream_number.proofs.WordLemmas
