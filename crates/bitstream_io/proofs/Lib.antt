@@ -1,4 +1,5 @@
 pub mod RunLemmas
+pub mod CallsBack
 mod ReadBackLemmas
 mod ReadScriptLemmas
 mod Rows

@@ -47,19 +47,19 @@ pub record Found {A : Type 0} (e : ReadEntry A) (p : ℕ) (w : List Bool) (a : A
   pub takes : (rest : List Bool) → e.reads p (w ++ rest) ≡ Takes (length w) (Ok a)
 
 -- a read whose answer is made another value
-mapped-found : {A B : Type 0} (make : A → B) {e : ReadEntry A} {p : ℕ} {w : List Bool} {a : A} → Found e p w a
+pub mapped-found : {A B : Type 0} (make : A → B) {e : ReadEntry A} {p : ℕ} {w : List Bool} {a : A} → Found e p w a
     → Found (chain e (λ v. gives (make v))) p w (make a)
 mapped-found make {e = e} {p = p} {w = w} {a = a} h = record {
   takes = λ rest. chain-ok e (λ v. gives (make v)) p (w ++ rest) (length w) a (h.takes rest)
-  ∙ ap (λ (n : ℕ). Takes n (Ok (make a))) (add-zero (length w));
+      ∙ ap (λ (n : ℕ). Takes n (Ok (make a))) (add-zero (length w));
 }
 
 -- a read that takes as many bits, and answers g of them
-word-found : {A : Type 0} (e : ReadEntry A) (n p : ℕ) (g : List Bool → A) (w : List Bool) (a : A)
+pub word-found : {A : Type 0} (e : ReadEntry A) (n p : ℕ) (g : List Bool → A) (w : List Bool) (a : A)
     → ((b : List Bool) → e.reads p b ≡ word_front n (λ u. Ok (g u)) b) → length w ≡ n → g w ≡ a → Found e p w a
 word-found e n p g w a reads size value = record {
   takes = λ rest. reads (w ++ rest) ∙ word_front-some n (λ u. Ok (g u)) w rest size
-  ∙ ap₂ (λ i v. Takes i (Ok v)) (sym size) value;
+      ∙ ap₂ (λ i v. Takes i (Ok v)) (sym size) value;
 }
 
 abbrev ok : List Bool → Result (List Bool) Error
@@ -76,7 +76,7 @@ before_error : (b : Bool) (x : Error) (u w : List Bool) → cond b (Ok u) (Err x
 before_error true x u w e = (refl, cc)
 before_error false x u w e = absurd cc
 
-bit-found : (b : Bool) (p : ℕ) → Found bit_entry p (b ∷ []) b
+pub bit-found : (b : Bool) (p : ℕ) → Found bit_entry p (b ∷ []) b
 bit-found b p = word-found bit_entry 1 p first_bit (b ∷ []) b (λ _. refl) refl refl
 
 value_fits : (n v : ℕ) → ((n == 0) || nat_lt v (2 ^ n)) ≡ true → v % 2 ^ n ≡ value_in n v
@@ -95,7 +95,7 @@ unsigned-ok o size n v len w e =
     let within : n ≤ size = grind (arith, nat_tests) in
     (within, fits.1, value_fits n v fits.0)
 
-unsigned-found : (o : Order) (size n v len p : ℕ) (w : List Bool) → unsigned o size n v len ≡ Ok w
+pub unsigned-found : (o : Order) (size n v len p : ℕ) (w : List Bool) → unsigned o size n v len ≡ Ok w
     → Found (unsigned_entry o size n) p w (value_in n v)
 unsigned-found o size n v len p w e =
     let k = unsigned-ok o size n v len w e in
@@ -119,7 +119,7 @@ signed-ok o size n x len w e =
     let within : n ≤ size = grind (arith, nat_tests) in
     (least, within, fits.1, fits-is n x fits.0)
 
-signed-found : (o : Order) (size n : ℕ) (x : ℤ) (len p : ℕ) (w : List Bool) → signed o size n x len ≡ Ok w
+pub signed-found : (o : Order) (size n : ℕ) (x : ℤ) (len p : ℕ) (w : List Bool) → signed o size n x len ≡ Ok w
     → Found (signed_entry o size n) p w x
 signed-found o size n x len p w e =
     let k = signed-ok o size n x len w e in
@@ -127,30 +127,30 @@ signed-found o size n x len p w e =
     (ap length (sym k.2) ∙ length-word o n _)
     (ap (signed_number o) (sym k.2) ∙ signed_number-signed_word o n x k.0 k.3)
 
-unary-found : (stop : Bool) (k p : ℕ) → k < 2 ^ 32 → Found (unary_entry stop) p (unary stop k) k
+pub unary-found : (stop : Bool) (k p : ℕ) → k < 2 ^ 32 → Found (unary_entry stop) p (unary stop k) k
 unfolding unary_entry
 unary-found stop k p small = record { takes = λ rest. read_unary-unary stop k rest small }
 
-vbr-found : (o : Order) (field size v p : ℕ) → 2 ≤ field → 0 < size → v < 2 ^ size
-    → Found (vbr_entry o field size (2 ^ size)) p (vbr_word o field v) v
+pub vbr-found : (o : Order) (field size limit v p : ℕ) → 2 ≤ field → 0 < size → limit ≤ 2 ^ size → v < limit
+    → Found (vbr_entry o field size limit) p (vbr_word o field v) v
 unfolding vbr_entry
-vbr-found o field size v p wide some small =
+vbr-found o field size limit v p wide some most small =
     let w = vbr_word o field v in
-    let taken = vbr_word_accepted o field (omega arith) size (2 ^ size) v wide some (omega arith) small in
-    record { takes = λ rest. read_vbr-IsAccepted o field (omega arith) size (2 ^ size) w v rest wide taken }
+    let taken = vbr_word_accepted o field (omega arith) size limit v wide some most small in
+    record { takes = λ rest. read_vbr-IsAccepted o field (omega arith) size limit w v rest wide taken }
 
-signed_vbr-found : (o : Order) (field size : ℕ) (x : ℤ) (p : ℕ) → 2 ≤ field → 0 < size → FitsSignedBits size x
+pub signed_vbr-found : (o : Order) (field size : ℕ) (x : ℤ) (p : ℕ) → 2 ≤ field → 0 < size → FitsSignedBits size x
     → Found (signed_vbr_entry o field size) p (vbr_word o field (zig x)) x
 unfolding signed_vbr_entry
 signed_vbr-found o field size x p wide some fits =
     subst (λ (y : ℤ). Found (signed_vbr_entry o field size) p (vbr_word o field (zig x)) y) (zag-zig x)
-    (mapped-found zag (vbr-found o field size (zig x) p wide some (zig-lt size x some fits)))
+    (mapped-found zag (vbr-found o field size (2 ^ size) (zig x) p wide some (omega arith) (zig-lt size x some fits)))
 
-bytes-are : (bytes : List ℕ) → AllByRecursion (λ b. b < 256) bytes → AreBytes bytes
+pub bytes-are : (bytes : List ℕ) → AllByRecursion (λ b. b < 256) bytes → AreBytes bytes
 bytes-are [] h = tt
 bytes-are (b ∷ bytes) h = (h.0, bytes-are bytes h.1)
 
-bytes-found : (o : Order) (bytes : List ℕ) (p : ℕ) → AreBytes bytes
+pub bytes-found : (o : Order) (bytes : List ℕ) (p : ℕ) → AreBytes bytes
     → Found (bytes_entry o (length bytes)) p (bits o bytes) bytes
 unfolding bytes_entry
 bytes-found o bytes p fit =
@@ -158,7 +158,7 @@ bytes-found o bytes p fit =
     word-found (bytes_entry o n) (8 * n) p (bytes_of o n) (bits o bytes) bytes (λ _. refl) (length-bits o bytes)
     (bytes_of-bits o bytes fit)
 
-skip-found : (n p : ℕ) → Found (skip_entry n) p (replicate n false) tt
+pub skip-found : (n p : ℕ) → Found (skip_entry n) p (replicate n false) tt
 unfolding skip_entry
 skip-found n p =
     word-found (skip_entry n) n p (λ _. tt) (replicate n false) tt (λ _. refl) (length-replicate n false) refl
@@ -180,7 +180,7 @@ plain-found {e = e} {p = p} {u = u} {w = w} {a = a} h found =
 vbr_call : (o : Order) (field : ℕ) {v p : ℕ} {w : List Bool} → 2 ≤ field → ok (vbr_word o field v) ≡ Ok w → v < 2 ^ 64
     → Found (answered answer.Vbr (vbr_entry o field 64 (2 ^ 64))) p w (answer.Vbr v)
 vbr_call o field {v = v} {p = p} wide e h =
-    plain-found e (mapped-found answer.Vbr (vbr-found o field 64 v p wide (omega arith) h))
+    plain-found e (mapped-found answer.Vbr (vbr-found o field 64 (2 ^ 64) v p wide (omega arith) (omega arith) h))
 
 signed_vbr_call : (o : Order) (field : ℕ) {x : ℤ} {p : ℕ} {w : List Bool} → 2 ≤ field
     → ok (vbr_word o field (zig x)) ≡ Ok w → FitsSignedBits 64 x

@@ -1,10 +1,13 @@
 -- Worked rows of lists of calls.
-use Rattle.std.proofs.Common.{◌≡◌, Bool, true, false, List, [], ◌∷◌, Some, None, Ok, refl}
-use Rattle.bitstream_number.specs.Word.{High, digits, digits_number}
-use Rattle.bitstream_count.specs.Entry.{chain}
-use Rattle.bitstream_stream.specs.ReadTable.{unsigned_entry, unary_entry, align_entry}
+use Rattle.std.proofs.Common.{◌≡◌, ◌<◌, ◌^◌, ℕ, ℤ, Bool, true, false, List, [], ◌∷◌, Some, None, Ok, length, refl}
+use Rattle.std.specs.List.{All}
+use Rattle.bitstream_number.specs.Word.{Order, High, FitsSignedBits, digits, digits_number}
+use Rattle.bitstream_count.specs.Entry.{chain, gives}
+use Rattle.bitstream_stream.specs.ReadTable.{unsigned_entry, unary_entry, vbr_entry, signed_vbr_entry, bytes_entry, skip_entry, align_entry}
 use Rattle.bitstream_stream.specs.Run.{write_run, read_run}
-use Rattle.bitstream_stream.specs.WriteTable.{unsigned}
+use Rattle.bitstream_stream.specs.WriteTable.{unsigned, unary_word, vbr, signed_vbr, buffer, zeros}
+use Rattle.bitstream_value.proofs.BackLemmas.{GoesBack}
+use Rattle.bitstream_io.proofs.CallsBack.{calls_go_back}
 use Rattle.bitstream_io.specs.ReadBack.{accepted_calls, matching_reads, answers_of}
 use Rattle.bitstream_io.specs.ReadScript.{read_entries, run_answers}
 use Rattle.bitstream_io.specs.Script.{write_entries}
@@ -42,3 +45,12 @@ back : run_answers (read_run (read_entries High (read.U8 3 ∷ read.U8 0 ∷ rea
     ≡ Some (Ok (answer.U8 5)) ∷ Some (Ok (answer.U8 0)) ∷ Some (Ok (answer.Unary 2)) ∷ Some (Ok answer.Done) ∷ []
 unfolding left chain digits_number unsigned_entry unary_entry align_entry
 back = refl
+
+-- a run, two numbers of variable width, four bytes and three bits of padding
+in_a_row : (o : Order) (k v : ℕ) (x : ℤ) (bytes : List ℕ) → k < 2 ^ 32 → v < 2 ^ 32 → FitsSignedBits 64 x
+    → length bytes ≡ 4 → All (λ b. b < 256) bytes
+    → GoesBack {A = ℕ × ℕ × ℤ × List ℕ}
+    (chain (unary_entry false) (λ a. chain (vbr_entry o 8 32 (2 ^ 32)) (λ b. chain (signed_vbr_entry o 4 64)
+    (λ c. chain (bytes_entry o 4) (λ d. chain (skip_entry 3) (λ _. gives (a, b, c, d)))))))
+    (unary_word false k ∷ vbr o 8 v ∷ signed_vbr o 4 x ∷ buffer o bytes ∷ zeros 3 ∷ []) (k, v, x, bytes)
+in_a_row o k v x bytes small less fits size each = search (calls_go_back, small, less, fits, size, each) depth 16

@@ -2,6 +2,7 @@
 use Rattle.std.specs.Prelude.{◌≡◌, ◌++◌, ℕ, ◌+◌, ◌%◌, ◌^◌, ◌<◌, ◌==◌, if◌then◌else◌, Bool, true, false, List, [], ◌∷◌, length, map, Option, Some, None, Result, Ok, Err, is_ok, ⊤}
 use Rattle.std.specs.List.{All}
 use Rattle.bitstream_number.specs.Word.{Order, FitsSignedBits, bits}
+use Rattle.bitstream_count.specs.Entry.{ReadEntry, WriteEntry, Takes}
 use Rattle.bitstream_count.specs.declared.error.Error.{Error}
 use Rattle.bitstream_count.specs.declared.error.Error.TheVariants.{OutOfMemory}
 use Rattle.bitstream_order.specs.Fault.{read_refusal_of}
@@ -28,6 +29,12 @@ IsCall (SignedVbr4 x) = FitsSignedBits 64 x
 IsCall (SignedVbr8 x) = FitsSignedBits 64 x
 IsCall (Bytes bytes) = All (λ b. b < 256) bytes
 IsCall _ = ⊤
+
+-- Wherever these calls write, the read takes just what they wrote, whatever follows it, and answers a.
+abbrev pub IsReadAs : {A : Type 0} → List WriteEntry → ReadEntry A → A → Type 0
+IsReadAs writes entry a =
+    (len p : ℕ) (more : List Bool)
+    → let word = write_run writes len in entry.reads p (word ++ more) ≡ Takes (length word) (Ok a)
 
 -- the accepted ones of calls, in their order, each called at the length that is reached before it
 abbrev pub accepted_calls : Order → List WriteCall → ℕ → List WriteCall
