@@ -1,6 +1,8 @@
 pub mod RunLemmas
+pub mod CallsBack
 mod ReadBackLemmas
 mod ReadScriptLemmas
+mod Rows
 mod ScriptLemmas
 pub use Rattle.bitstream_number.proofs.SignedLemmas
 pub use Rattle.bitstream_number.proofs.WordLemmas

@@ -12,7 +12,7 @@ use Rattle.bitstream_number.proofs.Bytes.{AreBytes}
 use Rattle.bitstream_number.proofs.ByteLemmas.{bytes_of-bits}
 use Rattle.bitstream_number.proofs.SignedLemmas.{signed_number-signed_word, zag-zig}
 use Rattle.bitstream_number.proofs.WordLemmas.{length-word, length-bits, number-word}
-use Rattle.bitstream_count.specs.Entry.{ReadEntry, Takes, chain, gives}
+use Rattle.bitstream_count.specs.Entry.{ReadEntry, Takes, word_front, chain, gives}
 use Rattle.bitstream_count.specs.Unary.{unary}
 use Rattle.bitstream_count.specs.Vbr.{vbr_word}
 use Rattle.bitstream_count.specs.declared.error.Error.{Error}
@@ -31,7 +31,7 @@ use Rattle.bitstream_value.proofs.BackLemmas.{signed-word}
 use Rattle.bitstream_value.proofs.SureLemmas.{unsigned-word}
 use Rattle.bitstream_io.specs.ReadBack.{IsCall, accepted_calls, matching_read, matching_reads, value_in, answer_of, answers_of, StandsBefore, ReadsBack}
 use Rattle.bitstream_io.specs.ReadBack as back
-use Rattle.bitstream_io.specs.ReadScript.{read_entry, asks_memory, read_entries, run_answers, place_behind, failed_answers, ReadsRun}
+use Rattle.bitstream_io.specs.ReadScript.{answered, read_entry, asks_memory, read_entries, run_answers, place_behind, failed_answers, ReadsRun}
 use Rattle.bitstream_io.specs.ReadScript as lists
 use Rattle.bitstream_io.specs.Script.{write_entry, write_entries}
 use Rattle.bitstream_io.specs.declared.script.answers.Answer.{Answer}
@@ -47,16 +47,27 @@ pub record Found {A : Type 0} (e : ReadEntry A) (p : ℕ) (w : List Bool) (a : A
   pub takes : (rest : List Bool) → e.reads p (w ++ rest) ≡ Takes (length w) (Ok a)
 
 -- a read whose answer is made another value
-mapped-found : {A B : Type 0} (make : A → B) {e : ReadEntry A} {p : ℕ} {w : List Bool} {a : A} → Found e p w a → Found (chain e (λ v. gives (make v))) p w (make a)
+pub mapped-found : {A B : Type 0} (make : A → B) {e : ReadEntry A} {p : ℕ} {w : List Bool} {a : A} → Found e p w a
+    → Found (chain e (λ v. gives (make v))) p w (make a)
 mapped-found make {e = e} {p = p} {w = w} {a = a} h = record {
-  takes = λ rest. chain-ok e (λ v. gives (make v)) p (w ++ rest) (length w) a (h.takes rest) ∙ ap (λ (n : ℕ). Takes n (Ok (make a))) (add-zero (length w));
+  takes = λ rest. chain-ok e (λ v. gives (make v)) p (w ++ rest) (length w) a (h.takes rest)
+      ∙ ap (λ (n : ℕ). Takes n (Ok (make a))) (add-zero (length w));
+}
+
+-- a read that takes as many bits, and answers g of them
+pub word-found : {A : Type 0} (e : ReadEntry A) (n p : ℕ) (g : List Bool → A) (w : List Bool) (a : A)
+    → ((b : List Bool) → e.reads p b ≡ word_front n (λ u. Ok (g u)) b) → length w ≡ n → g w ≡ a → Found e p w a
+word-found e n p g w a reads size value = record {
+  takes = λ rest. reads (w ++ rest) ∙ word_front-some n (λ u. Ok (g u)) w rest size
+      ∙ ap₂ (λ i v. Takes i (Ok v)) (sym size) value;
 }
 
 abbrev ok : List Bool → Result (List Bool) Error
 ok w = Ok w
 
 -- a word that no error stands before
-behind_error : (b : Bool) (x : Error) (r : Result (List Bool) Error) (w : List Bool) → cond b (Err x) r ≡ Ok w → (b ≡ false) × (r ≡ Ok w)
+behind_error : (b : Bool) (x : Error) (r : Result (List Bool) Error) (w : List Bool) → cond b (Err x) r ≡ Ok w
+    → (b ≡ false) × (r ≡ Ok w)
 behind_error true x r w e = absurd cc
 behind_error false x r w e = (refl, e)
 
@@ -65,14 +76,17 @@ before_error : (b : Bool) (x : Error) (u w : List Bool) → cond b (Ok u) (Err x
 before_error true x u w e = (refl, cc)
 before_error false x u w e = absurd cc
 
-bit-found : (b : Bool) (p : ℕ) → Found bit_entry p (b ∷ []) b
-bit-found b p = record { takes = λ rest. word_front-some 1 (λ u. Ok (first_bit u)) (b ∷ []) rest refl }
+pub bit-found : (b : Bool) (p : ℕ) → Found bit_entry p (b ∷ []) b
+bit-found b p = word-found bit_entry 1 p first_bit (b ∷ []) b (λ _. refl) refl refl
 
 value_fits : (n v : ℕ) → ((n == 0) || nat_lt v (2 ^ n)) ≡ true → v % 2 ^ n ≡ value_in n v
 value_fits zero v h = omega arith
-value_fits (suc n) v h = let fits : v < 2 ^ suc n = grind (arith, nat_tests) in rw (ne_eqb (suc n) 0 (λ e. omega arith)) (mod-eq_of_lt fits)
+value_fits (suc n) v h =
+    let fits : v < 2 ^ suc n = grind (arith, nat_tests) in
+    rw (ne_eqb (suc n) 0 (λ e. omega arith)) (mod-eq_of_lt fits)
 
-unsigned-ok : (o : Order) (size n v len : ℕ) (w : List Bool) → unsigned o size n v len ≡ Ok w → (n ≤ size) × (word o n v ≡ w) × (v % 2 ^ n ≡ value_in n v)
+unsigned-ok : (o : Order) (size n v len : ℕ) (w : List Bool) → unsigned o size n v len ≡ Ok w
+    → (n ≤ size) × (word o n v ≡ w) × (v % 2 ^ n ≡ value_in n v)
 unfolding unsigned
 unsigned-ok o size n v len w e =
     let wide = behind_error (nat_lt size n) (Checked ExcessiveBits) _ w e in
@@ -81,18 +95,19 @@ unsigned-ok o size n v len w e =
     let within : n ≤ size = grind (arith, nat_tests) in
     (within, fits.1, value_fits n v fits.0)
 
-unsigned-found : (o : Order) (size n v len p : ℕ) (w : List Bool) → unsigned o size n v len ≡ Ok w → Found (unsigned_entry o size n) p w (value_in n v)
+pub unsigned-found : (o : Order) (size n v len p : ℕ) (w : List Bool) → unsigned o size n v len ≡ Ok w
+    → Found (unsigned_entry o size n) p w (value_in n v)
 unsigned-found o size n v len p w e =
     let k = unsigned-ok o size n v len w e in
-    let value : number o w ≡ value_in n v = ap (number o) (sym k.1) ∙ number-word o n v ∙ k.2 in
-    let size_is : length w ≡ n = ap length (sym k.1) ∙ length-word o n v in
-    record { takes = λ rest. (unsigned-word o size n k.0).reads p (w ++ rest) ∙ word_front-some n (λ u. Ok (number o u)) w rest size_is ∙ ap₂ (λ (i a : ℕ). Takes i (Ok a)) (sym size_is) value }
+    word-found (unsigned_entry o size n) n p (number o) w (value_in n v) ((unsigned-word o size n k.0).reads p)
+    (ap length (sym k.1) ∙ length-word o n v) (ap (number o) (sym k.1) ∙ number-word o n v ∙ k.2)
 
 fits-is : (n : ℕ) (x : ℤ) → fits_signed n x ≡ true → FitsSignedBits n x
 fits-is n (pos k) h = grind (arith, nat_tests)
 fits-is n (negsuc k) h = grind (arith, nat_tests)
 
-signed-ok : (o : Order) (size n : ℕ) (x : ℤ) (len : ℕ) (w : List Bool) → signed o size n x len ≡ Ok w → (1 ≤ n) × (n ≤ size) × (signed_word o n x ≡ w) × FitsSignedBits n x
+signed-ok : (o : Order) (size n : ℕ) (x : ℤ) (len : ℕ) (w : List Bool) → signed o size n x len ≡ Ok w
+    → (1 ≤ n) × (n ≤ size) × (signed_word o n x ≡ w) × FitsSignedBits n x
 unfolding signed
 signed-ok o size n x len w e =
     let some = behind_error (n == 0) NoSignBit _ w e in
@@ -104,55 +119,78 @@ signed-ok o size n x len w e =
     let within : n ≤ size = grind (arith, nat_tests) in
     (least, within, fits.1, fits-is n x fits.0)
 
-signed-found : (o : Order) (size n : ℕ) (x : ℤ) (len p : ℕ) (w : List Bool) → signed o size n x len ≡ Ok w → Found (signed_entry o size n) p w x
+pub signed-found : (o : Order) (size n : ℕ) (x : ℤ) (len p : ℕ) (w : List Bool) → signed o size n x len ≡ Ok w
+    → Found (signed_entry o size n) p w x
 signed-found o size n x len p w e =
     let k = signed-ok o size n x len w e in
-    let value : signed_number o w ≡ x = ap (signed_number o) (sym k.2) ∙ signed_number-signed_word o n x k.0 k.3 in
-    let size_is : length w ≡ n = ap length (sym k.2) ∙ length-word o n _ in
-    record { takes = λ rest. (signed-word o size n k.0 k.1).reads p (w ++ rest) ∙ word_front-some n (λ u. Ok (signed_number o u)) w rest size_is ∙ ap₂ (λ (i : ℕ) (y : ℤ). Takes i (Ok y)) (sym size_is) value }
+    word-found (signed_entry o size n) n p (signed_number o) w x ((signed-word o size n k.0 k.1).reads p)
+    (ap length (sym k.2) ∙ length-word o n _)
+    (ap (signed_number o) (sym k.2) ∙ signed_number-signed_word o n x k.0 k.3)
 
-unary-found : (stop : Bool) (k p : ℕ) → k < 2 ^ 32 → Found (unary_entry stop) p (unary stop k) k
+pub unary-found : (stop : Bool) (k p : ℕ) → k < 2 ^ 32 → Found (unary_entry stop) p (unary stop k) k
 unfolding unary_entry
 unary-found stop k p small = record { takes = λ rest. read_unary-unary stop k rest small }
 
-vbr-found : (o : Order) (field size v p : ℕ) → 2 ≤ field → 0 < size → v < 2 ^ size → Found (vbr_entry o field size (2 ^ size)) p (vbr_word o field v) v
+pub vbr-found : (o : Order) (field size limit v p : ℕ) → 2 ≤ field → 0 < size → limit ≤ 2 ^ size → v < limit
+    → Found (vbr_entry o field size limit) p (vbr_word o field v) v
 unfolding vbr_entry
-vbr-found o field size v p wide some small =
-    let taken = vbr_word_accepted o field (omega arith) size (2 ^ size) v wide some (omega arith) small in
-    record { takes = λ rest. read_vbr-IsAccepted o field (omega arith) size (2 ^ size) (vbr_word o field v) v rest wide taken }
+vbr-found o field size limit v p wide some most small =
+    let w = vbr_word o field v in
+    let taken = vbr_word_accepted o field (omega arith) size limit v wide some most small in
+    record { takes = λ rest. read_vbr-IsAccepted o field (omega arith) size limit w v rest wide taken }
 
-signed_vbr-found : (o : Order) (field size : ℕ) (x : ℤ) (p : ℕ) → 2 ≤ field → 0 < size → FitsSignedBits size x → Found (signed_vbr_entry o field size) p (vbr_word o field (zig x)) x
+pub signed_vbr-found : (o : Order) (field size : ℕ) (x : ℤ) (p : ℕ) → 2 ≤ field → 0 < size → FitsSignedBits size x
+    → Found (signed_vbr_entry o field size) p (vbr_word o field (zig x)) x
 unfolding signed_vbr_entry
 signed_vbr-found o field size x p wide some fits =
-    subst (λ (y : ℤ). Found (signed_vbr_entry o field size) p (vbr_word o field (zig x)) y) (zag-zig x) (mapped-found zag (vbr-found o field size (zig x) p wide some (zig-lt size x some fits)))
+    subst (λ (y : ℤ). Found (signed_vbr_entry o field size) p (vbr_word o field (zig x)) y) (zag-zig x)
+    (mapped-found zag (vbr-found o field size (2 ^ size) (zig x) p wide some (omega arith) (zig-lt size x some fits)))
 
-bytes-are : (bytes : List ℕ) → AllByRecursion (λ b. b < 256) bytes → AreBytes bytes
+pub bytes-are : (bytes : List ℕ) → AllByRecursion (λ b. b < 256) bytes → AreBytes bytes
 bytes-are [] h = tt
 bytes-are (b ∷ bytes) h = (h.0, bytes-are bytes h.1)
 
-bytes-found : (o : Order) (bytes : List ℕ) (p : ℕ) → AreBytes bytes → Found (bytes_entry o (length bytes)) p (bits o bytes) bytes
+pub bytes-found : (o : Order) (bytes : List ℕ) (p : ℕ) → AreBytes bytes
+    → Found (bytes_entry o (length bytes)) p (bits o bytes) bytes
 unfolding bytes_entry
-bytes-found o bytes p fit = record {
-  takes = λ rest. word_front-some (8 * length bytes) (λ u. Ok (bytes_of o (length bytes) u)) (bits o bytes) rest (length-bits o bytes) ∙ rw (length-bits o bytes, bytes_of-bits o bytes fit) refl;
-}
+bytes-found o bytes p fit =
+    let n = length bytes in
+    word-found (bytes_entry o n) (8 * n) p (bytes_of o n) (bits o bytes) bytes (λ _. refl) (length-bits o bytes)
+    (bytes_of-bits o bytes fit)
 
-skip-found : (n p : ℕ) → Found (skip_entry n) p (replicate n false) tt
+pub skip-found : (n p : ℕ) → Found (skip_entry n) p (replicate n false) tt
 unfolding skip_entry
-skip-found n p = record { takes = λ rest. word_front-some n (λ _. Ok tt) (replicate n false) rest (length-replicate n false) ∙ rw (length-replicate n false) refl }
+skip-found n p =
+    word-found (skip_entry n) n p (λ _. tt) (replicate n false) tt (λ _. refl) (length-replicate n false) refl
 
 align-found : (len p : ℕ) → p % 8 ≡ len % 8 → Found align_entry p (replicate (to_boundary len) false) tt
 unfolding align_entry
 align-found len p same =
-    let at : to_boundary p ≡ to_boundary len = omega arith in
-    let size : length (replicate (to_boundary len) false) ≡ to_boundary p = length-replicate (to_boundary len) false ∙ sym at in
-    record { takes = λ rest. word_front-some (to_boundary p) (λ _. Ok tt) (replicate (to_boundary len) false) rest size ∙ rw size refl }
+    let at : to_boundary len ≡ to_boundary p = omega arith in
+    word-found align_entry (to_boundary p) p (λ _. tt) (replicate (to_boundary len) false) tt (λ _. refl)
+    (length-replicate (to_boundary len) false ∙ at) refl
 
 -- a call that accepts each value
-plain-found : {A : Type 0} {e : ReadEntry A} {p : ℕ} {u w : List Bool} {a : A} → ok u ≡ Ok w → Found e p u a → Found e p w a
-plain-found {e = e} {p = p} {u = u} {w = w} {a = a} h found = subst (λ (v : List Bool). Found e p v a) (let is : u ≡ w = cc in is) found
+plain-found : {A : Type 0} {e : ReadEntry A} {p : ℕ} {u w : List Bool} {a : A} → ok u ≡ Ok w → Found e p u a
+    → Found e p w a
+plain-found {e = e} {p = p} {u = u} {w = w} {a = a} h found =
+    subst (λ (v : List Bool). Found e p v a) (let is : u ≡ w = cc in is) found
+
+-- numbers of 64 bits, of variable width
+vbr_call : (o : Order) (field : ℕ) {v p : ℕ} {w : List Bool} → 2 ≤ field → ok (vbr_word o field v) ≡ Ok w → v < 2 ^ 64
+    → Found (answered answer.Vbr (vbr_entry o field 64 (2 ^ 64))) p w (answer.Vbr v)
+vbr_call o field {v = v} {p = p} wide e h =
+    plain-found e (mapped-found answer.Vbr (vbr-found o field 64 (2 ^ 64) v p wide (omega arith) (omega arith) h))
+
+signed_vbr_call : (o : Order) (field : ℕ) {x : ℤ} {p : ℕ} {w : List Bool} → 2 ≤ field
+    → ok (vbr_word o field (zig x)) ≡ Ok w → FitsSignedBits 64 x
+    → Found (answered answer.SignedVbr (signed_vbr_entry o field 64)) p w (answer.SignedVbr x)
+signed_vbr_call o field {x = x} {p = p} wide e h =
+    plain-found e (mapped-found answer.SignedVbr (signed_vbr-found o field 64 x p wide (omega arith) h))
 
 -- the word of an accepted call is found by its matching read
-pub call-found : (o : Order) (call : WriteCall) (len p : ℕ) (w : List Bool) → IsCall call → p % 8 ≡ len % 8 → write_entry o call len ≡ Ok w → Found (read_entry o (matching_read call)) p w (answer_of call)
+pub call-found : (o : Order) (call : WriteCall) (len p : ℕ) (w : List Bool) → IsCall call → p % 8 ≡ len % 8
+    → write_entry o call len ≡ Ok w → Found (read_entry o (matching_read call)) p w (answer_of call)
 call-found o (Bit b) len p w h same e = plain-found e (mapped-found answer.Bit (bit-found b p))
 call-found o (U8 n v) len p w h same e = mapped-found answer.U8 (unsigned-found o 8 n v len p w e)
 call-found o (U16 n v) len p w h same e = mapped-found answer.U16 (unsigned-found o 16 n v len p w e)
@@ -166,59 +204,87 @@ call-found o (I64 n x) len p w h same e = mapped-found answer.I64 (signed-found 
 call-found o (I128 n x) len p w h same e = mapped-found answer.I128 (signed-found o 128 n x len p w e)
 call-found o (Unary0 k) len p w h same e = plain-found e (mapped-found answer.Unary (unary-found false k p h))
 call-found o (Unary1 k) len p w h same e = plain-found e (mapped-found answer.Unary (unary-found true k p h))
-call-found o (Vbr4 v) len p w h same e = plain-found e (mapped-found answer.Vbr (vbr-found o 4 64 v p (omega arith) (omega arith) h))
-call-found o (Vbr8 v) len p w h same e = plain-found e (mapped-found answer.Vbr (vbr-found o 8 64 v p (omega arith) (omega arith) h))
-call-found o (SignedVbr4 x) len p w h same e = plain-found e (mapped-found answer.SignedVbr (signed_vbr-found o 4 64 x p (omega arith) (omega arith) h))
-call-found o (SignedVbr8 x) len p w h same e = plain-found e (mapped-found answer.SignedVbr (signed_vbr-found o 8 64 x p (omega arith) (omega arith) h))
+call-found o (Vbr4 v) len p w h same e = vbr_call o 4 (omega arith) e h
+call-found o (Vbr8 v) len p w h same e = vbr_call o 8 (omega arith) e h
+call-found o (SignedVbr4 x) len p w h same e = signed_vbr_call o 4 (omega arith) e h
+call-found o (SignedVbr8 x) len p w h same e = signed_vbr_call o 8 (omega arith) e h
 call-found o (Bytes bytes) len p w h same e =
-    plain-found e (mapped-found answer.Bytes (bytes-found o bytes p (bytes-are bytes (recursion_from_All (λ b. b < 256) bytes h))))
+    let fit = bytes-are bytes (recursion_from_All (λ b. b < 256) bytes h) in
+    plain-found e (mapped-found answer.Bytes (bytes-found o bytes p fit))
 call-found o (Pad n) len p w h same e = plain-found e (mapped-found (λ _. answer.Done) (skip-found n p))
 call-found o Align len p w h same e = plain-found e (mapped-found (λ _. answer.Done) (align-found len p same))
 
 -- ---- lists of calls
 
+-- a call's answer and the place behind it
+abbrev Step : Type 0
+Step = Result Answer Error × ℕ
+
+-- answers in their places
+abbrev Places : Type 0
+Places = List (Option (Result Answer Error))
+
 -- one read in front, which answers a value
-run-step : (e : ReadEntry Answer) (es : List (ReadEntry Answer)) (p n : ℕ) (b : List Bool) (a : Answer) → e.reads p b ≡ Takes n (Ok a) → read_run (e ∷ es) p b ≡ (Ok a, p + n) ∷ read_run es (p + n) (drop n b)
+run-step : (e : ReadEntry Answer) (es : List (ReadEntry Answer)) (p n : ℕ) (b : List Bool) (a : Answer)
+    → e.reads p b ≡ Takes n (Ok a) → read_run (e ∷ es) p b ≡ (Ok a, p + n) ∷ read_run es (p + n) (drop n b)
 run-step e es p n b a h = ap (λ front. answer_and front p (λ (k : ℕ). read_run es (p + k) (drop k b))) h
 
 module _ (o : Order) (more : List Bool) where
-  words : List WriteCall → ℕ → List Bool
+  abbrev words : List WriteCall → ℕ → List Bool
   words calls len = write_run (write_entries None o calls) len
 
-  -- what the matching reads of the accepted calls answer behind p bits
-  matched : List WriteCall → ℕ → ℕ → List (Result Answer Error × ℕ)
-  matched calls len p = read_run (read_entries o (matching_reads (accepted_calls o calls len))) p (words calls len ++ more)
+  -- the matching reads of the accepted calls
+  abbrev reads : List WriteCall → ℕ → List (ReadEntry Answer)
+  reads calls len = read_entries o (matching_reads (accepted_calls o calls len))
 
-  IsBack : List WriteCall → ℕ → ℕ → Type 0
-  IsBack calls len p = (run_answers (matched calls len p) ≡ answers_of (accepted_calls o calls len)) × (place_behind p (matched calls len p) ≡ p + length (words calls len))
+  -- what they answer behind p bits
+  abbrev matched : List WriteCall → ℕ → ℕ → List Step
+  matched calls len p = read_run (reads calls len) p (words calls len ++ more)
+
+  abbrev IsBack : List WriteCall → ℕ → ℕ → Type 0
+  IsBack calls len p =
+      (run_answers (matched calls len p) ≡ answers_of (accepted_calls o calls len))
+      × (place_behind p (matched calls len p) ≡ p + length (words calls len))
 
   -- one call more in front, whatever its entry
-  one_more : (call : WriteCall) (calls : List WriteCall) (len p : ℕ) (r : Result (List Bool) Error) → IsCall call → p % 8 ≡ len % 8 → write_entry o call len ≡ r
+  one_more : (call : WriteCall) (calls : List WriteCall) (len p : ℕ) (r : Result (List Bool) Error) → IsCall call
+      → p % 8 ≡ len % 8 → write_entry o call len ≡ r
       → IsBack calls (len + length (accepted r)) (p + length (accepted r)) → IsBack (call ∷ calls) len p
-  unfolding words matched IsBack
   one_more call calls len p (Ok w) h same e others =
+      let e1 = read_entry o (matching_read call) in
+      let a = answer_of call in
       let rest = words calls (len + length w) in
-      let es = read_entries o (matching_reads (accepted_calls o calls (len + length w))) in
-      let bits_are : (w ++ rest) ++ more ≡ w ++ (rest ++ more) = append_assoc w rest more in
-      let step = run-step (read_entry o (matching_read call)) es p (length w) (w ++ (rest ++ more)) (answer_of call) ((call-found o call len p w h same e).takes (rest ++ more)) in
+      let es = reads calls (len + length w) in
+      let front = (call-found o call len p w h same e).takes (rest ++ more) in
+      let step = run-step e1 es p (length w) (w ++ (rest ++ more)) a front in
       let behind : drop (length w) (w ++ (rest ++ more)) ≡ rest ++ more = drop-append_seam w (rest ++ more) in
-      let run : read_run (read_entry o (matching_read call) ∷ es) p ((w ++ rest) ++ more) ≡ (Ok (answer_of call), p + length w) ∷ matched calls (len + length w) (p + length w) =
-      ap (read_run (read_entry o (matching_read call) ∷ es) p) bits_are ∙ step
-      ∙ ap (λ (b : List Bool). (Ok (answer_of call), p + length w) ∷ read_run es (p + length w) b) behind in
+      let run : read_run (e1 ∷ es) p ((w ++ rest) ++ more)
+      ≡ (Ok a, p + length w) ∷ matched calls (len + length w) (p + length w) =
+      ap (read_run (e1 ∷ es) p) (append_assoc w rest more) ∙ step
+      ∙ ap (λ (b : List Bool). (Ok a, p + length w) ∷ read_run es (p + length w) b) behind in
       rw e (
-        ap run_answers run ∙ ap (λ (l : List (Option (Result Answer Error))). Some (Ok (answer_of call)) ∷ l) others.0,
+        ap run_answers run ∙ ap (λ (l : Places). Some (Ok a) ∷ l) others.0,
         ap (place_behind p) run ∙ others.1 ∙ omega (arith, length-append w rest),
       )
-  one_more call calls len p (Err d) h same e others = rw e (subst (λ (q : ℕ). IsBack calls (len + 0) q) (add-zero p) others)
+  one_more call calls len p (Err d) h same e others =
+      rw e (subst (λ (q : ℕ). IsBack calls (len + 0) q) (add-zero p) others)
 
-  pub all_back : (calls : List WriteCall) (len p : ℕ) → AllByRecursion IsCall calls → p % 8 ≡ len % 8
-      → let run = read_run (read_entries o (matching_reads (accepted_calls o calls len))) p (write_run (write_entries None o calls) len ++ more) in
-      (run_answers run ≡ answers_of (accepted_calls o calls len)) × (place_behind p run ≡ p + length (write_run (write_entries None o calls) len))
-  unfolding words matched IsBack
+  all_back : (calls : List WriteCall) (len p : ℕ) → AllByRecursion IsCall calls → p % 8 ≡ len % 8 → IsBack calls len p
   all_back [] len p h same = (refl, sym (add-zero p))
   all_back (call ∷ calls) len p h same =
       let k = length (accepted (write_entry o call len)) in
-      one_more call calls len p (write_entry o call len) h.0 same refl (all_back calls (len + k) (p + k) h.1 (omega arith))
+      one_more call calls len p (write_entry o call len) h.0 same refl
+      (all_back calls (len + k) (p + k) h.1 (omega arith))
+
+  pub answers_back : (calls : List WriteCall) (len p : ℕ) → All IsCall calls → p % 8 ≡ len % 8
+      → run_answers (read_run (read_entries o (matching_reads (accepted_calls o calls len))) p
+      (write_run (write_entries None o calls) len ++ more)) ≡ answers_of (accepted_calls o calls len)
+  answers_back calls len p h same = (all_back calls len p (recursion_from_All IsCall calls h) same).0
+
+  pub place_back : (calls : List WriteCall) (len p : ℕ) → All IsCall calls → p % 8 ≡ len % 8
+      → place_behind p (read_run (read_entries o (matching_reads (accepted_calls o calls len))) p
+      (write_run (write_entries None o calls) len ++ more)) ≡ p + length (write_run (write_entries None o calls) len)
+  place_back calls len p h same = (all_back calls len p (recursion_from_All IsCall calls h) same).1
 
 -- ---- what a reader answers
 
@@ -231,12 +297,14 @@ tails x y xs ys h = cc
 sizes : (calls : List WriteCall) (reads : List ReadCall) → matching_reads calls ≡ reads → length calls ≡ length reads
 sizes calls reads h = sym (length-map calls matching_read) ∙ ap length h
 
-none_left : (others : List (Result Answer Error × ℕ)) (call : WriteCall) (calls : List WriteCall) → others ≡ [] → run_answers others ≡ answers_of (call ∷ calls) → ⊥
+none_left : (others : List Step) (call : WriteCall) (calls : List WriteCall) → others ≡ []
+    → run_answers others ≡ answers_of (call ∷ calls) → ⊥
 none_left [] call calls is h = cc
 none_left (step ∷ others) call calls is h = cc
 
 -- no value that was written is an error
-no_error : (first : List (Result Answer Error × ℕ)) (x : Error) (place : ℕ) (others : List (Result Answer Error × ℕ)) (calls : List WriteCall) → run_answers (first ++ (Err x, place) ∷ others) ≡ answers_of calls → ⊥
+no_error : (first : List Step) (x : Error) (place : ℕ) (others : List Step) (calls : List WriteCall)
+    → run_answers (first ++ (Err x, place) ∷ others) ≡ answers_of calls → ⊥
 no_error [] x place others [] h = cc
 no_error [] x place others (c ∷ calls) h = cc
 no_error (step ∷ first) x place others [] h = cc
@@ -252,10 +320,19 @@ record Cut (calls : List WriteCall) (before : List ReadCall) (call : ReadCall) (
   call_is : matching_read one ≡ call
   behind_is : matching_reads last ≡ behind
 
-cut : (calls : List WriteCall) (before : List ReadCall) (call : ReadCall) (behind : List ReadCall) → matching_reads calls ≡ before ++ call ∷ behind → Cut calls before call behind
+cut : (calls : List WriteCall) (before : List ReadCall) (call : ReadCall) (behind : List ReadCall)
+    → matching_reads calls ≡ before ++ call ∷ behind → Cut calls before call behind
 cut [] [] call behind h = absurd cc
 cut [] (b ∷ before) call behind h = absurd cc
-cut (c ∷ calls) [] call behind h = record { first = []; one = c; last = calls; parts = refl; before_is = refl; call_is = heads _ _ _ _ h; behind_is = tails _ _ _ _ h }
+cut (c ∷ calls) [] call behind h = record {
+  first = [];
+  one = c;
+  last = calls;
+  parts = refl;
+  before_is = refl;
+  call_is = heads _ _ _ _ h;
+  behind_is = tails _ _ _ _ h;
+}
 cut (c ∷ calls) (b ∷ before) call behind h =
     let k = cut calls before call behind (tails _ _ _ _ h) in
     record {
@@ -269,45 +346,75 @@ cut (c ∷ calls) (b ∷ before) call behind h =
     }
 
 -- the answers up to a call, and those behind
-split_answers : (first others : List (Result Answer Error × ℕ)) (before behind : List WriteCall) → length before ≡ length first → run_answers (first ++ others) ≡ answers_of (before ++ behind)
+split_answers : (first others : List Step) (before behind : List WriteCall) → length before ≡ length first
+    → run_answers (first ++ others) ≡ answers_of (before ++ behind)
     → (run_answers first ≡ answers_of before) × (run_answers others ≡ answers_of behind)
 split_answers [] others [] behind size h = (refl, h)
 split_answers [] others (c ∷ before) behind size h = absurd (omega (arith, size))
 split_answers (step ∷ first) others [] behind size h = absurd (omega (arith, size))
 split_answers (step ∷ first) others (c ∷ before) behind size h =
     let k = split_answers first others before behind (omega (arith, size)) (tails _ _ _ _ h) in
-    (ap₂ (λ (x : Option (Result Answer Error)) (l : List (Option (Result Answer Error))). x ∷ l) (heads _ _ _ _ h) k.0, k.1)
+    (ap₂ (λ (x : Option (Result Answer Error)) (l : Places). x ∷ l) (heads _ _ _ _ h) k.0, k.1)
 
-module _ {R : Type 0} (K : BitSource R) (calls : List WriteCall) (words bits : List Bool) (old : R) (answers : List (Option (Result Answer Error))) (new : R) where
-  -- a read run whose answers are these
-  pub back_from_run : run_answers (read_run (read_entries K.order (matching_reads calls)) (K.state old).taken bits) ≡ answers_of calls
-      → place_behind (K.state old).taken (read_run (read_entries K.order (matching_reads calls)) (K.state old).taken bits) ≡ (K.state old).taken + length words
+module _ {R : Type 0} (K : BitSource R) (calls : List WriteCall) (words bits : List Bool) (old : R) (answers : Places)
+    (new : R) (run : List Step)
+    (is_run : read_run (read_entries K.order (matching_reads calls)) (K.state old).taken bits ≡ run)
+    (all : run_answers run ≡ answers_of calls) where
+  -- the answers before a call, and those from it on
+  parted : (before : List ReadCall) (call : ReadCall) (behind : List ReadCall) (first others : List Step)
+      → (c : Cut calls before call behind) → length before ≡ length first → run ≡ first ++ others
+      → (run_answers first ≡ answers_of c.first) × (run_answers others ≡ answers_of (c.one ∷ c.last))
+  parted before call behind first others c size is =
+      split_answers first others c.first (c.one ∷ c.last) (sizes c.first before c.before_is ∙ size)
+      (sym (ap run_answers is) ∙ all ∙ ap answers_of c.parts)
+
+  -- what is answered up to a call that answers this error, and behind it
+  stopped : (x : Error) (before : List ReadCall) (call : ReadCall) (behind : List ReadCall) (first : List Step)
+      → (c : Cut calls before call behind) → run_answers first ≡ answers_of c.first
+      → answers ≡ run_answers first ++ Some (Err x) ∷ failed_answers K.order behind
+      → answers ≡ answers_of c.first ++ Some (Err x) ∷ failed_answers K.order (matching_reads c.last)
+  stopped x before call behind first c h same =
+      same ∙ ap₂ (λ (u : Places) (l : List ReadCall). u ++ Some (Err x) ∷ failed_answers K.order l) h (sym c.behind_is)
+
+  -- a read run that answers what was written
+  back_from_run : place_behind (K.state old).taken run ≡ (K.state old).taken + length words
       → ReadsRun K (matching_reads calls) bits old answers new → ReadsBack K calls words old answers new
-  back_from_run all place (lists.had_failed f same state) = back.had_failed f same state
-  back_from_run all place (lists.was_done f g size same taken) = back.was_done f g (same ∙ all) (taken ∙ place)
-  back_from_run all place (lists.too_long before behind first at f g parts size is same taken) =
-      absurd (no_error first RunTooLong at [] calls (sym (ap run_answers is) ∙ all))
-  back_from_run all place (lists.was_refused before call behind first others refusal f g parts size is may more ended same) =
+  back_from_run place (lists.had_failed f same state) = back.had_failed f same state
+  back_from_run place (lists.was_done f g size same taken) =
+      back.was_done f g (same ∙ ap run_answers is_run ∙ all)
+      (taken ∙ ap (place_behind (K.state old).taken) is_run ∙ place)
+  back_from_run place (lists.too_long before behind first at f g parts size is same taken) =
+      absurd (no_error first RunTooLong at [] calls (sym (ap run_answers is) ∙ ap run_answers is_run ∙ all))
+  back_from_run place (lists.was_refused before call behind first others x f g parts size is may more ended same) =
       let c = cut calls before call behind parts in
-      let k = split_answers first others c.first (c.one ∷ c.last) (sizes c.first before c.before_is ∙ size) (sym (ap run_answers is) ∙ all ∙ ap answers_of c.parts) in
-      back.was_refused c.first c.one c.last refusal f g c.parts may more
+      let k = parted before call behind first others c size (sym is_run ∙ is) in
+      back.was_refused c.first c.one c.last x f g c.parts may more
       (λ end. none_left others c.one c.last (ended end) k.1)
-      (same ∙ ap₂ (λ (u : List (Option (Result Answer Error))) (l : List ReadCall). u ++ Some (Err (read_refusal_of refusal.kind)) ∷ failed_answers K.order l) k.0 (sym c.behind_is))
-  back_from_run all place (lists.memory_refused before call behind first others f g parts size grows is more same) =
+      (stopped (read_refusal_of x.kind) before call behind first c k.0 same)
+  back_from_run place (lists.memory_refused before call behind first others f g parts size grows is more same) =
       let c = cut calls before call behind parts in
-      let k = split_answers first others c.first (c.one ∷ c.last) (sizes c.first before c.before_is ∙ size) (sym (ap run_answers is) ∙ all ∙ ap answers_of c.parts) in
+      let k = parted before call behind first others c size (sym is_run ∙ is) in
       back.memory_refused c.first c.one c.last f g c.parts (ap asks_memory c.call_is ∙ grows) more
-      (same ∙ ap₂ (λ (u : List (Option (Result Answer Error))) (l : List ReadCall). u ++ Some (Err OutOfMemory) ∷ failed_answers K.order l) k.0 (sym c.behind_is))
+      (stopped OutOfMemory before call behind first c k.0 same)
 
--- what read calls answer before which written words stand
-pub reads_back : {R : Type 0} (K : BitSource R) (written : List WriteCall) (len : ℕ) (calls : List ReadCall) (old : R) (answers : List (Option (Result Answer Error))) (new : R) → All IsCall written → StandsBefore K written len old
-    → calls ≡ matching_reads (accepted_calls K.order written len) → ((bytes : List ℕ) → (K.state old).bytes ≡ Some bytes → ReadsRun K calls ((K.state old).queue ++ bits K.order bytes) old answers new)
-    → ReadsBack K (accepted_calls K.order written len) (write_run (write_entries None K.order written) len) old answers new
-reads_back K written len calls old answers new typed s same run =
-    let o = K.order in
-    let kept = accepted_calls o written len in
-    let words = write_run (write_entries None o written) len in
-    let all = all_back o s.more written len (K.state old).taken (recursion_from_All IsCall written typed) s.place in
-    let is : ReadsRun K (matching_reads kept) (words ++ s.more) old answers new =
-    subst (λ (b : List Bool). ReadsRun K (matching_reads kept) b old answers new) s.begins (subst (λ (l : List ReadCall). ReadsRun K l ((K.state old).queue ++ bits o s.bytes) old answers new) same (run s.bytes s.known)) in
-    back_from_run K kept words (words ++ s.more) old answers new all.0 all.1 is
+module _ {R : Type 0} (K : BitSource R) (written : List WriteCall) (len : ℕ) (calls : List ReadCall) (old : R)
+    (answers : Places) (new : R) where
+  -- what read calls answer that stand before written words
+  pub reads_back : All IsCall written → StandsBefore K written len old
+      → calls ≡ matching_reads (accepted_calls K.order written len)
+      → ((bytes : List ℕ) → (K.state old).bytes ≡ Some bytes
+      → ReadsRun K calls ((K.state old).queue ++ bits K.order bytes) old answers new)
+      → ReadsBack K (accepted_calls K.order written len) (write_run (write_entries None K.order written) len)
+      old answers new
+  reads_back typed s same run =
+      let o = K.order in
+      let p = (K.state old).taken in
+      let kept = accepted_calls o written len in
+      let words = write_run (write_entries None o written) len in
+      let all : List Bool = words ++ s.more in
+      let is : ReadsRun K (matching_reads kept) all old answers new =
+      subst (λ (b : List Bool). ReadsRun K (matching_reads kept) b old answers new) s.begins
+      (subst (λ (l : List ReadCall). ReadsRun K l ((K.state old).queue ++ bits o s.bytes) old answers new) same
+      (run s.bytes s.known)) in
+      back_from_run K kept words all old answers new (read_run (read_entries o (matching_reads kept)) p all) refl
+      (answers_back o s.more written len p typed s.place) (place_back o s.more written len p typed s.place) is

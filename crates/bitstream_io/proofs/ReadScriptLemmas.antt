@@ -1,16 +1,16 @@
 -- Lists of read calls, by what they mean.
-use Rattle.std.proofs.Common.{◌≡◌, ◌⊎◌, inl, inr, ℤ, SFits, to_z, of_z, ℕ, suc, ◌+◌, Bool, true, false, cond, List, [], ◌∷◌, ◌++◌, length, drop, map, Option, Some, None, Result, Ok, Err, refl, sym, ap, ap₂, ◌∙◌, subst, append_assoc, arith}
+use Rattle.std.proofs.Common.{◌≡◌, ◌⊎◌, inl, inr, ℤ, SFits, to_z, of_z, ℕ, suc, ◌+◌, Bool, true, false, cond, List, [], ◌∷◌, ◌++◌, length, drop, Option, Some, Result, Ok, Err, refl, sym, ap, ap₂, ◌∙◌, subst, append_assoc, arith}
 use Rattle.std.specs.Int.{Width}
 use Rattle.std.specs.Result.{IsErrAnd}
 use Rattle.std.proofs.Math.Seq.{drop-append_seam}
 use Rattle.std.proofs.lemmas.Int.{to_z-of_z}
 use Rattle.bitstream_count.specs.Entry.{ReadEntry, Front, TooFew, Takes, gives}
 use Rattle.bitstream_count.specs.declared.error.Error.{Error}
-use Rattle.bitstream_count.specs.declared.error.Error.TheVariants.{RunTooLong, OutOfMemory}
-use Rattle.bitstream_number.specs.Word.{Order, bits}
+use Rattle.bitstream_count.specs.declared.error.Error.TheVariants.{RunTooLong}
+use Rattle.bitstream_number.specs.Word.{bits}
 use Rattle.bitstream_number.proofs.WordLemmas.{bits-append}
 use Rattle.bitstream_order.specs.Fault.{read_refusal_of}
-use Rattle.bitstream_order.specs.Refusal.{Refusal, IsTrueEnd, TrueEnds}
+use Rattle.bitstream_order.specs.Refusal.{Refusal, TrueEnds}
 use Rattle.bitstream_stream.specs.Reads.{ReaderState, BitSource, HadFailed, ReadDone, ReadRefused, MemoryRefused, ReadOutcome, had_failed, was_done, was_refused, memory_refused, is_run_too_long}
 use Rattle.bitstream_stream.specs.Run.{answer_and, read_run}
 use Rattle.bitstream_stream.proofs.ReadsLemmas.{Consumes-known, Reads-chain-ok, Reads-gives, exit}

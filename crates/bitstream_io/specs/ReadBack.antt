@@ -2,6 +2,7 @@
 use Rattle.std.specs.Prelude.{◌≡◌, ◌++◌, ℕ, ◌+◌, ◌%◌, ◌^◌, ◌<◌, ◌==◌, if◌then◌else◌, Bool, true, false, List, [], ◌∷◌, length, map, Option, Some, None, Result, Ok, Err, is_ok, ⊤}
 use Rattle.std.specs.List.{All}
 use Rattle.bitstream_number.specs.Word.{Order, FitsSignedBits, bits}
+use Rattle.bitstream_count.specs.Entry.{ReadEntry, WriteEntry, Takes}
 use Rattle.bitstream_count.specs.declared.error.Error.{Error}
 use Rattle.bitstream_count.specs.declared.error.Error.TheVariants.{OutOfMemory}
 use Rattle.bitstream_order.specs.Fault.{read_refusal_of}
@@ -28,6 +29,12 @@ IsCall (SignedVbr4 x) = FitsSignedBits 64 x
 IsCall (SignedVbr8 x) = FitsSignedBits 64 x
 IsCall (Bytes bytes) = All (λ b. b < 256) bytes
 IsCall _ = ⊤
+
+-- Wherever these calls write, the read takes just what they wrote, whatever follows it, and answers a.
+abbrev pub IsReadAs : {A : Type 0} → List WriteEntry → ReadEntry A → A → Type 0
+IsReadAs writes entry a =
+    (len p : ℕ) (more : List Bool)
+    → let word = write_run writes len in entry.reads p (word ++ more) ≡ Takes (length word) (Ok a)
 
 -- the accepted ones of calls, in their order, each called at the length that is reached before it
 abbrev pub accepted_calls : Order → List WriteCall → ℕ → List WriteCall
@@ -95,7 +102,8 @@ answer_of Align = answer.Done
 abbrev pub answers_of : List WriteCall → List (Option (Result Answer Error))
 answers_of calls = map (λ call. Some (Ok (answer_of call))) calls
 
--- the bits left of a reader begin with the words of these calls, written behind `len` bits of the same place in a byte
+-- The bits left of a reader begin with the words of these calls, as they are written behind `len` bits. The reader has
+-- taken as many bits, or whole bytes more or less.
 pub record StandsBefore {R : Type 0} (K : BitSource R) (calls : List WriteCall) (len : ℕ) (reader : R) : Type 0 where
   pub bytes : List ℕ
   pub more : List Bool
@@ -103,11 +111,13 @@ pub record StandsBefore {R : Type 0} (K : BitSource R) (calls : List WriteCall) 
   pub begins : (K.state reader).queue ++ bits K.order bytes ≡ write_run (write_entries None K.order calls) len ++ more
   pub place : (K.state reader).taken % 8 ≡ len % 8
 
--- What the matching reads of accepted calls answer, if the bits left begin with these words. A reader that had failed
--- is as it was. Else each call answers what was written; or up to one of which a request was refused, or memory, and
--- each behind it answers as on a failed reader. No refusal is a true end.
-pub data ReadsBack {R : Type 0} (K : BitSource R) (calls : List WriteCall) (words : List Bool) (old : R) (answers : List (Option (Result Answer Error))) (new : R) : Type 0 where
-  had_failed : (K.state old).failed ≡ true → answers ≡ failed_answers K.order (matching_reads calls) → K.state new ≡ K.state old
+-- What the matching reads of calls answer that wrote these words, if the bits left begin with them. A reader that had
+-- failed is as it was. Else each read answers what was written; or up to one of which a request was refused, or memory,
+-- and each behind it answers as on a failed reader. A request is not refused at a true end.
+pub data ReadsBack {R : Type 0} (K : BitSource R) (calls : List WriteCall) (words : List Bool) (old : R)
+    (answers : List (Option (Result Answer Error))) (new : R) : Type 0 where
+  had_failed : (K.state old).failed ≡ true
+      → answers ≡ failed_answers K.order (matching_reads calls) → K.state new ≡ K.state old
       → ReadsBack K calls words old answers new
   was_done : (K.state old).failed ≡ false → (K.state new).failed ≡ false
       → answers ≡ answers_of calls → (K.state new).taken ≡ (K.state old).taken + length words
@@ -115,7 +125,8 @@ pub data ReadsBack {R : Type 0} (K : BitSource R) (calls : List WriteCall) (word
   was_refused : (before : List WriteCall) (call : WriteCall) (behind : List WriteCall) (refusal : Refusal)
       → (K.state old).failed ≡ false → (K.state new).failed ≡ true → calls ≡ before ++ call ∷ behind
       → K.may refusal → (K.state new).refusals ≡ refusal ∷ (K.state old).refusals → (IsTrueEnd refusal → ⊥)
-      → answers ≡ answers_of before ++ Some (Err (read_refusal_of refusal.kind)) ∷ failed_answers K.order (matching_reads behind)
+      → answers ≡ answers_of before
+      ++ Some (Err (read_refusal_of refusal.kind)) ∷ failed_answers K.order (matching_reads behind)
       → ReadsBack K calls words old answers new
   memory_refused : (before : List WriteCall) (call : WriteCall) (behind : List WriteCall)
       → (K.state old).failed ≡ false → (K.state new).failed ≡ true → calls ≡ before ++ call ∷ behind

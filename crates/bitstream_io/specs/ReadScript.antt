@@ -1,5 +1,5 @@
 -- Lists of read calls: what each call means, and what all of them answer.
-use Rattle.std.specs.Prelude.{◌≡◌, ◌++◌, ℕ, ◌+◌, ◌^◌, Bool, true, false, List, [], ◌∷◌, length, map, Option, Some, None, Result, Ok, Err, if◌then◌else◌, ⊤}
+use Rattle.std.specs.Prelude.{◌≡◌, ◌++◌, ℕ, ◌+◌, ◌^◌, Bool, true, false, List, [], ◌∷◌, length, map, Option, Some, Result, Err, if◌then◌else◌, ⊤}
 use Rattle.bitstream_number.specs.Word.{Order}
 use Rattle.bitstream_count.specs.Entry.{ReadEntry, chain, gives}
 use Rattle.bitstream_count.specs.declared.error.Error.{Error}

@@ -1,13 +1,22 @@
-//! What holds of lists of calls, whatever reader or sink they are made on.
+//! What holds of calls and of lists of calls, whatever reader or sink they are made on.
 
-ghost use Rattle.std.specs.Prelude.{◌≡◌, ◌⊎◌, ◌+◌, ◌%◌, ◌++◌, ℕ, Bool, false, List, length, Option, None, Some, Result};
-ghost use Rattle.std.specs.List.{All};
-ghost use Rattle.bitstream_number.specs.Word.{Order, bits as bits_of};
+ghost use Rattle.std.specs.Prelude.{◌≡◌, ◌⊎◌, ◌+◌, ◌-◌, ◌%◌, ◌^◌, ◌<◌, ◌≤◌, ◌++◌, ℕ, ℤ, pos, Bool, true, false, List, [], ◌∷◌, length, Option, None, Some, IfSome, Result};
+ghost use Rattle.std.specs.List.{All, flat_map};
+ghost use Rattle.bitstream_number.specs.Word.{Order, FitsSignedBits, bits as bits_of, word, signed_word};
+ghost use Rattle.bitstream_count.specs.Entry.{ReadEntry, WriteEntry, chain};
 ghost use Rattle.bitstream_count.specs.declared.error.Error.{Error};
 ghost use Rattle.bitstream_order.specs.Refusal.{TrueEnds};
+ghost use Rattle.bitstream_stream.specs.ReadTable.{bit_entry, unsigned_entry, signed_entry, const_entry, unary_entry, count_entry, vbr_entry, signed_vbr_entry, bytes_entry, skip_entry};
 ghost use Rattle.bitstream_stream.specs.Run.{read_run, write_run, write_refusals};
+ghost use Rattle.bitstream_stream.specs.WriteTable.{plain, bit, unsigned, signed, unary_word, count, vbr, signed_vbr, buffer, zeros};
+ghost use Rattle.bitstream_value.specs.Array.{items_entry};
+ghost use Rattle.bitstream_value.specs.Boolean.{truth_entry, truth};
+ghost use Rattle.bitstream_value.specs.Checked.{checked_entry, signed_checked_entry};
+ghost use Rattle.bitstream_value.specs.LimitedUnary.{limited_unary, limited_tree};
+ghost use Rattle.bitstream_value.specs.NonZero.{non_zero_entry, non_zero, non_zero_vbr_entry, if_any, option_entry, option_vbr_entry};
+ghost use Rattle.bitstream_value.specs.Tree.{Tree, first_path, path_entry, bit_by_bit};
 ghost use Rattle.bitstream_io.specs.Script.{write_entry, write_entries, word_size, AlignsNowhere};
-ghost use Rattle.bitstream_io.specs.ReadBack.{IsCall, accepted_calls, matching_reads, answers_of};
+ghost use Rattle.bitstream_io.specs.ReadBack.{IsReadAs, IsCall, accepted_calls, matching_reads, value_in, answers_of};
 ghost use Rattle.bitstream_io.specs.ReadScript.{read_entries, ReadsEach, run_answers, place_behind, sure_answers, AsksNoMemory};
 ghost use Rattle.bitstream_io.specs.declared.script.answers.Answer.{Answer};
 ghost use Rattle.bitstream_io.specs.declared.script.read_call.ReadCall.{ReadCall};
@@ -80,4 +89,71 @@ pub fn written_calls_are_read()
         → let words = write_run (write_entries None o calls) len in
         place_behind p (read_run (read_entries o (matching_reads (accepted_calls o calls len))) p
         (words ++ more)) ≡ p + length words }
+{}
+
+/// What a call writes, the read of the same name and width reads back, wherever both stand and
+/// whatever follows. Of a number that was written in no bits 0 is read.
+pub fn written_words_are_read()
+    ensures bit { (b : Bool) → IsReadAs (bit b ∷ []) bit_entry b }
+    ensures unsigned { (o : Order) (size n v : ℕ) → n ≤ size → (v < 2 ^ n) ⊎ (n ≡ 0)
+        → IsReadAs (unsigned o size n v ∷ []) (unsigned_entry o size n) (value_in n v) }
+    ensures signed { (o : Order) (size n : ℕ) (x : ℤ) → 0 < n → n ≤ size → FitsSignedBits n x
+        → IsReadAs (signed o size n x ∷ []) (signed_entry o size n) x }
+    ensures constant { (o : Order) (n v : ℕ) → v < 2 ^ n
+        → IsReadAs (plain (word o n v) ∷ []) (const_entry o n v) true }
+    ensures unary { (stop : Bool) (k : ℕ) → k < 2 ^ 32
+        → IsReadAs (unary_word stop k ∷ []) (unary_entry stop) k }
+    ensures count { (o : Order) (max n : ℕ) → n ≤ max
+        → IsReadAs (count o max n ∷ []) (count_entry o max) n }
+    ensures bytes { (o : Order) (bytes : List ℕ) → All (λ b. b < 256) bytes
+        → IsReadAs (buffer o bytes ∷ []) (bytes_entry o (length bytes)) bytes }
+    ensures skip { (n : ℕ) → IsReadAs (zeros n ∷ []) (skip_entry n) tt }
+    ensures vbr { (o : Order) (field size limit v : ℕ) → 2 ≤ field → 0 < size → limit ≤ 2 ^ size
+        → v < limit → IsReadAs (vbr o field v ∷ []) (vbr_entry o field size limit) v }
+    ensures signed_vbr { (o : Order) (field size : ℕ) (x : ℤ) → 2 ≤ field → 0 < size
+        → FitsSignedBits size x
+        → IsReadAs (signed_vbr o field x ∷ []) (signed_vbr_entry o field size) x }
+{}
+
+/// The same holds for the types of values: what a value's calls write is read back as the value. In
+/// no bits a `NonZero` is read as 1, and an `Option` as `None`.
+pub fn written_values_are_read<A>()
+    ensures bool { (b : Bool) → IsReadAs (truth 1 b ∷ []) (truth_entry 1) b }
+    ensures non_zero { (after : ℕ → A) (o : Order) (size n v : ℕ) → n < size
+        → (v - 1 < 2 ^ n) ⊎ (n ≡ 0)
+        → IsReadAs (non_zero o size n v ∷ []) (non_zero_entry after o size n)
+        (after (value_in n (v - 1))) }
+    ensures option { (after : ℕ → A) (o : Order) (size n v : ℕ) → n ≤ size
+        → (v < 2 ^ n) ⊎ (n ≡ 0)
+        → IsReadAs (unsigned o size n v ∷ []) (option_entry after o size n)
+        (if_any after (value_in n v)) }
+    ensures non_zero_vbr { (after : ℕ → A) (o : Order) (field size v : ℕ) → 2 ≤ field → 0 < size
+        → v - 1 < 2 ^ size - 1
+        → IsReadAs (vbr o field (v - 1) ∷ []) (non_zero_vbr_entry after o field size)
+        (after (v - 1)) }
+    ensures option_vbr { (after : ℕ → A) (o : Order) (field size v : ℕ) → 2 ≤ field → 0 < size
+        → v < 2 ^ size
+        → IsReadAs (vbr o field v ∷ []) (option_vbr_entry after o field size) (if_any after v) }
+    ensures checked { (count : A) (o : Order) (size n v : ℕ) → n ≤ size → v < 2 ^ n
+        → IsReadAs (plain (word o n v) ∷ []) (checked_entry count o size n) (count, pos v) }
+    ensures signed_checked { (count : A) (o : Order) (size n : ℕ) (x : ℤ) → 0 < n → n ≤ size
+        → FitsSignedBits n x
+        → IsReadAs (plain (signed_word o n x) ∷ []) (signed_checked_entry count o size n) (count, x) }
+    ensures array { (entry : ReadEntry A) (writes : A → List WriteEntry) (items : List A)
+        → All (λ x. IsReadAs (writes x) entry x) items
+        → IsReadAs (flat_map writes items) (items_entry entry (length items)) items }
+    ensures symbol { (same : A → A → Bool) (t : Tree A) (s : A) (w : List Bool)
+        → first_path same t s ≡ Some w
+        → (x : A) × (same x s ≡ true) × IsReadAs (bit_by_bit w) (path_entry t) x }
+    ensures limited_unary { (stop : Bool) (most : ℕ) (v : Option ℕ) → IfSome v (λ k. k < most)
+        → IsReadAs (bit_by_bit (limited_unary stop most v)) (path_entry (limited_tree stop 0 most)) v }
+{}
+
+/// If one read reads back what some calls write, and another what others write, then the two reads,
+/// one behind the other, read back what all these calls write.
+pub fn written_parts_are_read<A, B>()
+    ensures { (first : ReadEntry A) (next : A → ReadEntry B) (a : A) (b : B)
+        (writes others : List WriteEntry)
+        → IsReadAs writes first a → IsReadAs others (next a) b
+        → IsReadAs (writes ++ others) (chain first next) b }
 {}

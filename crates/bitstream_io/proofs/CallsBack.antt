@@ -1,0 +1,307 @@
+-- What is written is read back, call by call: for each call of the tables but an alignment, which looks at its place.
+-- A caller's proof is `search (calls_go_back, FACTS)`, where the facts say that the values fit.
+use Rattle.std.proofs.Common.{◌≡◌, ◌⊎◌, inl, ℕ, zero, suc, ℤ, pos, ◌+◌, ◌-◌, ◌^◌, ◌<◌, ◌≤◌, ◌==◌, Bool, true, false, List, [], ◌∷◌, ◌++◌, length, replicate, Option, Some, Ok, refl, sym, ap, ◌∙◌, subst, append-nil, append_assoc, length-append, lt_of_le_of_lt, arith}
+use Rattle.std.specs.Prelude.{IfSome, nat_le, nat_lt}
+use Rattle.std.specs.List.{All, AllByRecursion, flat_map}
+use Rattle.std.proofs.Math.Nat.{mod-eq_of_lt}
+use Rattle.std.proofs.lemmas.Bool.{lt-ltb, eq-eqb, ne_eqb}
+use Rattle.std.proofs.lemmas.Bool.Decides.{nat_tests}
+use Rattle.std.proofs.lemmas.List.Concat.{flat_map-append}
+use Rattle.std.proofs.lemmas.List.Elements.{recursion_from_All}
+use Rattle.bitstream_number.specs.Word.{Order, FitsSignedBits, word, number, signed_word, bits, zig, count_width}
+use Rattle.bitstream_number.proofs.WordLemmas.{length-word, number-word, count_fits}
+use Rattle.bitstream_count.specs.Entry.{ReadEntry, WriteEntry, chain, gives}
+use Rattle.bitstream_count.specs.Vbr.{vbr_word}
+use Rattle.bitstream_count.specs.Unary.{unary}
+use Rattle.bitstream_stream.specs.ReadTable.{bit_entry, unsigned_entry, signed_entry, const_entry, unary_entry, count_entry, vbr_entry, signed_vbr_entry, bytes_entry, skip_entry}
+use Rattle.bitstream_stream.specs.Run.{write_run}
+use Rattle.bitstream_stream.specs.WriteTable.{plain, bit, unsigned, signed, unary_word, count, vbr, signed_vbr, buffer, zeros}
+use Rattle.bitstream_stream.proofs.ReadsLemmas.{chain_decides}
+use Rattle.bitstream_stream.proofs.WriteLemmas.{unsigned-const, unsigned-fits, signed-accepts}
+use Rattle.bitstream_value.specs.Array.{items_entry}
+use Rattle.bitstream_value.specs.Boolean.{truth_entry, truth}
+use Rattle.bitstream_value.specs.Checked.{checked_entry, signed_checked_entry}
+use Rattle.bitstream_value.specs.NonZero.{non_zero_entry, non_zero, non_zero_vbr_entry, if_any, option_entry, option_vbr_entry}
+use Rattle.bitstream_value.specs.LimitedUnary.{limited_unary, limited_tree}
+use Rattle.bitstream_value.specs.Tree.{Tree, IsPath, first_path, path_entry, bit_by_bit}
+use Rattle.bitstream_value.proofs.BackLemmas.{GoesBack, goes_back}
+use Rattle.bitstream_value.proofs.LimitedLemmas.{limited-path}
+use Rattle.bitstream_value.proofs.TreeLemmas.{path-reads, word_back}
+use Rattle.bitstream_io.specs.ReadBack.{IsReadAs, value_in}
+use Rattle.bitstream_io.proofs.ReadBackLemmas.{Found, word-found, bit-found, unsigned-found, signed-found, unary-found, vbr-found, signed_vbr-found, bytes-are, bytes-found, skip-found}
+use Rattle.bitstream_io.proofs.RunLemmas.{write_run-append}
+
+-- ---- calls one after another
+
+-- one call, whose word is found everywhere
+one-read : {A : Type 0} {e : ReadEntry A} {a : A} (x : WriteEntry) (w : List Bool) → ((len : ℕ) → x len ≡ Ok w)
+    → ((p : ℕ) → Found e p w a)
+    → IsReadAs (x ∷ []) e a
+one-read x w writes found len p more = rw (writes len, append-nil w) ((found p).takes more)
+
+-- calls, and then others, read by one read and then another
+pub then-read : {A B : Type 0} (e : ReadEntry A) (f : A → ReadEntry B) (es fs : List WriteEntry) (a : A) (b : B)
+    → IsReadAs es e a → IsReadAs fs (f a) b → IsReadAs (es ++ fs) (chain e f) b
+then-read e f es fs a b h k len p more =
+    let u = write_run es len in
+    let v = write_run fs (len + length u) in
+    let second = k (len + length u) (p + length u) in
+    rw (write_run-append es fs len) (chain_decides e f p (p + length u) u v a (Ok b) (h len p) refl second more)
+
+-- ---- the calls
+
+pub bit-read : (b : Bool) → IsReadAs (bit b ∷ []) bit_entry b
+bit-read b = one-read (bit b) (b ∷ []) (λ len. refl) (bit-found b)
+
+pub unsigned-read : (o : Order) (size n v : ℕ) → n ≤ size → (v < 2 ^ n) ⊎ (n ≡ 0)
+    → IsReadAs (unsigned o size n v ∷ []) (unsigned_entry o size n) (value_in n v)
+unsigned-read o size n v within fits =
+    let w = word o n v in
+    one-read (unsigned o size n v) w (λ len. unsigned-const o size n v len within fits)
+    (λ p. unsigned-found o size n v 0 p w (unsigned-const o size n v 0 within fits))
+
+pub signed-read : (o : Order) (size n : ℕ) (x : ℤ) → 0 < n → n ≤ size → FitsSignedBits n x
+    → IsReadAs (signed o size n x ∷ []) (signed_entry o size n) x
+signed-read o size n x some within fits =
+    let w = signed_word o n x in
+    one-read (signed o size n x) w (λ len. signed-accepts o size n x len some (within, fits))
+    (λ p. signed-found o size n x 0 p w (signed-accepts o size n x 0 some (within, fits)))
+
+pub const-read : (o : Order) (n v : ℕ) → v < 2 ^ n → IsReadAs (plain (word o n v) ∷ []) (const_entry o n v) true
+unfolding const_entry
+const-read o n v small =
+    let w = word o n v in
+    let value : (number o w == v) ≡ true = eq-eqb (number o w) v (number-word o n v ∙ mod-eq_of_lt small) in
+    one-read (plain w) w (λ len. refl)
+    (λ p. word-found (const_entry o n v) n p (λ u. number o u == v) w true (λ _. refl) (length-word o n v) value)
+
+pub unary-read : (stop : Bool) (k : ℕ) → k < 2 ^ 32 → IsReadAs (unary_word stop k ∷ []) (unary_entry stop) k
+unary-read stop k small = one-read (unary_word stop k) (unary stop k) (λ len. refl) (λ p. unary-found stop k p small)
+
+pub count-read : (o : Order) (max v : ℕ) → v ≤ max → IsReadAs (count o max v ∷ []) (count_entry o max) v
+unfolding count_entry
+count-read o max v le =
+    let n = count_width max in
+    let w = word o n v in
+    let small : v < 2 ^ n = lt_of_le_of_lt le (count_fits max) in
+    let value : number o w ≡ v = number-word o n v ∙ mod-eq_of_lt small in
+    one-read (count o max v) w (λ len. refl)
+    (λ p. word-found (count_entry o max) n p (number o) w v (λ _. refl) (length-word o n v) value)
+
+pub bytes-read : (o : Order) (bytes : List ℕ) → All (λ b. b < 256) bytes
+    → IsReadAs (buffer o bytes ∷ []) (bytes_entry o (length bytes)) bytes
+bytes-read o bytes fit =
+    one-read (buffer o bytes) (bits o bytes) (λ len. refl)
+    (λ p. bytes-found o bytes p (bytes-are bytes (recursion_from_All (λ b. b < 256) bytes fit)))
+
+pub skip-read : (n : ℕ) → IsReadAs (zeros n ∷ []) (skip_entry n) tt
+skip-read n = one-read (zeros n) (replicate n false) (λ len. refl) (skip-found n)
+
+pub vbr-read : (o : Order) (field size limit v : ℕ) → 2 ≤ field → 0 < size → limit ≤ 2 ^ size → v < limit
+    → IsReadAs (vbr o field v ∷ []) (vbr_entry o field size limit) v
+vbr-read o field size limit v wide some most small =
+    one-read (vbr o field v) (vbr_word o field v) (λ len. refl)
+    (λ p. vbr-found o field size limit v p wide some most small)
+
+pub signed_vbr-read : (o : Order) (field size : ℕ) (x : ℤ) → 2 ≤ field → 0 < size → FitsSignedBits size x
+    → IsReadAs (signed_vbr o field x ∷ []) (signed_vbr_entry o field size) x
+signed_vbr-read o field size x wide some fits =
+    one-read (signed_vbr o field x) (vbr_word o field (zig x)) (λ len. refl)
+    (λ p. signed_vbr-found o field size x p wide some fits)
+
+-- ---- the types of values
+
+-- a number that fits is what its bits answer
+value_in-fits : (n v : ℕ) → v < 2 ^ n → value_in n v ≡ v
+value_in-fits zero v fits = omega arith
+value_in-fits (suc n) v fits = rw (ne_eqb (suc n) 0 (λ e. omega arith)) refl
+
+-- a read whose answer is made another value
+mapped-read : {A B : Type 0} (make : A → B) (es : List WriteEntry) (e : ReadEntry A) (a : A) → IsReadAs es e a
+    → IsReadAs es (chain e (λ v. gives (make v))) (make a)
+mapped-read make es e a h =
+    subst (λ (ws : List WriteEntry). IsReadAs ws (chain e (λ v. gives (make v))) (make a)) (append-nil es)
+    (then-read e (λ v. gives (make v)) es [] a (make a) h (λ len p more. refl))
+
+pub truth-read : (b : Bool) → IsReadAs (truth 1 b ∷ []) (truth_entry 1) b
+unfolding truth truth_entry
+truth-read b = bit-read b
+
+module _ {A : Type 0} (after : ℕ → A) (o : Order) where
+  pub non_zero-read : (size n v : ℕ) → n < size → (v - 1 < 2 ^ n) ⊎ (n ≡ 0)
+      → IsReadAs (non_zero o size n v ∷ []) (non_zero_entry after o size n) (after (value_in n (v - 1)))
+  unfolding non_zero non_zero_entry
+  non_zero-read size n v less fits =
+      let base = unsigned-read o size n (v - 1) (omega arith) fits in
+      rw (lt-ltb n size less)
+      (mapped-read after (unsigned o size n (v - 1) ∷ []) (unsigned_entry o size n) (value_in n (v - 1)) base)
+
+  pub option-read : (size n v : ℕ) → n ≤ size → (v < 2 ^ n) ⊎ (n ≡ 0)
+      → IsReadAs (unsigned o size n v ∷ []) (option_entry after o size n) (if_any after (value_in n v))
+  unfolding option_entry
+  option-read size n v within fits =
+      mapped-read (if_any after) (unsigned o size n v ∷ []) (unsigned_entry o size n) (value_in n v)
+      (unsigned-read o size n v within fits)
+
+  pub non_zero_vbr-read : (field size v : ℕ) → 2 ≤ field → 0 < size → v - 1 < 2 ^ size - 1
+      → IsReadAs (vbr o field (v - 1) ∷ []) (non_zero_vbr_entry after o field size) (after (v - 1))
+  unfolding non_zero_vbr_entry
+  non_zero_vbr-read field size v wide some fits =
+      mapped-read after (vbr o field (v - 1) ∷ []) (vbr_entry o field size (2 ^ size - 1)) (v - 1)
+      (vbr-read o field size (2 ^ size - 1) (v - 1) wide some (omega arith) fits)
+
+  pub option_vbr-read : (field size v : ℕ) → 2 ≤ field → 0 < size → v < 2 ^ size
+      → IsReadAs (vbr o field v ∷ []) (option_vbr_entry after o field size) (if_any after v)
+  unfolding option_vbr_entry
+  option_vbr-read field size v wide some fits =
+      mapped-read (if_any after) (vbr o field v ∷ []) (vbr_entry o field size (2 ^ size)) v
+      (vbr-read o field size (2 ^ size) v wide some (omega arith) fits)
+
+module _ {C : Type 0} (count : C) (o : Order) where
+  pub checked-read : (size n v : ℕ) → n ≤ size → v < 2 ^ n
+      → IsReadAs (plain (word o n v) ∷ []) (checked_entry count o size n) (count, pos v)
+  unfolding checked_entry
+  checked-read size n v within fits =
+      let w = word o n v in
+      let found = λ (p : ℕ). unsigned-found o size n v 0 p w (unsigned-fits o size n v 0 within fits) in
+      let base = one-read (plain w) w (λ len. refl) found in
+      subst (λ (k : ℕ). IsReadAs (plain w ∷ []) (checked_entry count o size n) (count, pos k)) (value_in-fits n v fits)
+      (mapped-read (λ (k : ℕ). (count, pos k)) (plain w ∷ []) (unsigned_entry o size n) (value_in n v) base)
+
+  pub signed_checked-read : (size n : ℕ) (x : ℤ) → 0 < n → n ≤ size → FitsSignedBits n x
+      → IsReadAs (plain (signed_word o n x) ∷ []) (signed_checked_entry count o size n) (count, x)
+  unfolding signed_checked_entry
+  signed_checked-read size n x some within fits =
+      let w = signed_word o n x in
+      let found = λ (p : ℕ). signed-found o size n x 0 p w (signed-accepts o size n x 0 some (within, fits)) in
+      mapped-read (λ (y : ℤ). (count, y)) (plain w ∷ []) (signed_entry o size n) x
+      (one-read (plain w) w (λ len. refl) found)
+
+-- ---- items, and paths
+
+module _ {A : Type 0} (e : ReadEntry A) (writes : A → List WriteEntry) where
+  abbrev AreRead : List A → Type 0
+  AreRead xs = IsReadAs (flat_map writes xs) (items_entry e (length xs)) xs
+
+  -- an item behind others
+  item-behind : (xs : List A) (y : A) → AreRead xs → IsReadAs (writes y) e y → AreRead (xs ++ y ∷ [])
+  unfolding items_entry
+  item-behind xs y h one =
+      let more : IsReadAs (writes y) (chain e (λ item. gives (xs ++ item ∷ []))) (xs ++ y ∷ []) =
+      mapped-read (λ item. xs ++ item ∷ []) (writes y) e y one in
+      let both = then-read (items_entry e (length xs)) (λ items. chain e (λ item. gives (items ++ item ∷ [])))
+      (flat_map writes xs) (writes y) xs (xs ++ y ∷ []) h more in
+      let size : suc (length xs) ≡ length (xs ++ y ∷ []) = omega (arith, length-append xs (y ∷ [])) in
+      let words : flat_map writes xs ++ writes y ≡ flat_map writes (xs ++ y ∷ []) =
+      ap (λ (l : List WriteEntry). flat_map writes xs ++ l) (sym (append-nil (writes y)))
+      ∙ sym (flat_map-append writes xs (y ∷ [])) in
+      subst (λ (n : ℕ). IsReadAs (flat_map writes (xs ++ y ∷ [])) (items_entry e n) (xs ++ y ∷ [])) size
+      (subst (λ (l : List WriteEntry). IsReadAs l (items_entry e (suc (length xs))) (xs ++ y ∷ [])) words both)
+
+  items-behind : (xs ys : List A) → AreRead xs → AllByRecursion (λ x. IsReadAs (writes x) e x) ys → AreRead (xs ++ ys)
+  items-behind xs [] h all = subst AreRead (sym (append-nil xs)) h
+  items-behind xs (y ∷ ys) h all =
+      subst AreRead (append_assoc xs (y ∷ []) ys) (items-behind (xs ++ y ∷ []) ys (item-behind xs y h all.0) all.1)
+
+  pub items-read : (xs : List A) → All (λ x. IsReadAs (writes x) e x) xs
+      → IsReadAs (flat_map writes xs) (items_entry e (length xs)) xs
+  unfolding items_entry
+  items-read xs all =
+      items-behind [] xs (λ len p more. refl) (recursion_from_All (λ x. IsReadAs (writes x) e x) xs all)
+
+-- bits that are written one by one
+bits-written : (w : List Bool) (len : ℕ) → write_run (bit_by_bit w) len ≡ w
+bits-written [] len = refl
+bits-written (b ∷ w) len = ap (λ (l : List Bool). b ∷ l) (bits-written w (len + 1))
+
+pub path-read : {S : Type 0} (t : Tree S) (w : List Bool) (s : S) → IsPath t w s
+    → IsReadAs (bit_by_bit w) (path_entry t) s
+path-read t w s path len p more = rw (bits-written w len) (path-reads t w s p more path)
+
+pub limited-read : (stop : Bool) (most : ℕ) (v : Option ℕ) → IfSome v (λ k. k < most)
+    → IsReadAs (bit_by_bit (limited_unary stop most v)) (path_entry (limited_tree stop 0 most)) v
+limited-read stop most v fits =
+    path-read (limited_tree stop 0 most) (limited_unary stop most v) v (limited-path stop most v fits)
+
+pub symbol-read : {S : Type 0} (same : S → S → Bool) (t : Tree S) (s : S) (w : List Bool)
+    → first_path same t s ≡ Some w → (x : S) × (same x s ≡ true) × IsReadAs (bit_by_bit w) (path_entry t) x
+symbol-read same t s w found =
+    let k = word_back same s t w found in
+    (k.0, k.1, λ len p more. rw (bits-written w len) (k.2 p more))
+
+-- ---- reads in a row
+
+module _ {B : Type 0} (es : List WriteEntry) (b : B) where
+  next-back : {A : Type 0} (e : ReadEntry A) (x : WriteEntry) (a : A) (f : A → ReadEntry B) → IsReadAs (x ∷ []) e a
+      → GoesBack (f a) es b → GoesBack (chain e f) (x ∷ es) b
+  next-back e x a f h k = record { back = then-read e f (x ∷ []) es a b h k.back }
+
+  pub unary-back : (stop : Bool) (k : ℕ) (f : ℕ → ReadEntry B) → k < 2 ^ 32 → GoesBack (f k) es b
+      → GoesBack (chain (unary_entry stop) f) (unary_word stop k ∷ es) b
+  unary-back stop k f small behind =
+      next-back (unary_entry stop) (unary_word stop k) k f (unary-read stop k small) behind
+
+  pub truth-back : (c : Bool) (f : Bool → ReadEntry B) → GoesBack (f c) es b
+      → GoesBack (chain (truth_entry 1) f) (truth 1 c ∷ es) b
+  truth-back c f behind = next-back (truth_entry 1) (truth 1 c) c f (truth-read c) behind
+
+  pub skip-back : (n : ℕ) (f : Unit {0} → ReadEntry B) → GoesBack (f tt) es b
+      → GoesBack (chain (skip_entry n) f) (zeros n ∷ es) b
+  skip-back n f behind = next-back (skip_entry n) (zeros n) tt f (skip-read n) behind
+
+  module _ (o : Order) where
+    pub const-back : (n v : ℕ) (f : Bool → ReadEntry B) → v < 2 ^ n → GoesBack (f true) es b
+        → GoesBack (chain (const_entry o n v) f) (plain (word o n v) ∷ es) b
+    const-back n v f fits behind =
+        next-back (const_entry o n v) (plain (word o n v)) true f (const-read o n v fits) behind
+
+    pub count-back : (max n : ℕ) (f : ℕ → ReadEntry B) → n ≤ max → GoesBack (f n) es b
+        → GoesBack (chain (count_entry o max) f) (count o max n ∷ es) b
+    count-back max n f le behind = next-back (count_entry o max) (count o max n) n f (count-read o max n le) behind
+
+    pub bytes-back : (n : ℕ) (bytes : List ℕ) (f : List ℕ → ReadEntry B) → length bytes ≡ n → All (λ v. v < 256) bytes
+        → GoesBack (f bytes) es b → GoesBack (chain (bytes_entry o n) f) (buffer o bytes ∷ es) b
+    bytes-back n bytes f size fit behind =
+        subst (λ (k : ℕ). GoesBack (chain (bytes_entry o k) f) (buffer o bytes ∷ es) b) size
+        (next-back (bytes_entry o (length bytes)) (buffer o bytes) bytes f (bytes-read o bytes fit) behind)
+
+    pub vbr-back : (field size v : ℕ) (f : ℕ → ReadEntry B) → nat_le 2 field ≡ true → nat_le 1 size ≡ true
+        → v < 2 ^ size → GoesBack (f v) es b → GoesBack (chain (vbr_entry o field size (2 ^ size)) f) (vbr o field v ∷ es) b
+    vbr-back field size v f groups bits fits behind =
+        let wide : 2 ≤ field = grind (arith, nat_tests) in
+        let some : 0 < size = grind (arith, nat_tests) in
+        next-back (vbr_entry o field size (2 ^ size)) (vbr o field v) v f
+        (vbr-read o field size (2 ^ size) v wide some (omega arith) fits) behind
+
+    pub signed_vbr-back : (field size : ℕ) (x : ℤ) (f : ℤ → ReadEntry B) → nat_le 2 field ≡ true → nat_le 1 size ≡ true
+        → FitsSignedBits size x → GoesBack (f x) es b
+        → GoesBack (chain (signed_vbr_entry o field size) f) (signed_vbr o field x ∷ es) b
+    signed_vbr-back field size x f groups bits fits behind =
+        let wide : 2 ≤ field = grind (arith, nat_tests) in
+        let some : 0 < size = grind (arith, nat_tests) in
+        next-back (signed_vbr_entry o field size) (signed_vbr o field x) x f
+        (signed_vbr-read o field size x wide some fits) behind
+
+    -- a value that its number gives back
+    pub non_zero-back : {A : Type 0} (after : ℕ → A) (size n v : ℕ) (a : A) (f : A → ReadEntry B) → nat_lt n size ≡ true
+        → v - 1 < 2 ^ n → after (v - 1) ≡ a → GoesBack (f a) es b
+        → GoesBack (chain (non_zero_entry after o size n) f) (non_zero o size n v ∷ es) b
+    non_zero-back after size n v a f less fits same behind =
+        let within : n < size = grind (arith, nat_tests) in
+        let value = ap after (value_in-fits n (v - 1) fits) ∙ same in
+        next-back (non_zero_entry after o size n) (non_zero o size n v) a f
+        (subst (IsReadAs (non_zero o size n v ∷ []) (non_zero_entry after o size n)) value
+        (non_zero-read after o size n v within (inl fits))) behind
+
+    pub option-back : {A : Type 0} (after : ℕ → A) (size n v : ℕ) (a : Option A) (f : Option A → ReadEntry B)
+        → nat_le n size ≡ true → v < 2 ^ n → if_any after v ≡ a → GoesBack (f a) es b
+        → GoesBack (chain (option_entry after o size n) f) (unsigned o size n v ∷ es) b
+    option-back after size n v a f less fits same behind =
+        let within : n ≤ size = grind (arith, nat_tests) in
+        let value = ap (if_any after) (value_in-fits n v fits) ∙ same in
+        next-back (option_entry after o size n) (unsigned o size n v) a f
+        (subst (IsReadAs (unsigned o size n v ∷ []) (option_entry after o size n)) value
+        (option-read after o size n v within (inl fits))) behind
+
+-- the set of all of these
+pub ruleset calls_go_back = (goes_back, unary-back, truth-back, skip-back, const-back, count-back, bytes-back, vbr-back, signed_vbr-back, non_zero-back, option-back)
