@@ -2,6 +2,7 @@
 use Rattle.std.specs.Prelude.{◌≡◌, ℕ, ◌<◌, List, length, Option, Some}
 use Rattle.std.specs.declared.io.ErrorKind.{ErrorKind}
 use Rattle.std.specs.declared.io.ErrorKind.TheVariants.{UnexpectedEof}
+use Rattle.std.specs.declared.io.traits.SeekFrom.{SeekFrom}
 
 -- A refused request: its kind, the number of bytes asked for, and what the stream told before it and after it of its
 -- bytes (those left to read, or those that it holds).
@@ -25,6 +26,10 @@ pub record MayRefuse {S : Type 0} (known : S → Option (List ℕ)) (refuses : S
   pub before : refusal.before ≡ known old
   pub after : refusal.after ≡ known new
   pub refused : refuses old refusal.wanted refusal.kind new
+
+-- a refusal that a stream may make of a seek to this place
+abbrev pub MayRefuseSeek : {S : Type 0} → (S → Option (List ℕ)) → (S → SeekFrom → ErrorKind → S → Type 0) → SeekFrom → Refusal → Type 0
+MayRefuseSeek known refuses_seek to = MayRefuse known (λ before _ kind after. refuses_seek before to kind after)
 
 -- refusals that are all true ends
 abbrev pub TrueEnds : (Refusal → Type 0) → Type 0

@@ -1,10 +1,11 @@
 //! A stream, with counts of its requests that only contracts see.
-ghost use Rattle.std.specs.Prelude.{◌≡◌, ◌*◌, [], ◌∷◌, IfSome, Ok, OnOk};
+ghost use Rattle.std.specs.Prelude.{◌≡◌, ◌*◌, [], ◌∷◌, IfSome, Ok, OnOk, pos};
 ghost use Rattle.std.specs.Io.KnownBytes.{Keeps};
 ghost use Rattle.std.specs.Io.Seek.{StaysAt, SeekMoves};
 ghost use Rattle.std.specs.IoError.{error_kind};
+ghost use Rattle.std.specs.declared.io.traits.SeekFrom.TheVariants.{Current};
 ghost use Rattle.bitstream_order.specs.Fault.{read_refusal_of, refusal_of};
-ghost use Rattle.bitstream_order.specs.Refusal.{Refusal, MayRefuse};
+ghost use Rattle.bitstream_order.specs.Refusal.{Refusal, MayRefuse, MayRefuseSeek};
 ghost use Rattle.bitstream_order.specs.Port.{port_state, fetched_count, port_stream, with_stream, Fetches, Sends, Seeks, Places};
 
 use crate::refusals::Refusals;
@@ -258,7 +259,7 @@ impl<S: SeekSource> Port<S> {
     /// `OutOfMemory` if the stream refuses with that kind, else `Stream` with its kind. The
     /// position stays as it was then.
     pub fn seek(&mut self, to: SeekFrom) -> Result<u64, Error>
-        ensures seeks { Seeks (MayRefuse S.remaining S.refuses)
+        ensures seeks { Seeks (MayRefuseSeek S.remaining S.refuses_seek to)
             (port_state S.remaining S.reference_names self.old) result
             (port_state S.remaining S.reference_names self.new) }
         ensures moves { SeekMoves (S.position (port_stream self.old))
@@ -286,7 +287,7 @@ impl<S: SeekSource> Port<S> {
     ///
     /// `OutOfMemory` if the stream refuses with that kind, else `Stream` with its kind.
     pub fn position(&mut self) -> Result<u64, Error>
-        ensures places { Places (MayRefuse S.remaining S.refuses)
+        ensures places { Places (MayRefuseSeek S.remaining S.refuses_seek (Current (pos 0)))
             (port_state S.remaining S.reference_names self.old) result
             (port_state S.remaining S.reference_names self.new) }
         ensures stays { StaysAt (S.position (port_stream self.old)) (S.position (port_stream self.new)) }

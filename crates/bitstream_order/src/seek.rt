@@ -3,6 +3,8 @@ ghost use Rattle.std.specs.Prelude.{◌≡◌, ℕ, List, IfErr, Option};
 ghost use Rattle.std.specs.Io.KnownBytes.{Keeps};
 ghost use Rattle.std.specs.Io.Seek.{SeekMoves};
 ghost use Rattle.std.specs.IoError.{error_kind};
+ghost use Rattle.std.specs.declared.io.ErrorKind.{ErrorKind};
+ghost use Rattle.std.specs.declared.io.traits.SeekFrom.{SeekFrom};
 
 use crate::lent::Lent;
 use crate::source::Source;
@@ -17,6 +19,9 @@ pub trait SeekSource: Source {
     // All bytes from position 0 on, if the source tells them.
     ghost bytes: { Self → Option (List ℕ) };
 
+    // How a seek may be refused, and with which kind. Of a `Read + Seek` std tells nothing.
+    ghost refuses_seek: { Self → SeekFrom → ErrorKind → Self → Type 0 };
+
     /// Seeks by one request, and returns the new position in bytes.
     ///
     /// # Errors
@@ -27,13 +32,15 @@ pub trait SeekSource: Source {
             (bytes self.old) to result }
         ensures bytes { Keeps (bytes self.old) (bytes self.new) }
         ensures reference_names { Self.reference_names self.new ≡ Self.reference_names self.old }
-        ensures refused { IfErr result (λ e. Self.refuses self.old 0 (error_kind e) self.new) };
+        ensures refused { IfErr result (λ e. refuses_seek self.old to (error_kind e) self.new) };
 }
 
 impl<R: Read + Seek> SeekSource for R {
     ghost position = { λ r. R.stream_position r };
 
     ghost bytes = { λ r. R.stream_bytes r };
+
+    ghost refuses_seek = { λ _ _ _ _. Unit {0} };
 
     fn seek(&mut self, to: SeekFrom) -> io::Result<u64> {
         Seek::seek(self, to)
@@ -44,6 +51,9 @@ impl<'a, S: SeekSource> SeekSource for Lent<'a, S> {
     ghost position = { λ lent. S.position lent.at.now };
 
     ghost bytes = { λ lent. S.bytes lent.at.now };
+
+    ghost refuses_seek = { λ before to kind after.
+        S.refuses_seek before.at.now to kind after.at.now };
 
     fn seek(&mut self, to: SeekFrom) -> io::Result<u64> {
         SeekSource::seek(&mut *self.at, to)

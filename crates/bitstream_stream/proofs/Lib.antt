@@ -12,6 +12,7 @@ pub mod PlaceLemmas
 pub mod ReaderLemmas
 pub mod ReadsLemmas
 pub mod Rows
+pub mod SeekLemmas
 pub mod SignedLemmas
 pub mod SinkLemmas
 pub mod SinkParts

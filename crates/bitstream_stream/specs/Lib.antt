@@ -10,6 +10,7 @@ pub mod ReadTable
 pub mod Reader
 pub mod Reads
 pub mod Run
+pub mod Seek
 pub mod Sink
 pub mod Ways
 pub mod WriteTable

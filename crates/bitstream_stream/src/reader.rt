@@ -23,6 +23,7 @@ use bitstream_order::tally::Tally;
 use bitstream_order::unary::take_unary;
 use std::marker::PhantomData;
 
+mod seek;
 mod ways;
 
 /// Reads bits from a stream of bytes. A byte is fetched only when a call needs a bit of it, so

@@ -1,0 +1,38 @@
+use Rattle.std.proofs.Common.{Err, refl, ap, ◌∙◌}
+use Rattle.std.specs.declared.io.traits.SeekFrom.TheVariants.{Current}
+use Rattle.std.specs.Prelude.{pos}
+use Rattle.bitstream_number.specs.Word.{word}
+use Rattle.bitstream_number.proofs.WordLemmas.{length-word}
+use Rattle.bitstream_order.specs.Parts.{first_part}
+use Rattle.bitstream_order.specs.Port.{port_stream}
+use Rattle.bitstream_order.proofs.TakeLemmas.{word-none}
+use Rattle.bitstream_stream.specs.Seek.{AsksPlace}
+use Rattle.bitstream_stream.proofs.SeekLemmas.{asked, means_here}
+use Rattle.bitstream_stream.proofs.reader.BitReader.ask_place.Goals as goal
+
+pub returns-in-Some-clause-asks : goal.returns-in-Some-clause-asks
+returns-in-Some-clause-asks g c =
+    AsksPlace.was_done c.in-Some.place c.if-self.false
+    (means_here _ c.args.to _ c.in-Ok.at c.args.self.now.queued _ c.requires c.in-Ok.ensures.answer (length-word _ _ _) c.in-Some.ensures)
+    refl (record { same = asked _ _ _ _ _ _ _ c.in-Ok.ensures.places; position = c.in-Ok.ensures.stays; bytes = c.in-Ok.ensures.bytes })
+
+pub returns-in-None-clause-asks : goal.returns-in-None-clause-asks
+returns-in-None-clause-asks g c =
+    AsksPlace.was_rejected c.if-self.false
+    (means_here _ c.args.to _ c.in-Ok.at c.args.self.now.queued _ c.requires c.in-Ok.ensures.answer (length-word _ _ _) c.in-None.ensures)
+    refl (record { same = asked _ _ _ _ _ _ _ c.in-Ok.ensures.places; position = c.in-Ok.ensures.stays; bytes = c.in-Ok.ensures.bytes })
+
+pub returns-in-Err-clause-asks : goal.returns-in-Err-clause-asks
+returns-in-Err-clause-asks g c =
+    let o = g.E.Endianness.order in
+    let same = c.drop_queue.ensures in
+    let refused = c.in-Err.ensures.places in
+    AsksPlace.was_refused c.if-self.false (record {
+      refusal = refused.refusal;
+      allowed = (Current (pos 0), refl, refused.allowed);
+      answer = ap Err refused.answer;
+      refusals = ap (λ r. r.port.refusals.list) same ∙ refused.refusals;
+      reference_names = ap (λ r. g.R.Source.reference_names (port_stream r.port)) same ∙ refused.reference_names;
+      queue = ap (λ r. word o r.queued (first_part o r.queue 8 r.queued)) same ∙ word-none o _;
+      failed = refl;
+    })
