@@ -11,3 +11,5 @@ pub mod TreeLemmas
 pub mod BooleanLemmas
 pub mod WalkLemmas
 pub mod WriteSteps
+pub mod OwnLemmas
+pub mod LengthLemmas

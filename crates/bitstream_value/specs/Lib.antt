@@ -6,3 +6,5 @@ pub mod NonZero
 pub mod Nodes
 pub mod Tree
 pub mod Boolean
+pub mod Lengths
+pub mod Own

@@ -1,12 +1,19 @@
-//! Laws of prefix codes, whatever reads or writes them.
+//! Laws of prefix codes, and of the lengths of users' types, whatever reads or writes them.
 //!
 //! The contract of each function is a law. Its body is empty.
 
-ghost use Rattle.std.specs.Prelude.{◌≡◌, ℕ, ◌<◌, ◌≤◌, ◌↔◌, Bool, true, List, ◌++◌, length, take, Option, IfSome, IsSome, Some, Result, Ok};
+ghost use Rattle.std.specs.Prelude.{◌≡◌, ℕ, ◌+◌, ◌%◌, ◌<◌, ◌≤◌, ◌↔◌, Bool, true, List, ◌++◌, length, take, Option, IfSome, IsSome, Some, Result, Ok};
 ghost use Rattle.bitstream_count.specs.Entry.{Takes};
 ghost use Rattle.bitstream_count.specs.declared.error.Error.{Error};
+ghost use Rattle.bitstream_number.specs.Word.{High};
+ghost use Rattle.bitstream_value.specs.Lengths.{CountsBits, HasOneLength, IsNumberWithin};
 ghost use Rattle.bitstream_value.specs.LimitedUnary.{limited_unary, limited_tree};
+ghost use Rattle.bitstream_value.specs.Own.{WritesOwn};
 ghost use Rattle.bitstream_value.specs.Tree.{Tree, IsPath, IsFirstPath, path_entry, first_path, symbol_word};
+
+use crate::build::{ToBitStream, ToBitStreamUsing, ToBitStreamWith};
+use bitstream_sink::counter::Counter;
+use bitstream_stream::write::BitWrite;
 
 /// No path of a tree is the beginning of another one. A path is read back, whatever follows it. A
 /// read takes a path, and answers the symbol at its leaf.
@@ -40,4 +47,42 @@ pub fn limited_runs_are_paths()
     ensures path { (stop : Bool) (most : ℕ) (w : List Bool) (v : Option ℕ)
         → IsPath (limited_tree stop 0 most) w v
         → IfSome v (λ k. k < most) × (w ≡ limited_unary stop most v) }
+{}
+
+/// What `bits` answers is the number of bits that `to_writer` appends behind whole bytes, or
+/// `CounterOverflow` if C does not hold it: if the words of the value have one length in both orders
+/// of bits, at all places that are as far behind a whole byte.
+pub fn bits_are_those_appended<T: ToBitStream, C: Counter, W: BitWrite>()
+    ensures { (value : T) (old new : W) (bits : Result C T.Error) (n : ℕ)
+        → HasOneLength (λ o. T.writes o value) → W.sink.len old % 8 ≡ 0
+        → WritesOwn W.sink T.becomes (T.writes W.sink.order value) (T.answers value)
+        old (Ok tt) new
+        → CountsBits C.value C.greatest T.becomes (T.writes High value)
+        (T.answers value) bits
+        → W.sink.len new ≡ W.sink.len old + n
+        → IsNumberWithin C.value C.greatest T.becomes n bits }
+{}
+
+/// The same of a type whose context is lent.
+pub fn bits_with_a_context_are_those_appended<T: ToBitStreamWith, C: Counter, W: BitWrite>()
+    ensures { (value : T) (context : T.Context) (old new : W) (bits : Result C T.Error) (n : ℕ)
+        → HasOneLength (λ o. T.writes o value context) → W.sink.len old % 8 ≡ 0
+        → WritesOwn W.sink T.becomes (T.writes W.sink.order value context) (T.answers value context)
+        old (Ok tt) new
+        → CountsBits C.value C.greatest T.becomes (T.writes High value context)
+        (T.answers value context) bits
+        → W.sink.len new ≡ W.sink.len old + n
+        → IsNumberWithin C.value C.greatest T.becomes n bits }
+{}
+
+/// The same of a type whose context is used up.
+pub fn bits_using_a_context_are_those_appended<T: ToBitStreamUsing, C: Counter, W: BitWrite>()
+    ensures { (value : T) (context : T.Context) (old new : W) (bits : Result C T.Error) (n : ℕ)
+        → HasOneLength (λ o. T.writes o value context) → W.sink.len old % 8 ≡ 0
+        → WritesOwn W.sink T.becomes (T.writes W.sink.order value context) (T.answers value context)
+        old (Ok tt) new
+        → CountsBits C.value C.greatest T.becomes (T.writes High value context)
+        (T.answers value context) bits
+        → W.sink.len new ≡ W.sink.len old + n
+        → IsNumberWithin C.value C.greatest T.becomes n bits }
 {}

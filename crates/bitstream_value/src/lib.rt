@@ -1,10 +1,12 @@
 //! Values of any type that is read and written as bits.
 #![tactic(auto)]
 
+pub mod build;
 pub mod checked;
 pub mod huffman;
 pub mod integer;
 pub mod laws;
+pub mod parse;
 pub mod read;
 mod refuse;
 pub mod write;

@@ -1,10 +1,12 @@
 //! Calls that read values of any type.
 ghost use Rattle.bitstream_order.specs.Gather.{seen};
 ghost use Rattle.bitstream_stream.specs.Reads.{Reads};
+ghost use Rattle.bitstream_value.specs.Own.{ReadsOwn};
 
 use crate::checked::CheckablePrimitive;
 use crate::huffman::FromBits;
 use crate::integer::{Integer, VBRInteger};
+use crate::parse::{FromBitStream, FromBitStreamUsing, FromBitStreamWith};
 use bitstream_count::count::{BitCount, Count};
 use bitstream_count::error::Error;
 use bitstream_number::number::Width;
@@ -81,6 +83,33 @@ pub trait BitReadExt: BitRead {
     /// As [`FromBits::from_bits`].
     fn read_huffman<T: FromBits>(&mut self, code: &T) -> Result<T::Symbol, Error>
         ensures reads { Reads Self.source (T.entry code.now) self.old result self.new };
+
+    /// Reads a value of a type that says how it is read.
+    ///
+    /// # Errors
+    ///
+    /// As [`FromBitStream::from_reader`].
+    fn parse<F: FromBitStream>(&mut self) -> Result<F, F::Error>
+        ensures reads { ReadsOwn Self.source F.becomes (F.reads Self.source.order)
+            self.old result self.new };
+
+    /// Reads a value of such a type, with a context that is lent.
+    ///
+    /// # Errors
+    ///
+    /// As [`FromBitStreamWith::from_reader`].
+    fn parse_with<F: FromBitStreamWith>(&mut self, context: &F::Context) -> Result<F, F::Error>
+        ensures reads { ReadsOwn Self.source F.becomes (F.reads Self.source.order context.now)
+            self.old result self.new };
+
+    /// Reads a value of such a type, with a context that is used up.
+    ///
+    /// # Errors
+    ///
+    /// As [`FromBitStreamUsing::from_reader`].
+    fn parse_using<F: FromBitStreamUsing>(&mut self, context: F::Context) -> Result<F, F::Error>
+        ensures reads { ReadsOwn Self.source F.becomes (F.reads Self.source.order context)
+            self.old result self.new };
 }
 
 impl<R: BitRead> BitReadExt for R {
@@ -106,5 +135,17 @@ impl<R: BitRead> BitReadExt for R {
 
     fn read_huffman<T: FromBits>(&mut self, code: &T) -> Result<T::Symbol, Error> {
         code.from_bits(self)
+    }
+
+    fn parse<F: FromBitStream>(&mut self) -> Result<F, F::Error> {
+        F::from_reader(self)
+    }
+
+    fn parse_with<F: FromBitStreamWith>(&mut self, context: &F::Context) -> Result<F, F::Error> {
+        F::from_reader(self, context)
+    }
+
+    fn parse_using<F: FromBitStreamUsing>(&mut self, context: F::Context) -> Result<F, F::Error> {
+        F::from_reader(self, context)
     }
 }

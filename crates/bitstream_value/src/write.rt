@@ -1,8 +1,10 @@
 //! Calls that write values of any type.
 ghost use Rattle.bitstream_stream.specs.Sink.{Writes, WritesAll};
 ghost use Rattle.bitstream_stream.specs.WriteTable.{plain};
+ghost use Rattle.bitstream_value.specs.Own.{WritesOwn};
 ghost use Rattle.bitstream_value.specs.Tree.{bit_by_bit};
 
+use crate::build::{ToBitStream, ToBitStreamUsing, ToBitStreamWith};
 use crate::checked::Checkable;
 use crate::huffman::ToBits;
 use crate::integer::{Integer, VBRInteger};
@@ -81,6 +83,43 @@ pub trait BitWriteExt: BitWrite {
     fn write_huffman<T: ToBits>(&mut self, code: &T, symbol: T::Symbol) -> Result<(), Error>
         ensures writes { WritesAll Self.sink (bit_by_bit (T.word code.now symbol))
             self.old result self.new };
+
+    /// Writes a value of a type that says how it is written.
+    ///
+    /// # Errors
+    ///
+    /// As [`ToBitStream::to_writer`].
+    fn build<T: ToBitStream>(&mut self, value: &T) -> Result<(), T::Error>
+        ensures writes { WritesOwn Self.sink T.becomes (T.writes Self.sink.order value.now)
+            (T.answers value.now) self.old result self.new };
+
+    /// Writes a value of such a type, with a context that is lent.
+    ///
+    /// # Errors
+    ///
+    /// As [`ToBitStreamWith::to_writer`].
+    fn build_with<T: ToBitStreamWith>(
+        &mut self,
+        value: &T,
+        context: &T::Context,
+    ) -> Result<(), T::Error>
+        ensures writes { WritesOwn Self.sink T.becomes
+            (T.writes Self.sink.order value.now context.now) (T.answers value.now context.now)
+            self.old result self.new };
+
+    /// Writes a value of such a type, with a context that is used up.
+    ///
+    /// # Errors
+    ///
+    /// As [`ToBitStreamUsing::to_writer`].
+    fn build_using<T: ToBitStreamUsing>(
+        &mut self,
+        value: &T,
+        context: T::Context,
+    ) -> Result<(), T::Error>
+        ensures writes { WritesOwn Self.sink T.becomes
+            (T.writes Self.sink.order value.now context) (T.answers value.now context)
+            self.old result self.new };
 }
 
 impl<W: BitWrite> BitWriteExt for W {
@@ -106,5 +145,25 @@ impl<W: BitWrite> BitWriteExt for W {
 
     fn write_huffman<T: ToBits>(&mut self, code: &T, symbol: T::Symbol) -> Result<(), Error> {
         code.to_bits(symbol, self)
+    }
+
+    fn build<T: ToBitStream>(&mut self, value: &T) -> Result<(), T::Error> {
+        value.to_writer(self)
+    }
+
+    fn build_with<T: ToBitStreamWith>(
+        &mut self,
+        value: &T,
+        context: &T::Context,
+    ) -> Result<(), T::Error> {
+        value.to_writer(self, context)
+    }
+
+    fn build_using<T: ToBitStreamUsing>(
+        &mut self,
+        value: &T,
+        context: T::Context,
+    ) -> Result<(), T::Error> {
+        value.to_writer(self, context)
     }
 }

@@ -1,0 +1,42 @@
+-- How many bits lists of write calls take.
+use Rattle.std.specs.Prelude.{◌≡◌, ℕ, ◌+◌, ◌%◌, ◌<◌, ◌≤◌, nat_lt, if◌then◌else◌, List, [], ◌∷◌, length, Result, Ok, Err, MatchResult}
+use Rattle.bitstream_number.specs.Word.{Order}
+use Rattle.bitstream_count.specs.declared.error.Error.{Error}
+use Rattle.bitstream_count.specs.declared.error.Error.TheVariants.{CounterOverflow}
+use Rattle.bitstream_count.specs.Entry.{WriteEntry, result_then}
+use Rattle.bitstream_value.specs.Own.{OwnAnswer}
+
+-- what a counter answers that has counted `len` bits and holds `most` at most: what it has counted behind these calls, or
+-- the first error
+abbrev pub counted_bits : ℕ → List WriteEntry → ℕ → Result ℕ Error
+counted_bits most [] len = Ok len
+counted_bits most (entry ∷ entries) len =
+    result_then (entry len) (λ word. if nat_lt most (len + length word) then Err CounterOverflow else counted_bits most entries (len + length word))
+
+-- the length of the words of these calls behind `len` bits, or the first error
+abbrev pub run_length : List WriteEntry → ℕ → Result ℕ Error
+run_length [] len = Ok 0
+run_length (entry ∷ entries) len = result_then (entry len) (λ word. result_then (run_length entries (len + length word)) (λ more. Ok (length word + more)))
+
+-- in both orders of bits, and at all places that are as far behind a whole byte, the words have one length
+abbrev pub HasOneLength : (Order → List WriteEntry) → Type 0
+HasOneLength entries = (o p : Order) (m n : ℕ) → m % 8 ≡ n % 8 → run_length (entries o) m ≡ run_length (entries p) n
+
+-- an answer, with another value if it is one
+abbrev pub in_place : {A B E : Type 0} → Result A E → B → Result B E
+in_place (Ok x) y = Ok y
+in_place (Err error) y = Err error
+
+-- the number of an answer
+abbrev pub number_of : {C E : Type 0} → (C → ℕ) → Result C E → Result ℕ E
+number_of value (Ok x) = Ok (value x)
+number_of value (Err error) = Err error
+
+-- a count of the bits of these calls on a new counter that holds `most` at most: their number, or the error that the calls
+-- have on it
+abbrev pub CountsBits : {C E : Type 0} → (C → ℕ) → ℕ → (Error → E → Type 0) → List WriteEntry → Result (Unit {0}) E → Result C E → Type 0
+CountsBits value most becomes entries answer result = OwnAnswer becomes (in_place answer) (counted_bits most entries 0) (number_of value result)
+
+-- the number n, or an error exactly if it is above `most`
+abbrev pub IsNumberWithin : {C E : Type 0} → (C → ℕ) → ℕ → (Error → E → Type 0) → ℕ → Result C E → Type 0
+IsNumberWithin value most becomes n result = MatchResult result (λ x. (value x ≡ n) × (n ≤ most)) (λ error. (most < n) × becomes CounterOverflow error)

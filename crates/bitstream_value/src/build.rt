@@ -1,0 +1,234 @@
+//! Types whose values are written as bits.
+ghost use Rattle.std.specs.Prelude.{List, Result, Ok};
+ghost use Rattle.bitstream_count.specs.declared.error.Error.{Error};
+ghost use Rattle.bitstream_count.specs.Entry.{WriteEntry};
+ghost use Rattle.bitstream_number.specs.Word.{Order, High};
+ghost use Rattle.bitstream_value.specs.Lengths.{CountsBits};
+ghost use Rattle.bitstream_value.specs.Own.{WritesOwn};
+
+use bitstream_count::error::Error;
+use bitstream_order::order::Endianness;
+use bitstream_sink::counter::Counter;
+use bitstream_sink::written::BitsWritten;
+use bitstream_stream::write::BitWrite;
+
+/// A type whose values are written as bits. [`build`](crate::write::BitWriteExt::build) writes them
+/// to any sink.
+///
+/// # Examples
+///
+/// ```
+/// use bitstream_io::{BE, BitWrite, BitWriteExt, BitWriter, Bits, Error, LE, ToBitStream};
+///
+/// struct BlockHeader {
+///     last: bool,
+///     kind: u8,
+///     size: u32,
+/// }
+///
+/// impl ToBitStream for BlockHeader {
+///     type Error = Error;
+///
+///     fn to_writer<W: BitWrite>(&self, writer: &mut W) -> Result<(), Error> {
+///         writer.write_bit(self.last)?;
+///         writer.write::<Bits<7>, u8>(self.kind)?;
+///         writer.write::<Bits<24>, u32>(self.size)
+///     }
+/// }
+///
+/// let header = BlockHeader { last: false, kind: 0, size: 34 };
+/// let mut bytes = Vec::new(rt.alloc());
+/// BitWriter::<_, BE>::new(&mut bytes).build(&header)?;
+/// assert_eq!(rt; bytes.as_slice(), [0, 0, 0, 34].as_slice());
+/// assert_eq!(rt; header.bits::<u8>()?, 32);
+/// assert_eq!(rt; header.bits_len::<u32, LE>()?, 32);
+/// ```
+pub trait ToBitStream {
+    /// The type of the errors of a write.
+    type Error;
+
+    // What an error of the sink becomes.
+    ghost becomes: { Error → Self.Error → Type 0 };
+
+    // The calls that write a value, in either order of bits; and what is answered behind them, if all
+    // were done.
+    ghost writes: { Order → Self → List WriteEntry };
+
+    ghost answers: { Self → Result (Unit {0}) Self.Error } = { λ _. Ok tt };
+
+    /// Writes the value.
+    ///
+    /// # Errors
+    ///
+    /// Those of the sink, as they become errors of the type, and the type's own. The parts before the
+    /// one that is refused stay written.
+    fn to_writer<W: BitWrite>(&self, writer: &mut W) -> Result<(), Self::Error>
+        ensures writes { WritesOwn W.sink becomes (writes W.sink.order self.now) (answers self.now)
+            writer.old result writer.new };
+
+    /// Returns the number of bits of the value, as [`BitsWritten`] counts them from 0. Nothing is
+    /// written.
+    ///
+    /// # Errors
+    ///
+    /// Those of [`to_writer`](ToBitStream::to_writer), and `CounterOverflow`, as it becomes an error
+    /// of the type, if C does not hold the sum.
+    fn bits<C: Counter>(&self) -> Result<C, Self::Error>
+    where
+        Self::Error: From<Error>,
+        ensures counts { CountsBits C.value C.greatest becomes (writes High self.now)
+            (answers self.now) result }
+    {
+        let mut counter = BitsWritten::<C>::new();
+        self.to_writer(&mut counter)?;
+        Ok(counter.into_written())
+    }
+
+    /// Returns what [`bits`](ToBitStream::bits) does, whatever the order E is.
+    ///
+    /// # Errors
+    ///
+    /// As [`bits`](ToBitStream::bits).
+    fn bits_len<C: Counter, E: Endianness>(&self) -> Result<C, Self::Error>
+    where
+        Self::Error: From<Error>,
+        ensures counts { CountsBits C.value C.greatest becomes (writes High self.now)
+            (answers self.now) result }
+    {
+        self.bits()
+    }
+}
+
+/// A type whose values are written as bits with a context, which is lent.
+/// [`build_with`](crate::write::BitWriteExt::build_with) writes them to any sink.
+///
+/// # Examples
+///
+/// ```
+/// use bitstream_io::{BE, BitWrite, BitWriteExt, BitWriter, Error, ToBitStreamWith};
+///
+/// struct Level(u16);
+///
+/// impl ToBitStreamWith for Level {
+///     type Context = u32;
+///     type Error = Error;
+///
+///     fn to_writer<W: BitWrite>(&self, writer: &mut W, bits: &u32) -> Result<(), Error> {
+///         writer.write_var::<u16>(*bits, self.0)
+///     }
+/// }
+///
+/// let mut bytes = Vec::new(rt.alloc());
+/// BitWriter::<_, BE>::new(&mut bytes).build_with(&Level(0xb1e), &16)?;
+/// assert_eq!(rt; bytes.as_slice(), [0x0b, 0x1e].as_slice());
+/// assert_eq!(rt; Level(0xb1e).bits::<u8>(&12)?, 12);
+/// ```
+pub trait ToBitStreamWith {
+    /// What is known before a value is written.
+    type Context;
+
+    /// The type of the errors of a write.
+    type Error;
+
+    // What an error of the sink becomes.
+    ghost becomes: { Error → Self.Error → Type 0 };
+
+    // The calls that write a value, in either order of bits; and what is answered behind them, if all
+    // were done.
+    ghost writes: { Order → Self → Self.Context → List WriteEntry };
+
+    ghost answers: { Self → Self.Context → Result (Unit {0}) Self.Error } = { λ _ _. Ok tt };
+
+    /// Writes the value.
+    ///
+    /// # Errors
+    ///
+    /// As [`ToBitStream::to_writer`].
+    fn to_writer<W: BitWrite>(
+        &self,
+        writer: &mut W,
+        context: &Self::Context,
+    ) -> Result<(), Self::Error>
+        ensures writes { WritesOwn W.sink becomes (writes W.sink.order self.now context.now)
+            (answers self.now context.now) writer.old result writer.new };
+
+    /// Returns the number of bits of the value, as [`BitsWritten`] counts them from 0. Nothing is
+    /// written.
+    ///
+    /// # Errors
+    ///
+    /// As [`ToBitStream::bits`].
+    fn bits<C: Counter>(&self, context: &Self::Context) -> Result<C, Self::Error>
+    where
+        Self::Error: From<Error>,
+        ensures counts { CountsBits C.value C.greatest becomes (writes High self.now context.now)
+            (answers self.now context.now) result }
+    {
+        let mut counter = BitsWritten::<C>::new();
+        self.to_writer(&mut counter, context)?;
+        Ok(counter.into_written())
+    }
+
+    /// Returns what [`bits`](ToBitStreamWith::bits) does, whatever the order E is.
+    ///
+    /// # Errors
+    ///
+    /// As [`ToBitStream::bits`].
+    fn bits_len<C: Counter, E: Endianness>(&self, context: &Self::Context) -> Result<C, Self::Error>
+    where
+        Self::Error: From<Error>,
+        ensures counts { CountsBits C.value C.greatest becomes (writes High self.now context.now)
+            (answers self.now context.now) result }
+    {
+        self.bits(context)
+    }
+}
+
+/// A type whose values are written as bits with a context, which is used up.
+/// [`build_using`](crate::write::BitWriteExt::build_using) writes them to any sink.
+pub trait ToBitStreamUsing {
+    /// What is known before a value is written.
+    type Context;
+
+    /// The type of the errors of a write.
+    type Error;
+
+    // What an error of the sink becomes.
+    ghost becomes: { Error → Self.Error → Type 0 };
+
+    // The calls that write a value, in either order of bits; and what is answered behind them, if all
+    // were done.
+    ghost writes: { Order → Self → Self.Context → List WriteEntry };
+
+    ghost answers: { Self → Self.Context → Result (Unit {0}) Self.Error } = { λ _ _. Ok tt };
+
+    /// Writes the value.
+    ///
+    /// # Errors
+    ///
+    /// As [`ToBitStream::to_writer`].
+    fn to_writer<W: BitWrite>(
+        &self,
+        writer: &mut W,
+        context: Self::Context,
+    ) -> Result<(), Self::Error>
+        ensures writes { WritesOwn W.sink becomes (writes W.sink.order self.now context)
+            (answers self.now context) writer.old result writer.new };
+
+    /// Returns the number of bits of the value, as [`BitsWritten`] counts them from 0. Nothing is
+    /// written.
+    ///
+    /// # Errors
+    ///
+    /// As [`ToBitStream::bits`].
+    fn bits<C: Counter>(&self, context: Self::Context) -> Result<C, Self::Error>
+    where
+        Self::Error: From<Error>,
+        ensures counts { CountsBits C.value C.greatest becomes (writes High self.now context)
+            (answers self.now context) result }
+    {
+        let mut counter = BitsWritten::<C>::new();
+        self.to_writer(&mut counter, context)?;
+        Ok(counter.into_written())
+    }
+}
