@@ -30,10 +30,12 @@ pub use Rattle.bitstream_stream.specs.ByteReads
 pub use Rattle.bitstream_stream.specs.ByteSink
 pub use Rattle.bitstream_stream.specs.ByteWriter
 pub use Rattle.bitstream_stream.specs.Carries
+pub use Rattle.bitstream_stream.specs.Place
 pub use Rattle.bitstream_stream.specs.ReadTable
 pub use Rattle.bitstream_stream.specs.Reader
 pub use Rattle.bitstream_stream.specs.Reads
 pub use Rattle.bitstream_stream.specs.Run
+pub use Rattle.bitstream_stream.specs.Seek
 pub use Rattle.bitstream_stream.specs.Sink
 pub use Rattle.bitstream_stream.specs.Ways
 pub use Rattle.bitstream_stream.specs.WriteTable
@@ -46,7 +48,9 @@ pub use Rattle.bitstream_sink.specs.Recorder
 pub use Rattle.bitstream_value.specs.Checked
 pub use Rattle.bitstream_value.specs.HuffmanTree
 pub use Rattle.bitstream_value.specs.Array
+pub use Rattle.bitstream_value.specs.Lengths
 pub use Rattle.bitstream_value.specs.LimitedUnary
 pub use Rattle.bitstream_value.specs.NonZero
+pub use Rattle.bitstream_value.specs.Own
 pub use Rattle.bitstream_value.specs.Tree
 pub use Rattle.bitstream_value.specs.Boolean

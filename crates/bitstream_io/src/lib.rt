@@ -67,6 +67,7 @@ pub mod read {
     pub use bitstream_stream::place::bit_place;
     pub use bitstream_stream::read::BitRead;
     pub use bitstream_stream::reader::BitReader;
+    pub use bitstream_value::parse::{FromBitStream, FromBitStreamUsing, FromBitStreamWith};
     pub use bitstream_value::read::BitReadExt;
 }
 
@@ -82,6 +83,7 @@ pub mod write {
     pub use bitstream_sink::written::BitsWritten;
     pub use bitstream_stream::write::BitWrite;
     pub use bitstream_stream::writer::BitWriter;
+    pub use bitstream_value::build::{ToBitStream, ToBitStreamUsing, ToBitStreamWith};
     pub use bitstream_value::write::BitWriteExt;
 }
 
@@ -97,7 +99,8 @@ pub mod bytes {
 pub mod laws {
     pub use crate::script::laws::{
         appending_composes, lists_of_reads_are_known, played_calls_are_direct_calls,
-        words_have_one_length, write_runs_join,
+        words_have_one_length, write_runs_join, written_calls_are_read, written_parts_are_read,
+        written_values_are_read, written_words_are_read,
     };
     pub use bitstream_count::laws::{
         counts_go_back, counts_hash_as_their_numbers, equal_counts_are_equal_numbers,
@@ -116,7 +119,11 @@ pub mod laws {
     pub use bitstream_stream::laws::{
         bytes_are_numbers, dropped_queues_are_alignments, ends_are_known, slices_end, words_join,
     };
-    pub use bitstream_value::laws::{limited_runs_are_paths, paths_are_read, symbols_have_words};
+    pub use bitstream_value::laws::{
+        bits_are_those_appended, bits_using_a_context_are_those_appended,
+        bits_with_a_context_are_those_appended, limited_runs_are_paths, paths_are_read,
+        symbols_have_words,
+    };
 }
 
 pub use bytes::{ByteRead, ByteReader, ByteWrite, ByteWriter};
@@ -130,8 +137,11 @@ pub use error::Error;
 pub use integer::{Integer, VBRInteger};
 pub use number::{Bits, Buffer, Numeric, Primitive, SignedInteger, UnsignedInteger, Width};
 pub use order::{BE, BigEndian, Endianness, LE, LittleEndian};
-pub use read::{BitRead, BitReadExt, BitReader, Lent, SeekSource, Slice, Source};
+pub use read::{
+    BitRead, BitReadExt, BitReader, FromBitStream, FromBitStreamUsing, FromBitStreamWith, Lent,
+    SeekSource, Slice, Source,
+};
 pub use write::{
     BitCounter, BitRecorder, BitWrite, BitWriteExt, BitWriter, BitsWritten, Growing, Recorder,
-    Target,
+    Target, ToBitStream, ToBitStreamUsing, ToBitStreamWith,
 };

@@ -3,6 +3,7 @@ ghost use Rattle.std.specs.Prelude.{◌≡◌, ◌%◌, ◌≤◌, ◌↔◌, tr
 ghost use Rattle.bitstream_order.specs.Parts.{value_bytes};
 ghost use Rattle.bitstream_order.specs.Gather.{seen};
 ghost use Rattle.bitstream_stream.specs.Reads.{BitSource, Reads, ReadsGrowing};
+ghost use Rattle.bitstream_value.specs.Own.{ReadsOwn};
 ghost use Rattle.bitstream_stream.specs.ReadTable.{bit_entry, signed_entry, unary_entry, bytes_entry, skip_entry, align_entry};
 
 use bitstream_count::error::Error;
@@ -11,6 +12,7 @@ use bitstream_order::order::Endianness;
 use bitstream_stream::read::BitRead;
 use bitstream_value::huffman::FromBits;
 use bitstream_value::integer::Integer;
+use bitstream_value::parse::{FromBitStream, FromBitStreamWith};
 use bitstream_value::read::BitReadExt;
 use std::alloc::Allocator;
 
@@ -111,6 +113,16 @@ pub trait BitRead2 {
     /// Reads the word of a symbol of a prefix code, as [`BitReadExt::read_huffman`].
     fn read_huffman<T: FromBits>(&mut self, code: &T) -> Result<T::Symbol, Error>
         ensures reads { Reads source (T.entry code.now) self.old result self.new };
+
+    /// Reads a value of a type that says how it is read, as [`BitReadExt::parse`].
+    fn parse<F: FromBitStream>(&mut self) -> Result<F, F::Error>
+        ensures reads { ReadsOwn source F.becomes (F.reads source.order)
+            self.old result self.new };
+
+    /// Reads a value of such a type, with a context that is lent, as [`BitReadExt::parse_with`].
+    fn parse_with<F: FromBitStreamWith>(&mut self, context: &F::Context) -> Result<F, F::Error>
+        ensures reads { ReadsOwn source F.becomes (F.reads source.order context.now)
+            self.old result self.new };
 }
 
 impl<R: BitRead> BitRead2 for R {
@@ -178,5 +190,13 @@ impl<R: BitRead> BitRead2 for R {
 
     fn read_huffman<T: FromBits>(&mut self, code: &T) -> Result<T::Symbol, Error> {
         BitReadExt::read_huffman(self, code)
+    }
+
+    fn parse<F: FromBitStream>(&mut self) -> Result<F, F::Error> {
+        BitReadExt::parse(self)
+    }
+
+    fn parse_with<F: FromBitStreamWith>(&mut self, context: &F::Context) -> Result<F, F::Error> {
+        BitReadExt::parse_with(self, context)
     }
 }

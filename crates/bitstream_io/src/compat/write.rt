@@ -3,12 +3,14 @@ ghost use Rattle.std.specs.Prelude.{◌≡◌, ◌%◌, ◌≤◌, ◌↔◌, tr
 ghost use Rattle.bitstream_order.specs.Parts.{value_bytes};
 ghost use Rattle.bitstream_stream.specs.Sink.{Sink, Writes, WritesAll};
 ghost use Rattle.bitstream_stream.specs.WriteTable.{bit as one_bit, unsigned, signed, buffer, zeros, unary_word, align};
+ghost use Rattle.bitstream_value.specs.Own.{WritesOwn};
 ghost use Rattle.bitstream_value.specs.Tree.{bit_by_bit};
 
 use bitstream_count::error::Error;
 use bitstream_number::number::{Bits, Primitive, SignedInteger, UnsignedInteger, Width};
 use bitstream_order::order::Endianness;
 use bitstream_stream::write::BitWrite;
+use bitstream_value::build::{ToBitStream, ToBitStreamWith};
 use bitstream_value::huffman::ToBits;
 use bitstream_value::integer::Integer;
 use bitstream_value::write::BitWriteExt;
@@ -119,6 +121,20 @@ pub trait BitWrite2 {
     fn write_huffman<T: ToBits>(&mut self, code: &T, symbol: T::Symbol) -> Result<(), Error>
         ensures writes { WritesAll sink (bit_by_bit (T.word code.now symbol))
             self.old result self.new };
+
+    /// Writes a value of a type that says how it is written, as [`BitWriteExt::build`].
+    fn build<T: ToBitStream>(&mut self, value: &T) -> Result<(), T::Error>
+        ensures writes { WritesOwn sink T.becomes (T.writes sink.order value.now)
+            (T.answers value.now) self.old result self.new };
+
+    /// Writes a value of such a type, with a context that is lent, as [`BitWriteExt::build_with`].
+    fn build_with<T: ToBitStreamWith>(
+        &mut self,
+        value: &T,
+        context: &T::Context,
+    ) -> Result<(), T::Error>
+        ensures writes { WritesOwn sink T.becomes (T.writes sink.order value.now context.now)
+            (T.answers value.now context.now) self.old result self.new };
 }
 
 impl<W: BitWrite> BitWrite2 for W {
@@ -186,5 +202,17 @@ impl<W: BitWrite> BitWrite2 for W {
 
     fn write_huffman<T: ToBits>(&mut self, code: &T, symbol: T::Symbol) -> Result<(), Error> {
         BitWriteExt::write_huffman(self, code, symbol)
+    }
+
+    fn build<T: ToBitStream>(&mut self, value: &T) -> Result<(), T::Error> {
+        BitWriteExt::build(self, value)
+    }
+
+    fn build_with<T: ToBitStreamWith>(
+        &mut self,
+        value: &T,
+        context: &T::Context,
+    ) -> Result<(), T::Error> {
+        BitWriteExt::build_with(self, value, context)
     }
 }
