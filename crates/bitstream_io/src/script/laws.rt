@@ -157,3 +157,36 @@ pub fn written_parts_are_read<A, B>()
         → IsReadAs writes first a → IsReadAs others (next a) b
         → IsReadAs (writes ++ others) (chain first next) b }
 {}
+
+/// The values of calls are values of their types, as the laws on lists of calls ask.
+pub fn calls_have_values_of_their_types(calls: &[WriteCall])
+    ensures { All IsCall calls.now }
+{
+    for call in calls.iter() {
+        has_values_of_its_types(call);
+    }
+}
+
+/// The values of one call are values of their types.
+fn has_values_of_its_types(call: &WriteCall)
+    ensures { IsCall call.now }
+{
+    match call {
+        WriteCall::Unary0(number) | WriteCall::Unary1(number) => {
+            let _number = *number;
+        }
+        WriteCall::Vbr4(number) | WriteCall::Vbr8(number) => {
+            let _number = *number;
+        }
+        WriteCall::SignedVbr4(number) | WriteCall::SignedVbr8(number) => {
+            let _number = *number;
+        }
+        WriteCall::Bytes(bytes) => are_bytes(bytes.as_slice()),
+        _ => {}
+    }
+}
+
+/// Each byte is below 256.
+fn are_bytes(bytes: &[u8])
+    ensures { All (λ b. b < 256) bytes.now }
+{}
