@@ -13,18 +13,18 @@ use Rattle.bitstream_stream.specs.Sink.{Sink, Writes, WritesAll, IsPastLimit, Is
 use Rattle.bitstream_value.specs.Lengths.{counted_bits, run_length, HasOneLength, in_place, number_of, CountsBits, IsNumberWithin}
 use Rattle.bitstream_value.specs.Own.{OwnAnswer, WritesOwn}
 
-if-true : {A : Type 0} (b : Bool) (x y : A) → b ≡ true → (if b then x else y) ≡ x
+pub if-true : {A : Type 0} (b : Bool) (x y : A) → b ≡ true → (if b then x else y) ≡ x
 if-true true x y h = refl
 if-true false x y h = cc
 
-if-false : {A : Type 0} (b : Bool) (x y : A) → b ≡ false → (if b then x else y) ≡ y
+pub if-false : {A : Type 0} (b : Bool) (x y : A) → b ≡ false → (if b then x else y) ≡ y
 if-false true x y h = cc
 if-false false x y h = refl
 
-past : (m n : ℕ) → m < n → nat_lt m n ≡ true
+pub past : (m n : ℕ) → m < n → nat_lt m n ≡ true
 past m n h = grind (arith, nat_tests)
 
-within : (m n : ℕ) → n ≤ m → nat_lt m n ≡ false
+pub within : (m n : ℕ) → n ≤ m → nat_lt m n ≡ false
 within m n h = grind (arith, nat_tests)
 
 -- ---- a counter that holds `most` at most, at its next call
@@ -161,7 +161,7 @@ module _ {S : Type 0} (K : Sink S) where
   accepted_answer becomes answer es s t (Ok v) all own = (all, own)
   accepted_answer becomes answer es s t (Err x) all own = absurd own
 
-told : {C E : Type 0} (value : C → ℕ) (most n : ℕ) (becomes : Error → E → Type 0) (r : Result C E) → OwnAnswer becomes (in_place {A = Unit {0}} (Ok tt)) (at_most most n) (number_of value r) → IsNumberWithin value most becomes n r
+pub told : {C E : Type 0} (value : C → ℕ) (most n : ℕ) (becomes : Error → E → Type 0) (r : Result C E) → OwnAnswer becomes (in_place {A = Unit {0}} (Ok tt)) (at_most most n) (number_of value r) → IsNumberWithin value most becomes n r
 told value most n becomes r h = elim (cases_lt most n) [
   | inl over ↦
       let own = subst (λ x. OwnAnswer becomes (in_place {A = Unit {0}} (Ok tt)) x (number_of value r)) (if-true _ _ _ (past most n over)) h in

@@ -13,3 +13,4 @@ pub mod WalkLemmas
 pub mod WriteSteps
 pub mod OwnLemmas
 pub mod LengthLemmas
+pub mod ByteTypeLemmas

@@ -8,3 +8,4 @@ pub mod Tree
 pub mod Boolean
 pub mod Lengths
 pub mod Own
+pub mod ByteTypes

@@ -6,13 +6,16 @@ ghost use Rattle.std.specs.Prelude.{◌≡◌, ℕ, ◌+◌, ◌%◌, ◌<◌, �
 ghost use Rattle.bitstream_count.specs.Entry.{Takes};
 ghost use Rattle.bitstream_count.specs.declared.error.Error.{Error};
 ghost use Rattle.bitstream_number.specs.Word.{High};
+ghost use Rattle.bitstream_value.specs.ByteTypes.{ByteWritesOwn, CountsBytes, HasOneTotal};
 ghost use Rattle.bitstream_value.specs.Lengths.{CountsBits, HasOneLength, IsNumberWithin};
 ghost use Rattle.bitstream_value.specs.LimitedUnary.{limited_unary, limited_tree};
 ghost use Rattle.bitstream_value.specs.Own.{WritesOwn};
 ghost use Rattle.bitstream_value.specs.Tree.{Tree, IsPath, IsFirstPath, path_entry, first_path, symbol_word};
 
 use crate::build::{ToBitStream, ToBitStreamUsing, ToBitStreamWith};
+use crate::byte_build::{ToByteStream, ToByteStreamUsing, ToByteStreamWith};
 use bitstream_sink::counter::Counter;
+use bitstream_stream::byte_write::ByteWrite;
 use bitstream_stream::write::BitWrite;
 
 /// No path of a tree is the beginning of another one. A path is read back, whatever follows it. A
@@ -85,4 +88,41 @@ pub fn bits_using_a_context_are_those_appended<T: ToBitStreamUsing, C: Counter, 
         (T.answers value context) bits
         → W.sink.len new ≡ W.sink.len old + n
         → IsNumberWithin C.value C.greatest T.becomes n bits }
+{}
+
+/// What `bytes` answers is the number of bytes that `to_writer` appends, or `CounterOverflow` if C
+/// does not hold it: if it is one number in both orders of bytes.
+pub fn bytes_are_those_appended<T: ToByteStream, C: Counter, W: ByteWrite>()
+    ensures { (value : T) (old new : W) (bytes : Result C T.Error) (n : ℕ)
+        → HasOneTotal (λ o. T.writes o value)
+        → ByteWritesOwn W.sink T.becomes (T.writes W.sink.order value)
+        (T.answers value) old (Ok tt) new
+        → CountsBytes C.value C.greatest T.becomes (T.writes High value)
+        (T.answers value) bytes
+        → W.sink.len new ≡ W.sink.len old + n
+        → IsNumberWithin C.value C.greatest T.becomes n bytes }
+{}
+
+/// The same of a type whose context is lent.
+pub fn bytes_with_a_context_are_those_appended<T: ToByteStreamWith, C: Counter, W: ByteWrite>()
+    ensures { (value : T) (context : T.Context) (old new : W) (bytes : Result C T.Error) (n : ℕ)
+        → HasOneTotal (λ o. T.writes o value context)
+        → ByteWritesOwn W.sink T.becomes (T.writes W.sink.order value context)
+        (T.answers value context) old (Ok tt) new
+        → CountsBytes C.value C.greatest T.becomes (T.writes High value context)
+        (T.answers value context) bytes
+        → W.sink.len new ≡ W.sink.len old + n
+        → IsNumberWithin C.value C.greatest T.becomes n bytes }
+{}
+
+/// The same of a type whose context is used up.
+pub fn bytes_using_a_context_are_those_appended<T: ToByteStreamUsing, C: Counter, W: ByteWrite>()
+    ensures { (value : T) (context : T.Context) (old new : W) (bytes : Result C T.Error) (n : ℕ)
+        → HasOneTotal (λ o. T.writes o value context)
+        → ByteWritesOwn W.sink T.becomes (T.writes W.sink.order value context)
+        (T.answers value context) old (Ok tt) new
+        → CountsBytes C.value C.greatest T.becomes (T.writes High value context)
+        (T.answers value context) bytes
+        → W.sink.len new ≡ W.sink.len old + n
+        → IsNumberWithin C.value C.greatest T.becomes n bytes }
 {}

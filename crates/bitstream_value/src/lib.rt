@@ -2,6 +2,11 @@
 #![tactic(auto)]
 
 pub mod build;
+pub mod byte_build;
+mod byte_counter;
+pub mod byte_parse;
+pub mod byte_read;
+pub mod byte_write;
 pub mod checked;
 pub mod huffman;
 pub mod integer;

@@ -1,0 +1,70 @@
+-- Calls for whole bytes, one after another, and with errors of their own.
+use Rattle.std.specs.Prelude.{◌≡◌, ◌⊎◌, ℕ, ◌+◌, ◌≤◌, nat_lt, if◌then◌else◌, List, [], ◌∷◌, length, drop, None, Some, Result, Ok, Err, IsErr}
+use Rattle.std.proofs.Common.{sym, add-zero, arith, length-append}
+use Rattle.bitstream_number.specs.Word.{Order, High}
+use Rattle.bitstream_count.specs.declared.error.Error.{Error}
+use Rattle.bitstream_count.specs.declared.error.Error.TheVariants.{CounterOverflow}
+use Rattle.bitstream_count.specs.Entry.{Takes, front_then}
+use Rattle.bitstream_stream.specs.ByteReads.{ByteSource, ByteReadEntry, ByteReads}
+use Rattle.bitstream_stream.specs.ByteSink.{ByteSink, ByteWrites}
+use Rattle.bitstream_value.specs.Lengths.{in_place, number_of}
+use Rattle.bitstream_value.specs.Own.{OwnAnswer, OwnErrors}
+
+-- one read of bytes and then, unless it answers an error, another, which may depend on its answer
+unfoldable pub byte_chain : {A B : Type 0} → ByteReadEntry A → (A → ByteReadEntry B) → ByteReadEntry B
+byte_chain e f bytes = front_then (e bytes) (λ n a. f a (drop n bytes))
+
+-- no read at all
+abbrev pub byte_gives : {A : Type 0} → A → ByteReadEntry A
+byte_gives a bytes = Takes 0 (Ok a)
+
+-- a read of bytes with errors of its own, which its entry answers too
+abbrev pub ByteReadsOwn : {R A E : Type 0} → ByteSource R → (Error → E → Type 0) → ByteReadEntry (Result A E) → R → Result A E → R → Type 0
+ByteReadsOwn K becomes entry old result new = OwnErrors becomes (λ answer. answer) (λ plain. ByteReads K entry old plain new) result
+
+-- calls that write these bytes, a piece each, up to the first that answers an error; of no calls, nothing at all
+unfoldable pub ByteWritesAll : {S : Type 0} → ByteSink S → List (List ℕ) → S → Result (Unit {0}) Error → S → Type 0
+ByteWritesAll K [] old result new = (result ≡ Ok tt) × (new ≡ old)
+ByteWritesAll {S} K (piece ∷ pieces) old result new =
+    (IsErr result × ByteWrites K piece old result new)
+    ⊎ ((mid : S) × ByteWrites {S = S} {T = Unit {0}} K piece old (Ok tt) mid × ByteWritesAll K pieces mid result new)
+
+-- such calls, and behind them, if all were done, this answer
+abbrev pub ByteWritesOwn : {S E : Type 0} → ByteSink S → (Error → E → Type 0) → List (List ℕ) → Result (Unit {0}) E → S → Result (Unit {0}) E → S → Type 0
+ByteWritesOwn K becomes pieces answer old result new = OwnErrors becomes (λ _. answer) (λ plain. ByteWritesAll K pieces old plain new) result
+
+-- how many bytes the pieces have in all
+abbrev pub total_length : List (List ℕ) → ℕ
+total_length [] = 0
+total_length (piece ∷ pieces) = length piece + total_length pieces
+
+-- in both orders of bytes the pieces have as many bytes in all
+abbrev pub HasOneTotal : (Order → List (List ℕ)) → Type 0
+HasOneTotal writes = (o p : Order) → total_length (writes o) ≡ total_length (writes p)
+
+-- the number n, or an error if a counter does not hold it that holds `most` at most
+abbrev pub held_by : ℕ → ℕ → Result ℕ Error
+held_by most n = if nat_lt most n then Err CounterOverflow else Ok n
+
+-- a count of the bytes of these calls, for a counter that holds `most` at most: their number, or the error that the calls
+-- have on it
+abbrev pub CountsBytes : {C E : Type 0} → (C → ℕ) → ℕ → (Error → E → Type 0) → List (List ℕ) → Result (Unit {0}) E → Result C E → Type 0
+CountsBytes value most becomes pieces answer result = OwnAnswer becomes (in_place answer) (held_by most (total_length pieces)) (number_of value result)
+
+-- a sink that keeps the number of bytes and nothing else, up to the greatest number of its type
+abbrev pub byte_counter_sink : {S : Type 0} → (count : S → ℕ) → (greatest : ℕ) → ((s : S) → count s ≤ greatest) → ByteSink S
+byte_counter_sink count greatest within = record {
+  order = High;
+  appends = λ a x b. count b ≡ count a + length x;
+  contents = λ _. None;
+  len = count;
+  limit = Some greatest;
+  refusals = λ _. [];
+  may = λ _. ⊥;
+  reference_names = λ _. [];
+  appends_nil = λ a. sym (add-zero (count a));
+  appends_trans = λ a b c x y p q. omega (arith, p, q, length-append x y);
+  grows = λ a b x p. tt;
+  within = within;
+  appends_len = λ a b x p. p;
+}

@@ -1,0 +1,172 @@
+//! Types whose values are written as bytes.
+ghost use Rattle.std.specs.Prelude.{ℕ, List, Result, Ok};
+ghost use Rattle.bitstream_count.specs.declared.error.Error.{Error};
+ghost use Rattle.bitstream_number.specs.Word.{Order, High};
+ghost use Rattle.bitstream_value.specs.ByteTypes.{ByteWritesOwn, CountsBytes};
+
+use crate::byte_counter::BytesWritten;
+use bitstream_count::error::Error;
+use bitstream_sink::counter::Counter;
+use bitstream_stream::byte_write::ByteWrite;
+
+/// A type whose values are written as whole bytes.
+/// [`build`](crate::byte_write::ByteWriteExt::build) writes them to any sink of bytes.
+pub trait ToByteStream {
+    /// The type of the errors of a write.
+    type Error;
+
+    // What an error of the sink becomes.
+    ghost becomes: { Error → Self.Error → Type 0 };
+
+    // The bytes of the calls that write a value, in either order of bytes; and what is answered behind
+    // them, if all were done.
+    ghost writes: { Order → Self → List (List ℕ) };
+
+    ghost answers: { Self → Result (Unit {0}) Self.Error } = { λ _. Ok tt };
+
+    /// Writes the value.
+    ///
+    /// # Errors
+    ///
+    /// Those of the sink, as they become errors of the type, and the type's own. The parts before the
+    /// one that is refused stay written.
+    fn to_writer<W: ByteWrite>(&self, writer: &mut W) -> Result<(), Self::Error>
+        ensures writes { ByteWritesOwn W.sink becomes (writes W.sink.order self.now)
+            (answers self.now) writer.old result writer.new };
+
+    /// Returns the number of bytes of the value. Nothing is written.
+    ///
+    /// # Errors
+    ///
+    /// Those of [`to_writer`](ToByteStream::to_writer), and `CounterOverflow`, as it becomes an error
+    /// of the type, if C does not hold the sum.
+    fn bytes<C: Counter>(&self) -> Result<C, Self::Error>
+    where
+        Self::Error: From<Error>,
+        ensures counts { CountsBytes C.value C.greatest becomes (writes High self.now)
+            (answers self.now) result }
+    {
+        let mut counter = BytesWritten::<C>::new();
+        self.to_writer(&mut counter)?;
+        Ok(counter.into_written())
+    }
+}
+
+/// A type whose values are written as whole bytes with a context, which is lent.
+/// [`build_with`](crate::byte_write::ByteWriteExt::build_with) writes them to any sink of bytes.
+///
+/// # Examples
+///
+/// ```
+/// use bitstream_io::{BE, ByteWrite, ByteWriteExt, ByteWriter, Error, ToByteStreamWith};
+///
+/// struct Port(u16);
+///
+/// impl ToByteStreamWith for Port {
+///     type Context = u32;
+///     type Error = Error;
+///
+///     fn to_writer<W: ByteWrite>(&self, writer: &mut W, padding: &u32) -> Result<(), Error> {
+///         writer.write(self.0)?;
+///         writer.pad(*padding)
+///     }
+/// }
+///
+/// let mut bytes = Vec::new(rt.alloc());
+/// ByteWriter::<_, BE>::new(&mut bytes).build_with(&Port(443), &2)?;
+/// assert_eq!(rt; bytes.as_slice(), [1, 187, 0, 0].as_slice());
+/// assert_eq!(rt; Port(443).bytes::<u8>(&2)?, 4);
+/// ```
+pub trait ToByteStreamWith {
+    /// What is known before a value is written.
+    type Context;
+
+    /// The type of the errors of a write.
+    type Error;
+
+    // What an error of the sink becomes.
+    ghost becomes: { Error → Self.Error → Type 0 };
+
+    // The bytes of the calls that write a value, in either order of bytes; and what is answered behind
+    // them, if all were done.
+    ghost writes: { Order → Self → Self.Context → List (List ℕ) };
+
+    ghost answers: { Self → Self.Context → Result (Unit {0}) Self.Error } = { λ _ _. Ok tt };
+
+    /// Writes the value.
+    ///
+    /// # Errors
+    ///
+    /// As [`ToByteStream::to_writer`].
+    fn to_writer<W: ByteWrite>(
+        &self,
+        writer: &mut W,
+        context: &Self::Context,
+    ) -> Result<(), Self::Error>
+        ensures writes { ByteWritesOwn W.sink becomes (writes W.sink.order self.now context.now)
+            (answers self.now context.now) writer.old result writer.new };
+
+    /// Returns the number of bytes of the value. Nothing is written.
+    ///
+    /// # Errors
+    ///
+    /// As [`ToByteStream::bytes`].
+    fn bytes<C: Counter>(&self, context: &Self::Context) -> Result<C, Self::Error>
+    where
+        Self::Error: From<Error>,
+        ensures counts { CountsBytes C.value C.greatest becomes (writes High self.now context.now)
+            (answers self.now context.now) result }
+    {
+        let mut counter = BytesWritten::<C>::new();
+        self.to_writer(&mut counter, context)?;
+        Ok(counter.into_written())
+    }
+}
+
+/// A type whose values are written as whole bytes with a context, which is used up.
+/// [`build_using`](crate::byte_write::ByteWriteExt::build_using) writes them to any sink of bytes.
+pub trait ToByteStreamUsing {
+    /// What is known before a value is written.
+    type Context;
+
+    /// The type of the errors of a write.
+    type Error;
+
+    // What an error of the sink becomes.
+    ghost becomes: { Error → Self.Error → Type 0 };
+
+    // The bytes of the calls that write a value, in either order of bytes; and what is answered behind
+    // them, if all were done.
+    ghost writes: { Order → Self → Self.Context → List (List ℕ) };
+
+    ghost answers: { Self → Self.Context → Result (Unit {0}) Self.Error } = { λ _ _. Ok tt };
+
+    /// Writes the value.
+    ///
+    /// # Errors
+    ///
+    /// As [`ToByteStream::to_writer`].
+    fn to_writer<W: ByteWrite>(
+        &self,
+        writer: &mut W,
+        context: Self::Context,
+    ) -> Result<(), Self::Error>
+        ensures writes { ByteWritesOwn W.sink becomes (writes W.sink.order self.now context)
+            (answers self.now context) writer.old result writer.new };
+
+    /// Returns the number of bytes of the value. Nothing is written.
+    ///
+    /// # Errors
+    ///
+    /// As [`ToByteStream::bytes`].
+    fn bytes<C: Counter>(&self, context: Self::Context) -> Result<C, Self::Error>
+    where
+        Self::Error: From<Error>,
+        ensures counts { CountsBytes C.value C.greatest becomes (writes High self.now context)
+            (answers self.now context) result }
+    {
+        let mut counter = BytesWritten::<C>::new();
+        self.to_writer(&mut counter, context)?;
+        Ok(counter.into_written())
+    }
+}

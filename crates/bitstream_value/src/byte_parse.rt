@@ -1,0 +1,104 @@
+//! Types whose values are read from bytes.
+ghost use Rattle.std.specs.Prelude.{Result};
+ghost use Rattle.bitstream_count.specs.declared.error.Error.{Error};
+ghost use Rattle.bitstream_number.specs.Word.{Order};
+ghost use Rattle.bitstream_stream.specs.ByteReads.{ByteReadEntry};
+ghost use Rattle.bitstream_value.specs.ByteTypes.{ByteReadsOwn};
+
+use bitstream_stream::byte_read::ByteRead;
+
+/// A type whose values are read from whole bytes. [`parse`](crate::byte_read::ByteReadExt::parse)
+/// reads them from any reader of bytes.
+///
+/// # Examples
+///
+/// ```
+/// use bitstream_io::{BE, ByteRead, ByteReadExt, ByteReader, Error, FromByteStream};
+///
+/// struct Port(u16);
+///
+/// impl FromByteStream for Port {
+///     type Error = Error;
+///
+///     fn from_reader<R: ByteRead>(reader: &mut R) -> Result<Port, Error> {
+///         Ok(Port(reader.read::<u16>()?))
+///     }
+/// }
+///
+/// let mut reader = ByteReader::<_, BE>::new([1, 187].as_slice());
+/// let port: Port = reader.parse()?;
+/// assert_eq!(rt; port.0, 443);
+/// ```
+pub trait FromByteStream: Sized {
+    /// The type of the errors of a read.
+    type Error;
+
+    // What an error of the reader becomes.
+    ghost becomes: { Error → Self.Error → Type 0 };
+
+    // The reads of a value, in either order of bytes. They answer the errors of the type too.
+    ghost reads: { Order → ByteReadEntry (Result Self Self.Error) };
+
+    /// Reads a value.
+    ///
+    /// # Errors
+    ///
+    /// Those of the reader, as they become errors of the type, and the type's own. The parts before
+    /// the one that is refused stay read.
+    fn from_reader<R: ByteRead>(reader: &mut R) -> Result<Self, Self::Error>
+        ensures reads { ByteReadsOwn R.source becomes (reads R.source.order)
+            reader.old result reader.new };
+}
+
+/// A type whose values are read from whole bytes with a context, which is lent.
+/// [`parse_with`](crate::byte_read::ByteReadExt::parse_with) reads them from any reader of bytes.
+pub trait FromByteStreamWith: Sized {
+    /// What is known before a value is read.
+    type Context;
+
+    /// The type of the errors of a read.
+    type Error;
+
+    // What an error of the reader becomes.
+    ghost becomes: { Error → Self.Error → Type 0 };
+
+    // The reads of a value, in either order of bytes. They answer the errors of the type too.
+    ghost reads: { Order → Self.Context → ByteReadEntry (Result Self Self.Error) };
+
+    /// Reads a value.
+    ///
+    /// # Errors
+    ///
+    /// As [`FromByteStream::from_reader`].
+    fn from_reader<R: ByteRead>(
+        reader: &mut R,
+        context: &Self::Context,
+    ) -> Result<Self, Self::Error>
+        ensures reads { ByteReadsOwn R.source becomes (reads R.source.order context.now)
+            reader.old result reader.new };
+}
+
+/// A type whose values are read from whole bytes with a context, which is used up.
+/// [`parse_using`](crate::byte_read::ByteReadExt::parse_using) reads them from any reader of bytes.
+pub trait FromByteStreamUsing: Sized {
+    /// What is known before a value is read.
+    type Context;
+
+    /// The type of the errors of a read.
+    type Error;
+
+    // What an error of the reader becomes.
+    ghost becomes: { Error → Self.Error → Type 0 };
+
+    // The reads of a value, in either order of bytes. They answer the errors of the type too.
+    ghost reads: { Order → Self.Context → ByteReadEntry (Result Self Self.Error) };
+
+    /// Reads a value.
+    ///
+    /// # Errors
+    ///
+    /// As [`FromByteStream::from_reader`].
+    fn from_reader<R: ByteRead>(reader: &mut R, context: Self::Context) -> Result<Self, Self::Error>
+        ensures reads { ByteReadsOwn R.source becomes (reads R.source.order context)
+            reader.old result reader.new };
+}
