@@ -1,6 +1,7 @@
 -- The last bytes of some, of which the first are taken, and the place at which they begin.
-use Rattle.std.proofs.Common.{◌≡◌, ℕ, ◌-◌, List, [], ◌++◌, length, take, drop, sym, ap, ◌∙◌, subst, arith, append_assoc, length-append, take-append-drop}
-use Rattle.std.proofs.Math.Seq.{take-append_seam, drop-nil}
+use Rattle.std.proofs.Common.{◌≡◌, ℕ, zero, suc, ◌+◌, ◌-◌, ◌<◌, List, [], ◌++◌, length, take, drop, refl, sym, ap, ap₂, ◌∙◌, subst, arith, append_assoc, length-append, take-append-drop}
+use Rattle.std.proofs.Math.Seq.{take-append_seam, drop-append-add, drop-nil}
+use Rattle.std.proofs.lemmas.List.{length-take-le}
 use Rattle.bitstream_order.specs.Tail.{IsTail}
 
 -- bytes behind some others are the last of both
@@ -18,3 +19,17 @@ tail_part n bytes all back tail cut =
 
 pub none_left : (n : ℕ) (bytes back : List ℕ) → bytes ≡ [] → back ≡ drop n bytes → back ≡ []
 none_left n bytes back none cut = cut ∙ ap (λ xs. drop n xs) none ∙ drop-nil n
+
+-- ---- the place at which the last bytes begin
+
+none_past : (past : ℕ) (bytes : List ℕ) → (0 < past → bytes ≡ []) → drop past bytes ≡ bytes
+none_past zero bytes ended = refl
+none_past (suc k) bytes ended =
+    let none = ended (omega arith) in
+    ap (λ xs. drop (suc k) xs) none ∙ drop-nil (suc k) ∙ sym none
+
+pub behind_place : (past : ℕ) (bytes all : List ℕ) → IsTail bytes all → (0 < past → bytes ≡ []) → drop ((length all - length bytes) + past) all ≡ bytes
+behind_place past bytes all tail ended =
+    let front = take (length all - length bytes) all in
+    let size : length front ≡ length all - length bytes = length-take-le (length all - length bytes) all (omega arith) in
+    ap₂ (λ n xs. drop (n + past) xs) (sym size) tail ∙ drop-append-add front bytes past ∙ none_past past bytes ended
