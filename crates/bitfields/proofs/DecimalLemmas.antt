@@ -1,22 +1,24 @@
-use Rattle.std.proofs.Common.{rules, ◌≡◌, ℕ, ◌+◌, ◌*◌, ◌^◌, ◌<◌, ◌≤◌, List, length, take, get_or, true, false, nat_lt, nat_le, arith, Bool, ap, Result, Ok, Err, refl, sym, ◌∙◌, inl, inr, [], ◌∷◌, ◌++◌, ◌/◌, ◌%◌, lit<, mod-lt, length-append, append-nil, append_assoc, subst, All, None, Some}
+use Rattle.std.proofs.Common.{rules, ◌≡◌, ◌-◌, zero, suc, ℕ, ◌+◌, ◌*◌, ◌^◌, ◌<◌, ◌≤◌, List, length, take, get_or, true, false, nat_lt, nat_le, arith, Bool, ap, Result, Ok, Err, refl, sym, ◌∙◌, inl, inr, [], ◌∷◌, ◌++◌, ◌/◌, ◌%◌, lit<, mod-lt, length-append, append-nil, append_assoc, subst, All, None, Some}
 use Rattle.std.proofs.Math.Pow.{pow_mono}
-use Rattle.std.specs.Prelude.{if◌then◌else◌, ◌&&◌, ◌==◌}
+use Rattle.std.specs.Prelude.{if◌then◌else◌, ◌&&◌, ◌==◌, ℤ, pos, negsuc}
 use Rattle.std.specs.Char.{is_ascii_digit, digit_value}
 use Rattle.std.specs.Str.Parse.{AllDigits, digits_value, digits_value_after}
 use Rattle.std.specs.List.{list_all}
 use Rattle.std.specs.Int.{IsInRange}
 use Rattle.std.proofs.lemmas.Grind.{common_steps}
-use Rattle.std.proofs.lemmas.Bool.{cases_lt, lt-ltb, le-ltb, leb-true, le-leb}
+use Rattle.std.proofs.lemmas.Bool.{cases_lt, lt-ltb, le-ltb, ltb-true, leb-true, le-leb, eqb-true, ne_eqb}
 use Rattle.std.proofs.lemmas.Str.{digit_value_digit}
 use Rattle.std.proofs.lemmas.Int.Digits.{digits_value_more}
-use Rattle.bitfields.specs.Decimal.{is_decimal, decimal_value, decimal_below, decimal_within}
+use Rattle.bitfields.specs.Decimal.{is_decimal, decimal_value, decimal_below, decimal_within, positive, negative, signed_after, signed_within}
 use Rattle.bitfields.specs.declared.fault.Reason.{Reason}
 use Rattle.bitfields.specs.declared.fault.Reason.TheVariants.{ValueMisspelt, ValueDoesNotFit}
 use Rattle.std.proofs.lemmas.List.{get_or_append_left}
+use Rattle.std.proofs.lemmas.List.Elements.{All-cons}
 use Rattle.std.proofs.lemmas.List.Folds.{list_all-append}
 use Rattle.std.proofs.lemmas.List.Sums.{AllPass-from_list_all}
 use Rattle.std.proofs.lemmas.Fmt.{decimal_by_steps_wide, decimal_step_wide, decimal_digit, decimal_is_IsNumeral_wide}
-use Rattle.std.specs.Fmt.{decimal}
+use Rattle.std.specs.Fmt.{decimal, signed_decimal}
+use Rattle.bitstream_io.specs.Word.{FitsSignedBits}
 use Rattle.std.proofs.lemmas.Str.Parse.{IsDigitsTest, digit_from_value, numerals_by_value}
 
 pub in_range : (c : ℕ) → is_ascii_digit c ≡ true → IsInRange 48 57 c
@@ -180,3 +182,95 @@ decimal-of_within low high n text small h =
     let same = p.3 in
     let below : decimal_value text < 10 ^ 64 = omega arith in
     (omega arith, omega arith, ap decimal (sym p.3) ∙ decimal-decimal_value text p.0 below)
+
+-- ---- a number below a limit
+
+pub below_parts : (d l : Bool) (v n : ℕ) → (let r : Result ℕ Reason = if d then (if l then Ok v else Err ValueDoesNotFit) else Err ValueMisspelt in r) ≡ Ok n → (d ≡ true) × (l ≡ true) × (v ≡ n)
+below_parts true true v n h = (refl, refl, cc)
+below_parts true false v n h = absurd (cc)
+below_parts false l v n h = absurd (cc)
+
+pub decimal_below-lt : (limit n : ℕ) (text : List ℕ) → decimal_below limit text ≡ Ok n → n < limit
+decimal_below-lt limit n text h =
+    let p = below_parts (is_decimal text) (nat_lt (decimal_value text) limit) (decimal_value text) n h in
+    let low = ltb-true (decimal_value text) limit p.1 in
+    let same = p.2 in
+    omega arith
+
+pub decimal_below-decimal : (limit v : ℕ) → v < 10 ^ 64 → v < limit → decimal_below limit (decimal v) ≡ Ok v
+decimal_below-decimal limit v small h = rw (is_decimal-decimal v small, decimal_value-decimal v small, lt-ltb v limit h) refl
+
+pub decimal-of_below : (limit v : ℕ) (text : List ℕ) → limit ≤ 10 ^ 64 → decimal_below limit text ≡ Ok v → decimal v ≡ text
+decimal-of_below limit v text small h =
+    let p = below_parts (is_decimal text) (nat_lt (decimal_value text) limit) (decimal_value text) v h in
+    let below = ltb-true (decimal_value text) limit p.1 in
+    ap decimal (sym p.2) ∙ decimal-decimal_value text p.0 (omega arith)
+
+-- the limit of n bits has fewer digits than those that are read back
+pub limit_small : (n : ℕ) → n ≤ 128 → 2 ^ n ≤ 10 ^ 64
+limit_small n h =
+    let top : 2 ^ n ≤ 2 ^ 128 = pow_mono h in
+    let wide : 2 ^ 128 < 10 ^ 64 = lit< tt in
+    omega (arith, top, wide)
+
+pub half_small : (n : ℕ) → n ≤ 128 → 2 ^ (n - 1) ≤ 2 ^ 127
+half_small n h = (let le : n - 1 ≤ 127 = omega arith in pow_mono le)
+
+top_small : 2 ^ 127 + 1 < 10 ^ 64
+top_small = lit< tt
+
+-- ---- signed numbers
+
+pub half_below : (n v : ℕ) (text : List ℕ) → n ≤ 128 → decimal_below (2 ^ (n - 1)) text ≡ Ok v → v < 2 ^ 127
+half_below n v text h e = omega (arith, half_small n h, decimal_below-lt (2 ^ (n - 1)) v text e)
+
+pub up_to_half : (n greatest v : ℕ) (text : List ℕ) → n ≤ 128 → greatest ≡ 2 ^ (n - 1) → Ok v ≡ decimal_below (greatest + 1) text → v ≤ 2 ^ 127
+up_to_half n greatest v text h is e = omega (arith, is, half_small n h, decimal_below-lt (greatest + 1) v text (sym e))
+
+-- a text of digits has no sign
+signed_within-plain : (n : ℕ) (text : List ℕ) → is_decimal text ≡ true → signed_within n text ≡ positive (decimal_below (2 ^ (n - 1)) text)
+signed_within-plain n [] e = absurd (cc)
+signed_within-plain n (c ∷ rest) e =
+    let plain : (c == 45) ≡ false = differs c 45 (all_at (c ∷ rest) 0 (grind (arith, common_steps)) (omega arith)) (lit< tt) in
+    rw plain refl
+
+pub signed_within-signed_decimal : (n : ℕ) (x : ℤ) → 1 ≤ n → n ≤ 128 → FitsSignedBits n x → signed_within n (signed_decimal x) ≡ Ok x
+signed_within-signed_decimal n (pos v) some most h =
+    let small : v < 10 ^ 64 = omega (arith, h, half_small n most, top_small) in
+    signed_within-plain n (decimal v) (is_decimal-decimal v small) ∙ ap positive (decimal_below-decimal (2 ^ (n - 1)) v small h)
+signed_within-signed_decimal n (negsuc m) some most h =
+    let small : suc m < 10 ^ 64 = omega (arith, h, half_small n most, top_small) in
+    ap negative (decimal_below-decimal (2 ^ (n - 1) + 1) (suc m) small (omega (arith, h)))
+
+pub signed_decimal-lacks : (c n : ℕ) (x : ℤ) → c < 45 → n ≤ 128 → FitsSignedBits n x → All (λ b. (b == c) ≡ false) (signed_decimal x)
+signed_decimal-lacks c n (pos v) low most h = decimal_lacks c v (omega arith) (omega (arith, h, half_small n most, top_small))
+signed_decimal-lacks c n (negsuc m) low most h =
+    All-cons (λ b. (b == c) ≡ false) 45 (decimal (suc m)) (ne_eqb 45 c (λ e. omega arith)) (decimal_lacks c (suc m) (omega arith) (omega (arith, h, half_small n most, top_small)))
+
+-- the signed number that a text spells fits, and is printed as the text
+abbrev IsSigned : ℕ → List ℕ → ℤ → Type 0
+IsSigned n text x = FitsSignedBits n x × (n ≤ 128 → signed_decimal x ≡ text)
+
+positive_of : (n : ℕ) (text : List ℕ) (r : Result ℕ Reason) (x : ℤ) → decimal_below (2 ^ (n - 1)) text ≡ r → positive r ≡ Ok x → IsSigned n text x
+positive_of n text (Err why) x e h = absurd (cc)
+positive_of n text (Ok v) x e h =
+    let same : pos v ≡ x = cc in
+    subst (IsSigned n text) same (decimal_below-lt (2 ^ (n - 1)) v text e, λ most. decimal-of_below (2 ^ (n - 1)) v text (omega (arith, half_small n most, top_small)) e)
+
+negative_of : (n : ℕ) (rest : List ℕ) (r : Result ℕ Reason) (x : ℤ) → decimal_below (2 ^ (n - 1) + 1) rest ≡ r → negative r ≡ Ok x → IsSigned n (45 ∷ rest) x
+negative_of n rest (Err why) x e h = absurd (cc)
+negative_of n rest (Ok zero) x e h = absurd (cc)
+negative_of n rest (Ok (suc m)) x e h =
+    let same : negsuc m ≡ x = cc in
+    let below : suc m < 2 ^ (n - 1) + 1 = decimal_below-lt (2 ^ (n - 1) + 1) (suc m) rest e in
+    let fits : m < 2 ^ (n - 1) = omega arith in
+    subst (IsSigned n (45 ∷ rest)) same (fits, λ most. ap (λ t. 45 ∷ t) (decimal-of_below (2 ^ (n - 1) + 1) (suc m) rest (omega (arith, half_small n most, top_small)) e))
+
+signed_by : (b : Bool) (n c : ℕ) (rest : List ℕ) (x : ℤ) → (c == 45) ≡ b → (if b then negative (decimal_below (2 ^ (n - 1) + 1) rest) else positive (decimal_below (2 ^ (n - 1)) (c ∷ rest))) ≡ Ok x → IsSigned n (c ∷ rest) x
+signed_by true n c rest x e h =
+    subst (λ (d : ℕ). IsSigned n (d ∷ rest) x) (sym (eqb-true c 45 e)) (negative_of n rest (decimal_below (2 ^ (n - 1) + 1) rest) x refl h)
+signed_by false n c rest x e h = positive_of n (c ∷ rest) (decimal_below (2 ^ (n - 1)) (c ∷ rest)) x refl h
+
+pub signed_decimal-of_within : (n : ℕ) (text : List ℕ) (x : ℤ) → signed_within n text ≡ Ok x → FitsSignedBits n x × (n ≤ 128 → signed_decimal x ≡ text)
+signed_decimal-of_within n [] x h = absurd (cc)
+signed_decimal-of_within n (c ∷ rest) x h = signed_by (c == 45) n c rest x refl h

@@ -1,33 +1,42 @@
 -- The calls of fields, one behind the other.
-use Rattle.std.specs.Prelude.{Bool, drop, replicate, false}
+use Rattle.std.specs.Prelude.{ℤ, Bool, drop, replicate, false}
 use Rattle.std.specs.List.{AllByRecursion}
-use Rattle.std.proofs.Common.{◌≡◌, ℕ, ◌+◌, ◌<◌, ◌≤◌, ◌^◌, List, [], ◌∷◌, ◌++◌, length, Option, Some, None, Result, Ok, Err, refl, sym, ap, subst, ◌∙◌, arith, inl, inr, append_assoc, length-append, add-zero}
+use Rattle.std.proofs.Common.{◌≡◌, ℕ, ◌+◌, ◌<◌, ◌≤◌, ◌^◌, List, [], ◌∷◌, ◌++◌, length, Option, Some, None, Result, Ok, Err, refl, sym, ap, subst, ◌∙◌, arith, inl, inr, append_assoc, length-append, add-zero, lit<}
 use Rattle.std.proofs.Math.Nat.{mod-eq_of_lt}
 use Rattle.std.proofs.Math.Seq.{drop-append_seam}
 use Rattle.std.proofs.lemmas.Bool.{cases_lt, le-leb}
 use Rattle.std.proofs.lemmas.List.{length-replicate}
-use Rattle.bitstream_io.specs.Word.{Order, word, number}
+use Rattle.bitstream_count.proofs.UnaryLemmas.{read_unary-unary}
+use Rattle.bitstream_count.proofs.VbrLemmas.{read_vbr-IsAccepted, vbr_word_accepted, zig-lt}
+use Rattle.bitstream_io.specs.Unary.{unary}
+use Rattle.bitstream_io.specs.Vbr.{vbr_word}
+use Rattle.bitstream_io.specs.Word.{Order, word, number, signed_word, signed_number, FitsSignedBits, zig, zag}
+use Rattle.bitstream_io.proofs.BackLemmas.{signed-word}
+use Rattle.bitstream_io.proofs.SignedLemmas.{signed_number-signed_word, zag-zig}
 use Rattle.bitstream_io.proofs.WordLemmas.{length-word, number-word}
 use Rattle.bitstream_io.specs.Error.{Error}
 use Rattle.bitstream_io.specs.Error.TheVariants as errors
-use Rattle.bitstream_io.specs.Entry.{WriteEntry, TooFew, Takes, gives, word_front}
+use Rattle.bitstream_io.specs.Entry.{ReadEntry, WriteEntry, TooFew, Takes, chain, gives, word_front}
 use Rattle.bitstream_io.specs.Alignment.{to_boundary}
-use Rattle.bitstream_io.specs.ReadTable.{align_entry}
+use Rattle.bitstream_io.specs.ReadTable.{unsigned_entry, signed_entry, unary_entry, vbr_entry, signed_vbr_entry, align_entry}
 use Rattle.bitstream_io.specs.Run.{accepted, write_run, write_refusals}
 use Rattle.bitstream_io.specs.WriteTable.{align}
 use Rattle.bitstream_io.proofs.EntryLemmas.{map_takes, chain-ok, chain-none, word_front-some, word_front-none}
 use Rattle.bitstream_io.proofs.TableLemmas.{unsigned-takes}
-use Rattle.bitstream_io.proofs.WriteLemmas.{unsigned-fits}
+use Rattle.bitstream_io.proofs.WriteLemmas.{unsigned-fits, signed-accepts}
 use Rattle.bitfields.specs.declared.fault.Reason.TheVariants.{BitsEnded}
 use Rattle.bitfields.specs.declared.field.Field.{Field}
-use Rattle.bitfields.specs.declared.field.Field.TheVariants.{Unsigned, Align}
+use Rattle.bitfields.specs.declared.field.Field.TheVariants.{Unsigned, Signed, Unary, Variable, SignedVariable, Align}
+use Rattle.bitfields.specs.declared.field.GroupSize.{GroupSize}
+use Rattle.bitfields.specs.declared.field.GroupSize.TheVariants.{Four, Eight}
 use Rattle.bitfields.specs.declared.field_value.FieldValue.{FieldValue}
 use Rattle.bitfields.specs.declared.field_value.FieldValue.TheVariants as Value
+use Rattle.bitfields.specs.declared.field_value.ValueKind.TheVariants as Kind
 use Rattle.bitfields.specs.Fault.{fault}
-use Rattle.bitfields.specs.Layout.{IsField}
+use Rattle.bitfields.specs.Layout.{IsField, group_bits}
 use Rattle.bitfields.specs.Packing.{field_write, field_writes, packed}
 use Rattle.bitfields.specs.Unpacking.{Unpacked, Unpacks, Stops, field_read, read_reason, unpacked, values_and}
-use Rattle.bitfields.specs.Value.{value_count, value_list, Fit, FitsField}
+use Rattle.bitfields.specs.Value.{value_count, value_list, first_unsigned, first_signed, Fit, FitsField, FitsKind}
 
 -- ---- a field's read call
 
@@ -77,22 +86,85 @@ pub record Trips (o : Order) (f : Field) (vs : List FieldValue) (at : ℕ) : Typ
   pub reads : (more : List Bool) → (field_read o f).reads at (word ++ more) ≡ Takes (length word) (Ok value)
   pub first : vs ≡ value_list value ++ drop (value_count f) vs
 
+-- the number that stands first fits, and stands first
+pub unsigned_first : (n : ℕ) (vs : List FieldValue) → FitsKind (Kind.Unsigned n) vs → (first_unsigned vs < 2 ^ n) × (vs ≡ Value.Unsigned (first_unsigned vs) ∷ drop 1 vs)
+unsigned_first n [] h = absurd h
+unsigned_first n (Value.Unsigned v ∷ vs) h = (h, refl)
+unsigned_first n (Value.Signed x ∷ vs) h = absurd h
+
+pub signed_first : (n : ℕ) (vs : List FieldValue) → FitsKind (Kind.Signed n) vs → FitsSignedBits n (first_signed vs) × (vs ≡ Value.Signed (first_signed vs) ∷ drop 1 vs)
+signed_first n [] h = absurd h
+signed_first n (Value.Unsigned v ∷ vs) h = absurd h
+signed_first n (Value.Signed x ∷ vs) h = (h, refl)
+
+-- a call and what is made of its answer
+made : {A B : Type 0} (e : ReadEntry A) (f : A → B) (p n : ℕ) (b : List Bool) (a : A) → e.reads p b ≡ Takes n (Ok a) → (chain e (λ v. gives (f v))).reads p b ≡ Takes n (Ok (f a))
+made e f p n b a h = chain-ok e (λ v. gives (f v)) p b n a h ∙ ap (λ (m : ℕ). Takes m (Ok (f a))) (add-zero n)
+
+-- the word of a field's call, which is read as the field's value
+trip : {A : Type 0} (o : Order) (f : Field) (vs : List FieldValue) (at : ℕ) (e : ReadEntry A) (make : A → FieldValue) (a : A) (w : List Bool)
+    → field_read o f ≡ chain e (λ v. gives (Some (make v))) → field_write o f vs at ≡ Ok w → ((more : List Bool) → e.reads at (w ++ more) ≡ Takes (length w) (Ok a))
+    → vs ≡ make a ∷ drop (value_count f) vs → Trips o f vs at
+trip o f vs at e make a w is writes reads first = record {
+  word = w;
+  value = Some (make a);
+  writes = writes;
+  reads = λ more. rw is (made e (λ v. Some (make v)) at (length w) (w ++ more) a (reads more));
+  first = first;
+}
+
+unsigned-answers : (o : Order) (n v p : ℕ) (more : List Bool) → n ≤ 128 → v < 2 ^ n → (unsigned_entry o 128 n).reads p (word o n v ++ more) ≡ Takes (length (word o n v)) (Ok v)
+unsigned-answers o n v p more le h =
+    rw (unsigned-takes o 128 n le) (word_front-some n (λ w. Ok (number o w)) (word o n v) more (length-word o n v))
+    ∙ ap (λ (u : ℕ). Takes n (Ok u)) (number-word o n v ∙ mod-eq_of_lt h) ∙ ap (λ (m : ℕ). Takes m (Ok v)) (sym (length-word o n v))
+
+signed-answers : (o : Order) (n : ℕ) (x : ℤ) (p : ℕ) (more : List Bool) → 1 ≤ n → n ≤ 128 → FitsSignedBits n x → (signed_entry o 128 n).reads p (signed_word o n x ++ more) ≡ Takes (length (signed_word o n x)) (Ok x)
+signed-answers o n x p more some le h =
+    (signed-word o 128 n some le).reads p (signed_word o n x ++ more)
+    ∙ word_front-some n (λ w. Ok (signed_number o w)) (signed_word o n x) more (length-word o n _)
+    ∙ ap (λ (y : ℤ). Takes n (Ok y)) (signed_number-signed_word o n x some h) ∙ ap (λ (m : ℕ). Takes m (Ok x)) (sym (length-word o n _))
+
+unary-answers : (stop : Bool) (v p : ℕ) (more : List Bool) → v < 2 ^ 32 → (unary_entry stop).reads p (unary stop v ++ more) ≡ Takes (length (unary stop v)) (Ok v)
+unfolding unary_entry
+unary-answers stop v p more h = read_unary-unary stop v more h
+
+two_bits : (size : GroupSize) → 2 ≤ group_bits size
+two_bits Four = omega arith
+two_bits Eight = omega arith
+
+vbr-answers : (o : Order) (field v p : ℕ) (more : List Bool) → 2 ≤ field → v < 2 ^ 64 → (vbr_entry o field 64 (2 ^ 64)).reads p (vbr_word o field v ++ more) ≡ Takes (length (vbr_word o field v)) (Ok v)
+unfolding vbr_entry
+vbr-answers o field v p more wide h =
+    read_vbr-IsAccepted o field (omega arith) 64 (2 ^ 64) (vbr_word o field v) v more wide (vbr_word_accepted o field (omega arith) 64 (2 ^ 64) v wide (lit< tt) (omega arith) h)
+
+signed_vbr-answers : (o : Order) (field : ℕ) (x : ℤ) (p : ℕ) (more : List Bool) → 2 ≤ field → FitsSignedBits 64 x
+    → (signed_vbr_entry o field 64).reads p (vbr_word o field (zig x) ++ more) ≡ Takes (length (vbr_word o field (zig x))) (Ok x)
+unfolding signed_vbr_entry
+signed_vbr-answers o field x p more wide h =
+    let w = vbr_word o field (zig x) in
+    made (vbr_entry o field 64 (2 ^ 64)) zag p (length w) (w ++ more) (zig x) (vbr-answers o field (zig x) p more wide (zig-lt 64 x (lit< tt) h)) ∙ ap (λ (y : ℤ). Takes (length w) (Ok y)) (zag-zig x)
+
 pub trips : (o : Order) (f : Field) (vs : List FieldValue) (at : ℕ) → IsField f → FitsField f vs → Trips o f vs at
-trips o (Unsigned n) [] at i h = absurd h
-trips o (Unsigned n) (Value.Unsigned v ∷ vs) at i h =
-    let w = word o n v in
-    let is : Value.Unsigned (number o w) ≡ Value.Unsigned v = ap Value.Unsigned (number-word o n v ∙ mod-eq_of_lt h) in
-    let size : n ≡ length w = sym (length-word o n v) in
-    record {
-      word = w;
-      value = Some (Value.Unsigned v);
-      writes = unsigned-fits o 128 n v at i.1 h;
-      reads = λ more. unsigned-reads o n at (w ++ more) i.1
-          ∙ word_front-some n (λ w. Ok (Some (Value.Unsigned (number o w)))) w more (sym size)
-          ∙ ap (λ (u : FieldValue). Takes n (Ok (Some u))) is
-          ∙ ap (λ (m : ℕ). Takes m (Ok (Some (Value.Unsigned v)))) size;
-      first = refl;
-    }
+trips o (Unsigned n) vs at i h =
+    let v = first_unsigned vs in
+    let p = unsigned_first n vs h in
+    trip o (Unsigned n) vs at (unsigned_entry o 128 n) Value.Unsigned v (word o n v) refl (unsigned-fits o 128 n v at i.1 p.0) (λ more. unsigned-answers o n v at more i.1 p.0) p.1
+trips o (Signed n) vs at i h =
+    let x = first_signed vs in
+    let p = signed_first n vs h in
+    trip o (Signed n) vs at (signed_entry o 128 n) Value.Signed x (signed_word o n x) refl (signed-accepts o 128 n x at i.0 (i.1, p.0)) (λ more. signed-answers o n x at more i.0 i.1 p.0) p.1
+trips o (Unary stop) vs at i h =
+    let v = first_unsigned vs in
+    let p = unsigned_first 32 vs h in
+    trip o (Unary stop) vs at (unary_entry stop) Value.Unsigned v (unary stop v) refl refl (λ more. unary-answers stop v at more p.0) p.1
+trips o (Variable size) vs at i h =
+    let v = first_unsigned vs in
+    let p = unsigned_first 64 vs h in
+    trip o (Variable size) vs at (vbr_entry o (group_bits size) 64 (2 ^ 64)) Value.Unsigned v (vbr_word o (group_bits size) v) refl refl (λ more. vbr-answers o (group_bits size) v at more (two_bits size) p.0) p.1
+trips o (SignedVariable size) vs at i h =
+    let x = first_signed vs in
+    let p = signed_first 64 vs h in
+    trip o (SignedVariable size) vs at (signed_vbr_entry o (group_bits size) 64) Value.Signed x (vbr_word o (group_bits size) (zig x)) refl refl (λ more. signed_vbr-answers o (group_bits size) x at more (two_bits size) p.0) p.1
 trips o Align vs at i h =
     let w = replicate (to_boundary at) false in
     let size : to_boundary at ≡ length w = sym (length-replicate (to_boundary at) false) in

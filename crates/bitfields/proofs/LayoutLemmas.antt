@@ -3,9 +3,7 @@ use Rattle.bitfields.specs.Layout.{field_of, fields_of, field_and, one_more, IsF
 use Rattle.bitfields.specs.Fault.{fault}
 use Rattle.bitfields.specs.declared.fault.Reason.TheVariants.{BadLayout}
 use Rattle.bitfields.specs.declared.field.Field.{Field}
-use Rattle.std.specs.Prelude.{Bool, true, false, ◌&&◌, ◌==◌, if◌then◌else◌, nat_le, option_map}
-use Rattle.bitfields.specs.Decimal.{is_decimal, decimal_value, decimal_within}
-use Rattle.bitfields.specs.declared.field.Field.TheVariants.{Unsigned, Align}
+use Rattle.bitfields.proofs.SpelledLayouts.{segment_spelt}
 
 -- xs before what was found
 abbrev pub after : {A E : Type 0} → List A → Result (List A) E → Result (List A) E
@@ -31,26 +29,9 @@ bad_field parts i xs h known is =
     ∙ ap (λ (rest : List (List ℕ)). after xs (fields_of (i + 1) rest)) cut
     ∙ ap (λ (o : Option Field). after xs (field_and (i + 1) o (fields_of (i + 1 + 1) (drop (i + 1) parts)))) is
 
-IsField-of_within : (d l h : Bool) (v : ℕ) (f : Field) → nat_le 1 v ≡ l → nat_le v 128 ≡ h → option_map Unsigned (if d && l && h then Some v else None) ≡ Some f → IsField f
-IsField-of_within true true true v f low high e =
-    let same : Unsigned v ≡ f = cc in
-    let fits : IsField (Unsigned v) = search rules in
-    subst IsField same fits
-IsField-of_within true true false v f low high e = absurd (cc)
-IsField-of_within true false h v f low high e = absurd (cc)
-IsField-of_within false l h v f low high e = absurd (cc)
-
-IsField-of_letter : (u a : Bool) (rest : List ℕ) (f : Field) → (if u then option_map Unsigned (decimal_within 1 128 rest) else if a then Some Align else None) ≡ Some f → IsField f
-IsField-of_letter true a rest f e = IsField-of_within (is_decimal rest) (nat_le 1 (decimal_value rest)) (nat_le (decimal_value rest) 128) (decimal_value rest) f refl refl e
-IsField-of_letter false true rest f e =
-    let same : Align ≡ f = cc in
-    subst IsField same tt
-IsField-of_letter false false rest f e = absurd (cc)
-
 -- a field that is spelt has its numbers in their ranges
 pub field_of-IsField : (segment : List ℕ) (f : Field) → field_of segment ≡ Some f → IsField f
-field_of-IsField [] f e = absurd (cc)
-field_of-IsField (letter ∷ rest) f e = IsField-of_letter (letter == 117) (letter == 97 && (length rest == 0)) rest f e
+field_of-IsField segment f e = (segment_spelt segment f e).0
 
 pub All-one : {X : Type 0} (P : X → Type 0) (x : X) → P x → All P (x ∷ [])
 All-one P x h = search rules

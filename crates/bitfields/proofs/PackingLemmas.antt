@@ -23,9 +23,7 @@ use Rattle.bitstream_io.proofs.WriteParts.{all_none, all_err, all_more}
 use Rattle.bitfields.specs.declared.fault.Fault.{Fault}
 use Rattle.bitfields.specs.declared.fault.Reason.TheVariants.{OutOfMemory}
 use Rattle.bitfields.specs.declared.field.Field.{Field}
-use Rattle.bitfields.specs.declared.field.Field.TheVariants.{Unsigned}
 use Rattle.bitfields.specs.declared.field_value.FieldValue.{FieldValue}
-use Rattle.bitfields.specs.declared.field_value.FieldValue.TheVariants as Value
 use Rattle.bitfields.specs.Fault.{fault}
 use Rattle.bitfields.specs.Layout.{IsField, IsLayout}
 use Rattle.bitfields.specs.Packing.{WritesBits, PackedBytes, PackingRefused, Packs, write_reason, field_write, field_writes, packed}
@@ -111,14 +109,6 @@ writes_first : (o : Order) (fields : List Field) (i : ℕ) (d : Field) (vs : Lis
 writes_first o fields i d vs h =
     let cut : drop i fields ≡ get_or fields i d ∷ drop (i + 1) fields = rw add-one (drop-cons fields i d h) in
     ap (λ (fs : List Field). field_writes o fs vs) cut
-
--- the number that stands first
-pub number_first : (f : Field) (n : ℕ) (vs : List FieldValue) → f ≡ Unsigned n → FitsField f vs → (v : ℕ) × (us : List FieldValue) × (vs ≡ Value.Unsigned v ∷ us)
-number_first f n vs is fit = number_among vs (subst (λ (g : Field). FitsField g vs) is fit)
-  where
-    number_among : (us : List FieldValue) → FitsField (Unsigned n) us → (v : ℕ) × (rest : List FieldValue) × (us ≡ Value.Unsigned v ∷ rest)
-    number_among [] h = absurd h
-    number_among (Value.Unsigned v ∷ us) h = (v, us, refl)
 
 -- the first fields wrote their words, and these are the values of the others
 pub record Packing {S : Type 0} (K : Sink S) (fields : List Field) (vs : List FieldValue) (i : ℕ) (old : S) (rest : List FieldValue) (now : S) : Type 0 where

@@ -2,8 +2,8 @@
 use Rattle.std.specs.Prelude.{Bool, true, false, ◌&&◌, ◌==◌, if◌then◌else◌, nat_lt, option_map, map, All}
 use Rattle.std.specs.List.{join_with_byte, AllByRecursion}
 use Rattle.std.specs.Fmt.{decimal}
-use Rattle.std.proofs.Common.{◌≡◌, ℕ, ◌+◌, ◌<◌, ◌≤◌, ◌^◌, List, [], ◌∷◌, length, Option, Some, None, Result, Ok, Err, refl, sym, ap, subst, ◌∙◌, arith, lit<}
-use Rattle.std.proofs.lemmas.Bool.{le-ltb, ltb-false, eqb-true}
+use Rattle.std.proofs.Common.{◌≡◌, ℕ, zero, suc, ◌+◌, ◌<◌, ◌≤◌, ◌^◌, List, [], ◌∷◌, length, Option, Some, None, Result, Ok, Err, refl, sym, ap, subst, ◌∙◌, arith, lit<}
+use Rattle.std.proofs.lemmas.Bool.{le-ltb, ltb-false, eqb-true, ne_eqb}
 use Rattle.std.proofs.lemmas.List.{length-map}
 use Rattle.std.proofs.lemmas.List.Elements.{All-cons, All-nil, recursion_from_All, All-from_recursion}
 use Rattle.std.proofs.lemmas.List.Splits.{slice_split_none, slice_split_at, length-slice_split, join_with_byte-slice_split}
@@ -11,26 +11,62 @@ use Rattle.bitfields.specs.declared.fault.Fault.{Fault}
 use Rattle.bitfields.specs.declared.field.Field.{Field}
 use Rattle.bitfields.specs.declared.fault.Reason.TheVariants.{TooManyFields}
 use Rattle.bitfields.specs.Fault.{fault}
-use Rattle.bitfields.specs.declared.field.Field.TheVariants.{Unsigned, Align}
+use Rattle.bitfields.specs.declared.field.Field.TheVariants.{Unsigned, Signed, Unary, Variable, SignedVariable, Align}
+use Rattle.bitfields.specs.declared.field.GroupSize.{GroupSize}
+use Rattle.bitfields.specs.declared.field.GroupSize.TheVariants.{Four, Eight}
+use Rattle.bitstream_io.specs.Word.{digit_value}
 use Rattle.bitfields.specs.Decimal.{decimal_within}
-use Rattle.bitfields.specs.Layout.{field_of, field_and, fields_of, layout_of, segments, one_more, IsField, IsLayout, field_text, layout_text}
+use Rattle.bitfields.specs.Layout.{field_after, field_of, field_and, fields_of, layout_of, group_bits, group_size, group_size_of, segments, one_more, IsField, IsLayout, field_text, layout_text}
 use Rattle.bitfields.proofs.DecimalLemmas.{decimal_within-decimal, decimal-of_within, decimal_lacks}
 use Rattle.std.proofs.lemmas.Grind.{common_steps}
 
 abbrev lacks_comma : List ℕ → Type 0
 lacks_comma text = All (λ b. (b == 44) ≡ false) text
 
-width_small : (n : ℕ) → n ≤ 128 → n < 10 ^ 64
-width_small n h =
+small : (n : ℕ) → n ≤ 128 → n < 10 ^ 64
+small n h =
     let top : 128 < 10 ^ 64 = lit< tt in
     omega (arith, top)
 
+-- a letter and a number have no comma
+letter-lacks_comma : (letter n : ℕ) → 44 < letter → n ≤ 128 → lacks_comma (letter ∷ decimal n)
+letter-lacks_comma letter n above h = All-cons (λ b. (b == 44) ≡ false) letter (decimal n) (ne_eqb letter 44 (λ e. omega arith)) (decimal_lacks 44 n (lit< tt) (small n h))
+
+bit_small : (stop : Bool) → digit_value stop ≤ 1
+bit_small true = omega arith
+bit_small false = omega arith
+
+size_small : (size : GroupSize) → (4 ≤ group_bits size) × (group_bits size ≤ 8)
+size_small Four = (omega arith, omega arith)
+size_small Eight = (omega arith, omega arith)
+
 field_text-lacks_comma : (f : Field) → IsField f → lacks_comma (field_text f)
-field_text-lacks_comma (Unsigned n) h = All-cons (λ b. (b == 44) ≡ false) 117 (decimal n) refl (decimal_lacks 44 n (lit< tt) (width_small n h.1))
+field_text-lacks_comma (Unsigned n) h = letter-lacks_comma 117 n (lit< tt) h.1
+field_text-lacks_comma (Signed n) h = letter-lacks_comma 105 n (lit< tt) h.1
+field_text-lacks_comma (Unary stop) h = letter-lacks_comma 110 (digit_value stop) (lit< tt) (omega (arith, bit_small stop))
+field_text-lacks_comma (Variable size) h = letter-lacks_comma 118 (group_bits size) (lit< tt) (omega (arith, (size_small size).1))
+field_text-lacks_comma (SignedVariable size) h = letter-lacks_comma 115 (group_bits size) (lit< tt) (omega (arith, (size_small size).1))
 field_text-lacks_comma Align h = All-cons (λ b. (b == 44) ≡ false) 97 [] refl (All-nil (λ b. (b == 44) ≡ false))
 
+-- the number that is written is spelt
+spelt_number : (low high n : ℕ) → high ≤ 128 → low ≤ n → n ≤ high → decimal_within low high (decimal n) ≡ Some n
+spelt_number low high n top from to = decimal_within-decimal low high n (small n (omega arith)) from to
+
+stop_back : (stop : Bool) → Unary (digit_value stop == 1) ≡ Unary stop
+stop_back true = refl
+stop_back false = refl
+
+size_back : (size : GroupSize) → group_size (decimal (group_bits size)) ≡ Some size
+size_back Four = ap group_size_of (spelt_number 4 8 4 (omega arith) (omega arith) (omega arith))
+size_back Eight = ap group_size_of (spelt_number 4 8 8 (omega arith) (omega arith) (omega arith))
+
 field_of-field_text : (f : Field) → IsField f → field_of (field_text f) ≡ Some f
-field_of-field_text (Unsigned n) h = ap (option_map Unsigned) (decimal_within-decimal 1 128 n (width_small n h.1) h.0 h.1)
+field_of-field_text (Unsigned n) h = ap (option_map Unsigned) (spelt_number 1 128 n (omega arith) h.0 h.1)
+field_of-field_text (Signed n) h = ap (option_map Signed) (spelt_number 1 128 n (omega arith) h.0 h.1)
+field_of-field_text (Unary stop) h =
+    ap (option_map (λ (n : ℕ). Unary (n == 1))) (spelt_number 0 1 (digit_value stop) (omega arith) (omega arith) (bit_small stop)) ∙ ap Some (stop_back stop)
+field_of-field_text (Variable size) h = ap (option_map Variable) (size_back size)
+field_of-field_text (SignedVariable size) h = ap (option_map SignedVariable) (size_back size)
 field_of-field_text Align h = refl
 
 segments-layout_text : (f : Field) (fs : List Field) → AllByRecursion IsField (f ∷ fs) → segments (layout_text (f ∷ fs)) ≡ map field_text (f ∷ fs)
@@ -56,30 +92,83 @@ layout_of-layout_text (f ∷ fs) h =
 -- ---- no other text
 
 -- the field of a segment, if it is spelt: in range, and written as the segment
-abbrev IsSpelt : List ℕ → Field → Type 0
+abbrev pub IsSpelt : List ℕ → Field → Type 0
 IsSpelt segment f = IsField f × (field_text f ≡ segment)
 
-unsigned_spelt : (rest : List ℕ) (o : Option ℕ) (f : Field) → decimal_within 1 128 rest ≡ o → option_map Unsigned o ≡ Some f → IsSpelt (117 ∷ rest) f
-unsigned_spelt rest None f e h = absurd (cc)
-unsigned_spelt rest (Some n) f e h =
-    let same : Unsigned n ≡ f = cc in
-    let p = decimal-of_within 1 128 n rest (lit< tt) e in
-    subst (λ g. IsField g × (field_text g ≡ 117 ∷ rest)) same ((p.0, p.1), ap (λ t. 117 ∷ t) p.2)
+-- a number that is spelt is the one that is written
+number_spelt : {P : Type 0} (low high : ℕ) (rest : List ℕ) (o : Option ℕ) (make : ℕ → Field) (f : Field) → high ≤ 128 → decimal_within low high rest ≡ o → option_map make o ≡ Some f
+    → ((n : ℕ) → low ≤ n → n ≤ high → decimal n ≡ rest → make n ≡ f → P) → P
+number_spelt low high rest None make f top e h found = absurd (cc)
+number_spelt low high rest (Some n) make f top e h found =
+    let p = decimal-of_within low high n rest (small high top) e in
+    let same : make n ≡ f = cc in
+    found n p.0 p.1 p.2 same
 
-letter_spelt : (u a : Bool) (letter : ℕ) (rest : List ℕ) (f : Field) → (letter == 117) ≡ u → (letter == 97 && (length rest == 0)) ≡ a → (if u then option_map Unsigned (decimal_within 1 128 rest) else if a then Some Align else None) ≡ Some f → IsSpelt (letter ∷ rest) f
-letter_spelt true a letter rest f e d h =
-    let is : letter ≡ 117 = eqb-true letter 117 e in
-    subst (λ c. IsSpelt (c ∷ rest) f) (sym is) (unsigned_spelt rest (decimal_within 1 128 rest) f refl h)
-letter_spelt false true letter [] f e d h =
+stop_spelt : (n : ℕ) → n ≤ 1 → digit_value (n == 1) ≡ n
+stop_spelt zero h = refl
+stop_spelt (suc zero) h = refl
+stop_spelt (suc (suc n)) h = absurd (omega arith)
+
+size_by : (a b : Bool) (n : ℕ) (size : GroupSize) → (n == 4) ≡ a → (n == 8) ≡ b → (let r : Option GroupSize = if a then Some Four else if b then Some Eight else None in r) ≡ Some size → group_bits size ≡ n
+size_by true b n size e d h =
+    let same : Four ≡ size = cc in
+    subst (λ (s : GroupSize). group_bits s ≡ n) same (sym (eqb-true n 4 e))
+size_by false true n size e d h =
+    let same : Eight ≡ size = cc in
+    subst (λ (s : GroupSize). group_bits s ≡ n) same (sym (eqb-true n 8 d))
+size_by false false n size e d h = absurd (cc)
+
+-- a size of groups that is spelt is the one that is written
+size_spelt : {P : Type 0} (rest : List ℕ) (o : Option ℕ) (make : GroupSize → Field) (f : Field) → decimal_within 4 8 rest ≡ o → option_map make (group_size_of o) ≡ Some f
+    → ((size : GroupSize) → decimal (group_bits size) ≡ rest → make size ≡ f → P) → P
+size_spelt rest None make f e h found = absurd (cc)
+size_spelt {P = P} rest (Some n) make f e h found =
+    size_at (group_size_of (Some n)) refl h
+  where
+    size_at : (o : Option GroupSize) → group_size_of (Some n) ≡ o → option_map make o ≡ Some f → P
+    size_at None is known = absurd (cc)
+    size_at (Some size) is known =
+        let same : make size ≡ f = cc in
+        let written = (decimal-of_within 4 8 n rest (lit< tt) e).2 in
+        found size (ap decimal (size_by (n == 4) (n == 8) n size refl refl is) ∙ written) same
+
+-- a letter, if it is this one, decides the field; else the letters that follow do
+by_letter : {P : Type 0} (is : Bool) (letter c : ℕ) (x y : Option Field) (f : Field) → (letter == c) ≡ is → (letter ≡ c → x ≡ Some f → P) → (y ≡ Some f → P) → (if is then x else y) ≡ Some f → P
+by_letter true letter c x y f e here others h = here (eqb-true letter c e) h
+by_letter false letter c x y f e here others h = others h
+
+align_spelt : (a : Bool) (letter : ℕ) (rest : List ℕ) (f : Field) → (letter == 97 && (length rest == 0)) ≡ a → (let r : Option Field = if a then Some Align else None in r) ≡ Some f → IsSpelt (letter ∷ rest) f
+align_spelt true letter [] f e h =
     let is : letter ≡ 97 = grind (arith, common_steps) in
     let same : Align ≡ f = cc in
     subst (λ c. IsSpelt (c ∷ []) f) (sym is) (subst (λ g. IsField g × (field_text g ≡ 97 ∷ [])) same (tt, refl))
-letter_spelt false true letter (b ∷ rest) f e d h = absurd (grind (arith, common_steps))
-letter_spelt false false letter rest f e d h = absurd (cc)
+align_spelt true letter (b ∷ rest) f e h = absurd (grind (arith, common_steps))
+align_spelt false letter rest f e h = absurd (cc)
 
-segment_spelt : (segment : List ℕ) (f : Field) → field_of segment ≡ Some f → IsSpelt segment f
+-- a field that is in range, of this letter and this number
+written : (letter c : ℕ) (rest number : List ℕ) (g f : Field) → letter ≡ c → g ≡ f → IsField g → field_text g ≡ c ∷ number → number ≡ rest → IsSpelt (letter ∷ rest) f
+written letter c rest number g f is same range text spells =
+    (subst IsField same range, ap field_text (sym same) ∙ text ∙ ap (λ t. c ∷ t) spells ∙ ap (λ l. l ∷ rest) (sym is))
+
+letter_spelt : (letter : ℕ) (rest : List ℕ) (f : Field) → field_after letter rest ≡ Some f → IsSpelt (letter ∷ rest) f
+letter_spelt letter rest f h =
+    by_letter (letter == 117) letter 117 _ _ f refl
+    (λ is k. number_spelt 1 128 rest (decimal_within 1 128 rest) Unsigned f (omega arith) refl k (λ n some most spells same. written letter 117 rest (decimal n) (Unsigned n) f is same (some, most) refl spells))
+    (by_letter (letter == 105) letter 105 _ _ f refl
+    (λ is k. number_spelt 1 128 rest (decimal_within 1 128 rest) Signed f (omega arith) refl k (λ n some most spells same. written letter 105 rest (decimal n) (Signed n) f is same (some, most) refl spells))
+    (by_letter (letter == 110) letter 110 _ _ f refl
+    (λ is k. number_spelt 0 1 rest (decimal_within 0 1 rest) (λ n. Unary (n == 1)) f (omega arith) refl k
+    (λ n some most spells same. written letter 110 rest (decimal n) (Unary (n == 1)) f is same tt (ap (λ m. 110 ∷ decimal m) (stop_spelt n most)) spells))
+    (by_letter (letter == 118) letter 118 _ _ f refl
+    (λ is k. size_spelt rest (decimal_within 4 8 rest) Variable f refl k (λ size spells same. written letter 118 rest (decimal (group_bits size)) (Variable size) f is same tt refl spells))
+    (by_letter (letter == 115) letter 115 _ _ f refl
+    (λ is k. size_spelt rest (decimal_within 4 8 rest) SignedVariable f refl k (λ size spells same. written letter 115 rest (decimal (group_bits size)) (SignedVariable size) f is same tt refl spells))
+    (align_spelt (letter == 97 && (length rest == 0)) letter rest f refl))))) h
+
+-- a field that is spelt is in range, and written as its segment
+pub segment_spelt : (segment : List ℕ) (f : Field) → field_of segment ≡ Some f → IsSpelt segment f
 segment_spelt [] f h = absurd (cc)
-segment_spelt (letter ∷ rest) f h = letter_spelt (letter == 117) (letter == 97 && (length rest == 0)) letter rest f refl refl h
+segment_spelt (letter ∷ rest) f h = letter_spelt letter rest f h
 
 -- the fields of segments are in range, and written as the segments
 abbrev AreSpelt : List (List ℕ) → List Field → Type 0

@@ -1,5 +1,5 @@
 -- Decimals, as layouts and value lines spell numbers.
-use Rattle.std.specs.Prelude.{ℕ, Bool, ◌==◌, ◌&&◌, ◌||◌, not, if◌then◌else◌, List, length, slice_index, Option, Some, None, Result, Ok, Err, nat_lt, nat_le}
+use Rattle.std.specs.Prelude.{ℕ, zero, suc, ◌+◌, ◌-◌, ◌^◌, ℤ, pos, negsuc, [], ◌∷◌, Bool, ◌==◌, ◌&&◌, ◌||◌, not, if◌then◌else◌, List, length, slice_index, Option, Some, None, Result, Ok, Err, nat_lt, nat_le}
 use Rattle.std.specs.Char.{is_ascii_digit}
 use Rattle.std.specs.List.{list_all}
 use Rattle.std.specs.Str.Parse.{digits_value}
@@ -27,3 +27,24 @@ decimal_below limit text =
     if is_decimal text
     then (if nat_lt (decimal_value text) limit then Ok (decimal_value text) else Err ValueDoesNotFit)
     else Err ValueMisspelt
+
+-- a number that a text spells, as a signed one
+abbrev pub positive : Result ℕ Reason → Result ℤ Reason
+positive (Ok n) = Ok (pos n)
+positive (Err why) = Err why
+
+-- the negative of a number that a text spells behind its sign, which 0 has not
+abbrev pub negative : Result ℕ Reason → Result ℤ Reason
+negative (Ok zero) = Err ValueMisspelt
+negative (Ok (suc n)) = Ok (negsuc n)
+negative (Err why) = Err why
+
+-- the signed number of n bits of a text's first character and of what follows it: `-` and a decimal other than 0, or a decimal
+abbrev pub signed_after : ℕ → ℕ → List ℕ → Result ℤ Reason
+signed_after n first rest =
+    if first == 45 then negative (decimal_below (2 ^ (n - 1) + 1) rest) else positive (decimal_below (2 ^ (n - 1)) (first ∷ rest))
+
+-- the signed number of n bits that a text spells, or the reason why it spells none
+abbrev pub signed_within : ℕ → List ℕ → Result ℤ Reason
+signed_within n [] = Err ValueMisspelt
+signed_within n (first ∷ rest) = signed_after n first rest

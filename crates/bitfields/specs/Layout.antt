@@ -5,14 +5,30 @@ use Rattle.std.specs.Fmt.{decimal}
 use Rattle.bitfields.specs.declared.fault.Reason.TheVariants.{TooManyFields, BadLayout, OutOfMemory}
 use Rattle.bitfields.specs.declared.fault.Fault.{Fault}
 use Rattle.bitfields.specs.declared.field.Field.{Field}
-use Rattle.bitfields.specs.declared.field.Field.TheVariants.{Unsigned, Align}
+use Rattle.bitfields.specs.declared.field.Field.TheVariants.{Unsigned, Signed, Unary, Variable, SignedVariable, Align}
+use Rattle.bitfields.specs.declared.field.GroupSize.{GroupSize}
+use Rattle.bitfields.specs.declared.field.GroupSize.TheVariants.{Four, Eight}
+use Rattle.bitstream_io.specs.Word.{digit_value}
 use Rattle.bitfields.specs.Decimal.{decimal_within}
 use Rattle.bitfields.specs.Fault.{fault}
 
--- the field of a letter (u, a) and of what follows it
+-- the size of groups of this many bits
+abbrev pub group_size_of : Option ℕ → Option GroupSize
+group_size_of None = None
+group_size_of (Some n) = if n == 4 then Some Four else if n == 8 then Some Eight else None
+
+-- the size of groups that a text spells, 4 or 8
+abbrev pub group_size : List ℕ → Option GroupSize
+group_size text = group_size_of (decimal_within 4 8 text)
+
+-- the field of a letter (u, i, n, v, s, a) and of what follows it
 abbrev pub field_after : ℕ → List ℕ → Option Field
 field_after letter rest =
     if letter == 117 then option_map Unsigned (decimal_within 1 128 rest)
+    else if letter == 105 then option_map Signed (decimal_within 1 128 rest)
+    else if letter == 110 then option_map (λ stop. Unary (stop == 1)) (decimal_within 0 1 rest)
+    else if letter == 118 then option_map Variable (group_size rest)
+    else if letter == 115 then option_map SignedVariable (group_size rest)
     else if (letter == 97 && (length rest == 0)) then Some Align
     else None
 
@@ -52,7 +68,8 @@ IsUnlessMemory expected result = (result ≡ Err (fault 0 OutOfMemory)) ⊎ (res
 -- the numbers of a field are in their ranges
 abbrev pub IsField : Field → Type 0
 IsField (Unsigned n) = (1 ≤ n) × (n ≤ 128)
-IsField Align = Unit {0}
+IsField (Signed n) = (1 ≤ n) × (n ≤ 128)
+IsField field = Unit {0}
 
 -- 1 to 256 fields, the numbers of each in their ranges
 pub record IsLayout (fields : List Field) : Type 0 where
@@ -60,9 +77,18 @@ pub record IsLayout (fields : List Field) : Type 0 where
   pub few : length fields ≤ 256
   pub in_range : All IsField fields
 
--- how a field is written: u and its width, or a
+-- the number of bits of each group
+abbrev pub group_bits : GroupSize → ℕ
+group_bits Four = 4
+group_bits Eight = 8
+
+-- how a field is written: its letter, and its number if it has one
 abbrev pub field_text : Field → List ℕ
 field_text (Unsigned n) = 117 ∷ decimal n
+field_text (Signed n) = 105 ∷ decimal n
+field_text (Unary stop) = 110 ∷ decimal (digit_value stop)
+field_text (Variable size) = 118 ∷ decimal (group_bits size)
+field_text (SignedVariable size) = 115 ∷ decimal (group_bits size)
 field_text Align = 97 ∷ []
 
 -- the texts of fields, joined by commas

@@ -9,21 +9,24 @@ use Rattle.bitstream_io.specs.Fault.{refusal_of}
 use Rattle.bitstream_io.specs.Refusal.{Refusal}
 use Rattle.bitstream_io.specs.Run.{write_run}
 use Rattle.bitstream_io.specs.Sink.{Sink, Appended, WriteRefused}
-use Rattle.bitstream_io.specs.WriteTable.{plain, unsigned, align}
+use Rattle.bitstream_io.specs.WriteTable.{unsigned, signed, unary_word, vbr, signed_vbr, align}
 use Rattle.bitfields.specs.declared.fault.Reason.{Reason}
 use Rattle.bitfields.specs.declared.fault.Reason.TheVariants.{OutOfMemory, StreamFault}
 use Rattle.bitfields.specs.declared.fault.Fault.{Fault}
 use Rattle.bitfields.specs.declared.field.Field.{Field}
-use Rattle.bitfields.specs.declared.field.Field.TheVariants.{Unsigned, Align}
+use Rattle.bitfields.specs.declared.field.Field.TheVariants.{Unsigned, Signed, Unary, Variable, SignedVariable, Align}
 use Rattle.bitfields.specs.declared.field_value.FieldValue.{FieldValue}
-use Rattle.bitfields.specs.declared.field_value.FieldValue.TheVariants as Value
 use Rattle.bitfields.specs.Fault.{fault}
-use Rattle.bitfields.specs.Value.{value_count}
+use Rattle.bitfields.specs.Layout.{group_bits}
+use Rattle.bitfields.specs.Value.{value_count, first_unsigned, first_signed}
 
--- the write call of a field whose value is the first of these; no bits if the value is missing
+-- the write call of a field whose value is the first of these
 abbrev pub field_write : Order → Field → List FieldValue → WriteEntry
-field_write o (Unsigned n) [] = plain []
-field_write o (Unsigned n) (Value.Unsigned v ∷ vs) = unsigned o 128 n v
+field_write o (Unsigned n) vs = unsigned o 128 n (first_unsigned vs)
+field_write o (Signed n) vs = signed o 128 n (first_signed vs)
+field_write o (Unary stop) vs = unary_word stop (first_unsigned vs)
+field_write o (Variable size) vs = vbr o (group_bits size) (first_unsigned vs)
+field_write o (SignedVariable size) vs = signed_vbr o (group_bits size) (first_signed vs)
 field_write o Align vs = align
 
 -- the write calls of fields with these values

@@ -1,23 +1,24 @@
 -- Unpacking: the values that bits hold for fields.
-use Rattle.std.specs.Prelude.{◌≡◌, ◌⊎◌, ◌<◌, ◌≤◌, ◌*◌, Result, Ok, Err, Option, Some, None, ℕ, ◌+◌, Bool, List, [], ◌∷◌, ◌++◌, length, map}
+use Rattle.std.specs.Prelude.{◌≡◌, ◌⊎◌, ◌<◌, ◌≤◌, ◌*◌, ◌^◌, Result, Ok, Err, Option, Some, None, ℕ, ◌+◌, Bool, List, [], ◌∷◌, ◌++◌, length, map}
 use Rattle.std.specs.Io.KnownBytes.{Consumes}
 use Rattle.bitstream_io.specs.Word.{Order, bits}
 use Rattle.bitstream_io.specs.Error.{Error}
 use Rattle.bitstream_io.specs.Error.TheVariants as errors
 use Rattle.bitstream_io.specs.Entry.{ReadEntry, chain, gives}
-use Rattle.bitstream_io.specs.ReadTable.{unsigned_entry, align_entry}
+use Rattle.bitstream_io.specs.ReadTable.{unsigned_entry, signed_entry, unary_entry, vbr_entry, signed_vbr_entry, align_entry}
 use Rattle.bitstream_io.specs.Run.{read_run}
 use Rattle.bitstream_io.specs.Fault.{read_refusal_of}
 use Rattle.bitstream_io.specs.Refusal.{Refusal, IsTrueEnd}
 use Rattle.bitstream_io.specs.Reads.{BitSource, Reads}
 use Rattle.bitfields.specs.declared.fault.Reason.{Reason}
-use Rattle.bitfields.specs.declared.fault.Reason.TheVariants.{BitsEnded, StreamFault, OutOfMemory}
+use Rattle.bitfields.specs.declared.fault.Reason.TheVariants.{BitsEnded, LimitPassed, StreamFault, OutOfMemory}
 use Rattle.bitfields.specs.declared.fault.Fault.{Fault}
 use Rattle.bitfields.specs.declared.field.Field.{Field}
-use Rattle.bitfields.specs.declared.field.Field.TheVariants.{Unsigned, Align}
+use Rattle.bitfields.specs.declared.field.Field.TheVariants.{Unsigned, Signed, Unary, Variable, SignedVariable, Align}
 use Rattle.bitfields.specs.declared.field_value.FieldValue.{FieldValue}
 use Rattle.bitfields.specs.declared.field_value.FieldValue.TheVariants as Value
 use Rattle.bitfields.specs.Fault.{fault}
+use Rattle.bitfields.specs.Layout.{group_bits}
 use Rattle.bitfields.specs.Value.{value_list, printed_lines}
 
 -- what bits say for fields: the values of those that have one, and the place behind the last; or the first fault
@@ -34,11 +35,17 @@ values_and vs (Stops f) = Stops f
 abbrev pub read_reason : Error → Reason
 read_reason errors.EndOfInput = BitsEnded
 read_reason errors.OutOfMemory = OutOfMemory
+read_reason errors.RunTooLong = LimitPassed
+read_reason errors.VariableWidthOverflow = LimitPassed
 read_reason error = StreamFault
 
 -- the read call of a field, which answers the field's value, if it has one
 abbrev pub field_read : Order → Field → ReadEntry (Option FieldValue)
 field_read o (Unsigned n) = chain (unsigned_entry o 128 n) (λ v. gives (Some (Value.Unsigned v)))
+field_read o (Signed n) = chain (signed_entry o 128 n) (λ x. gives (Some (Value.Signed x)))
+field_read o (Unary stop) = chain (unary_entry stop) (λ v. gives (Some (Value.Unsigned v)))
+field_read o (Variable size) = chain (vbr_entry o (group_bits size) 64 (2 ^ 64)) (λ v. gives (Some (Value.Unsigned v)))
+field_read o (SignedVariable size) = chain (signed_vbr_entry o (group_bits size) 64) (λ x. gives (Some (Value.Signed x)))
 field_read o Align = chain align_entry (λ _. gives None)
 
 -- what the answers of the fields' read calls come to; the fields are numbered from k on

@@ -1,9 +1,9 @@
 //! Decimals, as layouts and value lines spell numbers.
 
-ghost use Rattle.std.specs.Prelude.{◌≡◌, ◌^◌};
+ghost use Rattle.std.specs.Prelude.{◌≡◌, ◌≤◌, ◌<◌, ◌+◌, ◌-◌, ◌^◌, pos, Ok};
 ghost use Rattle.std.specs.List.{list_all};
 ghost use Rattle.std.specs.Char.{is_ascii_digit};
-ghost use Rattle.bitfields.specs.Decimal.{is_decimal as spells_decimal, decimal_below, decimal_within};
+ghost use Rattle.bitfields.specs.Decimal.{is_decimal as spells_decimal, decimal_below, decimal_within, negative as negative_of, positive as positive_of, signed_within};
 
 use crate::fault::Reason;
 
@@ -49,5 +49,104 @@ pub fn decimal_between(low: u32, high: u32, text: &[u8]) -> Option<u32>
     match decimal(text) {
         Ok(value) if u128::from(low) <= value && value <= u128::from(high) => Some(value as u32),
         _ => None,
+    }
+}
+
+/// Returns the number below 2^width that a text spells.
+///
+/// # Errors
+///
+/// `ValueMisspelt` if the text is no decimal, else `ValueDoesNotFit` if the number needs more bits.
+#[tactic(auto, using(crate::proofs::DecimalLemmas::wider))]
+pub fn decimal_of_width(width: u32, text: &[u8]) -> Result<u128, Reason>
+    requires { width ≤ 128 }
+    ensures { result ≡ decimal_below (2 ^ width) text.now }
+{
+    match decimal(text) {
+        Ok(value) if width < 128 && value >> width != 0 => Err(Reason::ValueDoesNotFit),
+        Ok(value) => Ok(value),
+        Err(reason) => Err(reason),
+    }
+}
+
+/// Returns the number up to a greatest one that a text spells.
+fn decimal_up_to(greatest: u128, text: &[u8]) -> Result<u128, Reason>
+    ensures { result ≡ decimal_below (greatest + 1) text.now }
+{
+    match decimal(text) {
+        Ok(value) if value > greatest => Err(Reason::ValueDoesNotFit),
+        Ok(value) => Ok(value),
+        Err(reason) => Err(reason),
+    }
+}
+
+/// Returns the signed number of `width` bits that a text spells: a decimal, or `-` before a decimal
+/// other than 0.
+///
+/// # Errors
+///
+/// `ValueMisspelt` if the text is neither, else `ValueDoesNotFit` if the number needs more bits.
+pub fn signed_of_width(width: u32, text: &[u8]) -> Result<i128, Reason>
+    requires some { 1 ≤ width }
+    requires most { width ≤ 128 }
+    ensures { result ≡ signed_within width text.now }
+{
+    let (first, rest) = text.split_first().ok_or(Reason::ValueMisspelt)?;
+    if *first == b'-' {
+        negative(width, rest)
+    } else {
+        positive(width, text)
+    }
+}
+
+/// Returns the signed number of `width` bits that a decimal spells.
+fn positive(width: u32, text: &[u8]) -> Result<i128, Reason>
+    requires some { 1 ≤ width }
+    requires most { width ≤ 128 }
+    ensures { result ≡ positive_of (decimal_below (2 ^ (width - 1)) text.now) }
+{
+    match decimal_of_width(width - 1, text) {
+        Ok(value) => Ok(non_negative(value)),
+        Err(reason) => Err(reason),
+    }
+}
+
+/// Returns a number as a signed one.
+fn non_negative(value: u128) -> i128
+    requires { value < 2 ^ 127 }
+    ensures { result ≡ pos value }
+{
+    value as i128
+}
+
+/// Returns the negative number of `width` bits that a decimal spells behind a sign.
+fn negative(width: u32, text: &[u8]) -> Result<i128, Reason>
+    requires some { 1 ≤ width }
+    requires most { width ≤ 128 }
+    ensures { result ≡ negative_of (decimal_below (2 ^ (width - 1) + 1) text.now) }
+{
+    match decimal_up_to(half(width), text) {
+        Ok(value) => negated(value),
+        Err(reason) => Err(reason),
+    }
+}
+
+/// Returns 2^(width - 1).
+fn half(width: u32) -> u128
+    requires some { 1 ≤ width }
+    requires most { width ≤ 128 }
+    ensures { result ≡ 2 ^ (width - 1) }
+{
+    1 << (width - 1)
+}
+
+/// Returns the negative of a number that stands behind a sign.
+fn negated(value: u128) -> Result<i128, Reason>
+    requires { value ≤ 2 ^ 127 }
+    ensures { result ≡ negative_of (Ok value) }
+{
+    match value.checked_sub(1) {
+        Some(below) => Ok(!(below as i128)),
+        None => Err(Reason::ValueMisspelt),
     }
 }

@@ -1,7 +1,7 @@
 //! The fields of a layout, and the segments of text that spell them.
 
 ghost use Rattle.std.specs.Prelude.{◌≡◌};
-ghost use Rattle.bitfields.specs.Layout.{field_of};
+ghost use Rattle.bitfields.specs.Layout.{field_of, group_size as group_size_of};
 
 use crate::decimal::decimal_between;
 
@@ -10,8 +10,25 @@ use crate::decimal::decimal_between;
 pub enum Field {
     /// `uN`: an unsigned number of N bits.
     Unsigned(u32),
+    /// `iN`: a signed number of N bits, as a two's complement.
+    Signed(u32),
+    /// `n0` and `n1`: a unary number, with this stop bit.
+    Unary(bool),
+    /// `v4` and `v8`: a number of variable width.
+    Variable(GroupSize),
+    /// `s4` and `s8`: a signed number of variable width.
+    SignedVariable(GroupSize),
     /// `a`: zeros up to the next byte boundary.
     Align,
+}
+
+/// How many bits each group of a number of variable width has.
+#[derive(Clone, Copy, Debug, PartialEq, Eq, Drop)]
+pub enum GroupSize {
+    /// 4 bits.
+    Four,
+    /// 8 bits.
+    Eight,
 }
 
 /// Returns the field that a segment of a layout spells, if it spells one.
@@ -21,7 +38,22 @@ pub fn parse_field(segment: &[u8]) -> Option<Field>
     let (letter, rest) = segment.split_first()?;
     match *letter {
         b'u' => decimal_between(1, 128, rest).map(Field::Unsigned),
+        b'i' => decimal_between(1, 128, rest).map(Field::Signed),
+        b'n' => decimal_between(0, 1, rest).map(|stop| Field::Unary(stop == 1)),
+        b'v' => group_size(rest).map(Field::Variable),
+        b's' => group_size(rest).map(Field::SignedVariable),
         b'a' if rest.is_empty() => Some(Field::Align),
+        _ => None,
+    }
+}
+
+/// Returns the size of the groups that a text spells, if it spells one.
+fn group_size(text: &[u8]) -> Option<GroupSize>
+    ensures { result ≡ group_size_of text.now }
+{
+    match decimal_between(4, 8, text) {
+        Some(4) => Some(GroupSize::Four),
+        Some(8) => Some(GroupSize::Eight),
         _ => None,
     }
 }

@@ -1,22 +1,24 @@
 //! The values of fields: how lines spell them, and how they are printed.
 
-ghost use Rattle.std.specs.Prelude.{◌≡◌, ◌++◌, ◌≤◌, ◌^◌, ◌∷◌, length, map, string_bytes, OnOk};
-ghost use Rattle.bitfields.specs.Decimal.{decimal_below};
+ghost use Rattle.std.specs.Prelude.{◌≡◌, ◌++◌, ◌≤◌, ◌<◌, ◌^◌, length, map, string_bytes, OnOk};
+ghost use Rattle.bitstream_io.specs.Word.{FitsSignedBits};
 ghost use Rattle.bitfields.specs.Layout.{IsField};
-ghost use Rattle.bitfields.specs.Value.{printed_line, value_count, value_in as value_in_of};
+ghost use Rattle.bitfields.specs.Value.{printed_line, value_count, value_kind as value_kind_of, value_in as value_in_of, IsKind, FitsKind, first_unsigned as first_unsigned_of, first_signed as first_signed_of};
 
-use crate::decimal::decimal;
+use crate::decimal::{decimal_of_width, signed_of_width};
 use crate::fault::Reason;
 use crate::field::Field;
 use std::alloc::AllocError;
 use std::fmt;
 use std::fmt::Write;
 
-/// A value of a field, by the kind of the field.
+/// A value of a field, by its kind.
 #[derive(Clone, Copy, Debug, PartialEq, Eq, Drop)]
 pub enum FieldValue {
-    /// Of `uN`: a number below 2^N.
+    /// A number without a sign.
     Unsigned(u128),
+    /// A signed number.
+    Signed(i128),
 }
 
 /// The value as its line spells it.
@@ -29,7 +31,34 @@ impl fmt::Display for FieldValue {
     fn fmt<W: fmt::Write>(&self, f: &mut fmt::Formatter<W>) -> fmt::Result {
         match self {
             FieldValue::Unsigned(value) => write!(f, "{value}"),
+            FieldValue::Signed(value) => write!(f, "{value}"),
         }
+    }
+}
+
+/// What the value of a field is, and so what its line spells.
+#[derive(Clone, Copy, Debug, PartialEq, Eq, Drop)]
+pub enum ValueKind {
+    /// The field has no value, and no line.
+    Absent,
+    /// An unsigned number of this many bits.
+    Unsigned(u32),
+    /// A signed number of this many bits.
+    Signed(u32),
+}
+
+/// Returns what the value of a field is.
+pub fn value_kind(field: Field) -> ValueKind
+    ensures kind { result ≡ value_kind_of field }
+    ensures in_range { IsField field → IsKind result }
+{
+    match field {
+        Field::Unsigned(width) => ValueKind::Unsigned(width),
+        Field::Signed(width) => ValueKind::Signed(width),
+        Field::Unary(_) => ValueKind::Unsigned(32),
+        Field::Variable(_) => ValueKind::Unsigned(64),
+        Field::SignedVariable(_) => ValueKind::Signed(64),
+        Field::Align => ValueKind::Absent,
     }
 }
 
@@ -38,33 +67,49 @@ impl fmt::Display for FieldValue {
 ///
 /// # Errors
 ///
-/// `ValueMissing` if there is no line, `ValueMisspelt` if the line is no decimal, `ValueDoesNotFit`
-/// if the number needs more bits.
+/// `ValueMissing` if there is no line, `ValueMisspelt` if the line spells no value of this kind,
+/// `ValueDoesNotFit` if the number needs more bits.
 pub fn value_in(field: Field, lines: &[&[u8]]) -> Result<Option<FieldValue>, Reason>
     requires { IsField field }
     ensures value { result ≡ value_in_of field (map (λ x. x.now) lines.now) }
     ensures line { OnOk result (value_count field ≤ length lines.now) }
 {
-    match field {
-        Field::Unsigned(width) => {
+    match value_kind(field) {
+        ValueKind::Absent => Ok(None),
+        ValueKind::Unsigned(width) => {
             let line = lines.first().ok_or(Reason::ValueMissing)?;
             let value = decimal_of_width(width, line)?;
             Ok(Some(FieldValue::Unsigned(value)))
         }
-        Field::Align => Ok(None),
+        ValueKind::Signed(width) => {
+            let line = lines.first().ok_or(Reason::ValueMissing)?;
+            let value = signed_of_width(width, line)?;
+            Ok(Some(FieldValue::Signed(value)))
+        }
     }
 }
 
-/// Returns the number below 2^width that a text spells.
-#[tactic(auto, using(crate::proofs::DecimalLemmas::wider))]
-fn decimal_of_width(width: u32, text: &[u8]) -> Result<u128, Reason>
-    requires { width ≤ 128 }
-    ensures { result ≡ decimal_below (2 ^ width) text.now }
+/// Returns the unsigned number of `width` bits that stands first.
+pub fn first_unsigned(width: u32, values: &[FieldValue]) -> u128
+    requires { FitsKind (ValueKind.Unsigned width) values.now }
+    ensures first { result ≡ first_unsigned_of values.now }
+    ensures fits { result < 2 ^ width }
 {
-    match decimal(text) {
-        Ok(value) if width < 128 && value >> width != 0 => Err(Reason::ValueDoesNotFit),
-        Ok(value) => Ok(value),
-        Err(reason) => Err(reason),
+    match values[0] {
+        FieldValue::Unsigned(value) => value,
+        FieldValue::Signed(_) => unreachable!(),
+    }
+}
+
+/// Returns the signed number of `width` bits that stands first.
+pub fn first_signed(width: u32, values: &[FieldValue]) -> i128
+    requires { FitsKind (ValueKind.Signed width) values.now }
+    ensures first { result ≡ first_signed_of values.now }
+    ensures fits { FitsSignedBits width result }
+{
+    match values[0] {
+        FieldValue::Signed(value) => value,
+        FieldValue::Unsigned(_) => unreachable!(),
     }
 }
 

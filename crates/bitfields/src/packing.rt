@@ -3,16 +3,17 @@
 ghost use Rattle.std.specs.Prelude.{◌≡◌, false, None, [], ◌∷◌, ◌++◌};
 ghost use Rattle.bitstream_io.specs.Refusal.{MayRefuse};
 ghost use Rattle.bitstream_io.specs.Sink.{Writes, WritesAll};
-ghost use Rattle.bitstream_io.specs.WriteTable.{align};
+ghost use Rattle.bitstream_io.specs.WriteTable.{align, unary_word, vbr, signed_vbr};
+ghost use Rattle.bitfields.specs.Layout.{group_bits};
 ghost use Rattle.bitfields.specs.Packing.{field_write, field_writes, packed, WritesBits, write_reason as write_reason_of, Packs};
 ghost use Rattle.bitfields.specs.Value.{lines as lines_of, values as values_of, FitsField, Fit};
 
 use crate::fault::{Fault, Reason};
-use crate::field::Field;
-use crate::field_value::FieldValue;
+use crate::field::{Field, GroupSize};
+use crate::field_value::{FieldValue, first_signed, first_unsigned};
 use crate::layout::Layout;
 use crate::value::{behind_value, values};
-use bitstream_io::{BitWrite, BitWriter, Endianness, Error, Lent, Target};
+use bitstream_io::{BitWrite, BitWriter, Bits, Endianness, Error, Lent, Target};
 use std::alloc::Global;
 
 /// Packs the values that an input spells for a layout: writes the bytes of the fields' words, the
@@ -90,11 +91,50 @@ fn append_field<W: BitWrite>(
         writer.old result writer.new }
 {
     match field {
-        Field::Unsigned(width) => {
-            let FieldValue::Unsigned(value) = values[0];
-            writer.write_unsigned_var(width, value)
+        Field::Unsigned(width) => writer.write_unsigned_var(width, first_unsigned(width, values)),
+        Field::Signed(width) => writer.write_signed_var(width, first_signed(width, values)),
+        Field::Unary(stop) => append_run(stop, first_unsigned(32, values) as u32, writer),
+        Field::Variable(size) => append_groups(size, first_unsigned(64, values) as u64, writer),
+        Field::SignedVariable(size) => {
+            append_signed_groups(size, first_signed(64, values), writer)
         }
         Field::Align => writer.byte_align(),
+    }
+}
+
+/// Writes a unary number with this stop bit.
+fn append_run<W: BitWrite>(stop: bool, value: u32, writer: &mut W) -> Result<(), Error>
+    ensures { Writes W.sink (unary_word stop value) writer.old result writer.new }
+{
+    match stop {
+        false => writer.write_unary::<Bits<0>>(value),
+        true => writer.write_unary::<Bits<1>>(value),
+    }
+}
+
+/// Writes a number in groups of this size.
+fn append_groups<W: BitWrite>(size: GroupSize, value: u64, writer: &mut W) -> Result<(), Error>
+    ensures { Writes W.sink (vbr W.sink.order (group_bits size) value)
+        writer.old result writer.new }
+{
+    match size {
+        GroupSize::Four => writer.write_unsigned_vbr::<Bits<4>, u64>(value),
+        GroupSize::Eight => writer.write_unsigned_vbr::<Bits<8>, u64>(value),
+    }
+}
+
+/// Writes a signed number in groups of this size.
+fn append_signed_groups<W: BitWrite>(
+    size: GroupSize,
+    value: i128,
+    writer: &mut W,
+) -> Result<(), Error>
+    ensures { Writes W.sink (signed_vbr W.sink.order (group_bits size) value)
+        writer.old result writer.new }
+{
+    match size {
+        GroupSize::Four => writer.write_signed_vbr::<Bits<4>, i128>(value),
+        GroupSize::Eight => writer.write_signed_vbr::<Bits<8>, i128>(value),
     }
 }
 

@@ -23,7 +23,7 @@ const UNPACKED: Row = Row(
     0,
 );
 
-const ROWS: [Row; 17] = [
+const ROWS: [Row; 16] = [
     PACKED,
     Row("pack le u2,u3,u5,u3,u19", b"1\n4\n13\n3\n395743", D, "", 0),
     Row("pack be u4,a,u8", b"15\n1\n", &[0xf0, 0x01], "", 0),
@@ -45,7 +45,6 @@ const ROWS: [Row; 17] = [
         3,
     ),
     Row("unpack le a", b"", b"", "", 0),
-    Row("pack be u8,n1", b"1\n1\n", b"", "2: bad layout", 2),
     Row("pack be u8,a,u16", b"79\n19210\n", b"OK\n", "", 0),
     Row(
         "pack be u2,u3,u5,u3,u19",
@@ -59,6 +58,103 @@ const ROWS: [Row; 17] = [
     Row("pack be u8", b"5\r\n", b"", "1: value misspelt", 3),
     Row("pack xe u8", b"", b"", "0: bad arguments", 2),
     Row("size be u8", b"1\n", b"", "0: bad arguments", 2),
+];
+
+/// Values of each kind, and the lines that spell them.
+const KINDS_OF_VALUES: &[u8] = b"5\n4\n8\n-3\n-8\n";
+
+const HEADLINE: [Row; 29] = [
+    Row(
+        "pack be u3,a,n1,v4,s4,i4",
+        KINDS_OF_VALUES,
+        &[0xa0, 0x0c, 0x0a, 0xc0],
+        "",
+        0,
+    ),
+    Row(
+        "unpack be u3,a,n1,v4,s4,i4",
+        &[0xa0, 0x0c, 0x0a, 0xc0],
+        KINDS_OF_VALUES,
+        "",
+        0,
+    ),
+    Row(
+        "pack le u3,a,n1,v4,s4,i4",
+        KINDS_OF_VALUES,
+        &[0x05, 0x10, 0xa3, 0x10],
+        "",
+        0,
+    ),
+    Row(
+        "unpack le u3,a,n1,v4,s4,i4",
+        &[0x05, 0x10, 0xa3, 0x10],
+        KINDS_OF_VALUES,
+        "",
+        0,
+    ),
+    Row(
+        "pack be i1,i8,s8,v8,n0",
+        b"-1\n127\n-65\n300\n3",
+        &[0xbf, 0xc0, 0x80, 0xd6, 0x01, 0x70],
+        "",
+        0,
+    ),
+    Row("pack be i8", b"128", b"", "1: value does not fit", 3),
+    Row("pack be i8", b"-129", b"", "1: value does not fit", 3),
+    Row("pack be i8", b"-0", b"", "1: value misspelt", 3),
+    Row("pack be i8", b"-", b"", "1: value misspelt", 3),
+    Row(
+        "pack be s4",
+        b"-9223372036854775808",
+        &[
+            0xff, 0xff, 0xff, 0xff, 0xff, 0xff, 0xff, 0xff, 0xff, 0xff, 0xf1,
+        ],
+        "",
+        0,
+    ),
+    Row(
+        "pack be s4",
+        b"9223372036854775808",
+        b"",
+        "1: value does not fit",
+        3,
+    ),
+    Row("pack be v4", b"-1", b"", "1: value misspelt", 3),
+    Row(
+        "pack be v8",
+        b"18446744073709551616",
+        b"",
+        "1: value does not fit",
+        3,
+    ),
+    Row("pack be n1", b"4294967296", b"", "1: value does not fit", 3),
+    Row("pack be u8", b"01", b"", "1: value misspelt", 3),
+    Row(
+        "unpack be i2,i3,i5,i3,i19",
+        D,
+        b"-2\n-2\n7\n-3\n-181311\n",
+        "",
+        0,
+    ),
+    Row(
+        "unpack le i2,i3,i5,i3,i19",
+        D,
+        b"1\n-4\n13\n3\n-128545\n",
+        "",
+        0,
+    ),
+    Row("unpack be n0,n0,n0,n0,n0", D, b"1\n2\n0\n0\n4\n", "", 0),
+    Row("unpack be v8", &[0xff; 11], b"", "1: limit passed", 4),
+    Row("unpack be v8", &[0xff; 9], b"", "1: bits ended", 4),
+    Row("unpack be u8,s4", &[0xff; 20], b"", "2: limit passed", 4),
+    Row("pack be u0", b"", b"", "1: bad layout", 2),
+    Row("pack be u129", b"", b"", "1: bad layout", 2),
+    Row("pack be u01", b"", b"", "1: bad layout", 2),
+    Row("pack be i0", b"", b"", "1: bad layout", 2),
+    Row("pack be v5", b"", b"", "1: bad layout", 2),
+    Row("pack be n2", b"", b"", "1: bad layout", 2),
+    Row("pack be u2,", b"", b"", "2: bad layout", 2),
+    Row("unpack be ", b"", b"", "1: bad layout", 2),
 ];
 
 /// Which request of each stream is refused, if any: the first is 0. Each later one is served again.
@@ -157,14 +253,26 @@ fn ends(
     )
 }
 
+/// Whether a row ends as it should, over an input that gives its bytes at once and over one that
+/// drips.
+fn is_right(alloc: Global, row: &Row) -> Result<bool, AllocError> {
+    let at_once = play(alloc, row.0, row.1, false, NONE)?;
+    let dripping = play(alloc, row.0, row.1, true, NONE)?;
+    Ok(ends(alloc, &at_once, row.4, row.2, row.3)? && ends(alloc, &dripping, row.4, row.2, row.3)?)
+}
+
 #[test]
 fn r01_first_path(rt: HostRuntime) -> Result<(), Fail> {
-    let alloc = rt.alloc();
     for row in &ROWS {
-        for drips in [false, true] {
-            let ended = play(alloc, row.0, row.1, drips, NONE)?;
-            assert!(rt; ends(alloc, &ended, row.4, row.2, row.3)?, "{}", row.0);
-        }
+        assert!(rt; is_right(rt.alloc(), row)?, "{}", row.0);
+    }
+    Ok(())
+}
+
+#[test]
+fn r09_headline(rt: HostRuntime) -> Result<(), Fail> {
+    for row in &HEADLINE {
+        assert!(rt; is_right(rt.alloc(), row)?, "{}", row.0);
     }
     Ok(())
 }
@@ -269,7 +377,7 @@ fn asks_for_no_byte_more(rt: HostRuntime) -> Result<(), Fail> {
         (UNPACKED.0, UNPACKED.1, 0, (3, 2, 0)),
         ("unpack be u2,u3,u5", D, 2, (2, 2, 0)),
         ("unpack le a", D, 4, (0, 2, 0)),
-        ("pack be u8,n1", D, 4, (0, 0, 1)),
+        ("pack be u8,v5", D, 4, (0, 0, 1)),
         ("size be u8", D, 4, (0, 0, 1)),
     ] {
         let ended = play(alloc, words, bytes, false, NONE)?;

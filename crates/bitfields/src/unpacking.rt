@@ -1,17 +1,19 @@
 //! Unpacking: the lines of the values that bits hold for the fields of a layout.
 
-ghost use Rattle.std.specs.Prelude.{◌≡◌, ◌++◌, ℕ, List, Some, string_bytes, IsErr, IsSome, OnOk};
+ghost use Rattle.std.specs.Prelude.{◌≡◌, ◌++◌, ◌^◌, ℕ, List, Some, string_bytes, IsErr, IsSome, OnOk};
 ghost use Rattle.bitstream_io.specs.Gather.{seen};
 ghost use Rattle.bitstream_io.specs.Refusal.{MayRefuse, TrueEnds};
+ghost use Rattle.bitstream_io.specs.ReadTable.{unary_entry, vbr_entry, signed_vbr_entry};
 ghost use Rattle.bitstream_io.specs.Reads.{Reads};
+ghost use Rattle.bitfields.specs.Layout.{group_bits};
 ghost use Rattle.bitfields.specs.Unpacking.{field_read, read_reason as read_reason_of, IsSaid, ReadsLines, UnpacksBytes};
 ghost use Rattle.bitfields.specs.Value.{value_list, printed_lines};
 
 use crate::fault::{Fault, Reason};
-use crate::field::Field;
+use crate::field::{Field, GroupSize};
 use crate::field_value::{FieldValue, print_value};
 use crate::layout::Layout;
-use bitstream_io::{BitRead, BitReader, Endianness, Error, Lent, Source};
+use bitstream_io::{BitRead, BitReader, Bits, Endianness, Error, Lent, Source};
 use std::alloc::{AllocError, Global};
 
 /// Unpacks the fields of a layout from the first byte of a stream on. Returns the line of each
@@ -20,7 +22,8 @@ use std::alloc::{AllocError, Global};
 ///
 /// # Errors
 ///
-/// `BitsEnded` at the first field whose bits are not all there, `StreamFault` or `OutOfMemory` at
+/// `BitsEnded` at the first field whose bits are not all there, `LimitPassed` at the first whose
+/// number passes its limit, `StreamFault` or `OutOfMemory` at
 /// the field for which the stream refused a request, `OutOfMemory` at the field for whose line
 /// memory was refused. If each refusal of the stream is a true end, as of a `Slice`, the bits alone
 /// decide the answer, memory aside.
@@ -77,11 +80,66 @@ fn unpack_field<R: BitRead>(field: Field, reader: &mut R) -> Result<Option<Field
             let value = reader.read_unsigned_var::<u128>(width)?;
             Ok(Some(FieldValue::Unsigned(value)))
         }
+        Field::Signed(width) => {
+            let value = reader.read_signed_var::<i128>(width)?;
+            Ok(Some(FieldValue::Signed(value)))
+        }
+        Field::Unary(stop) => {
+            let value = read_run(stop, reader)?;
+            Ok(Some(FieldValue::Unsigned(value as u128)))
+        }
+        Field::Variable(size) => {
+            let value = read_groups(size, reader)?;
+            Ok(Some(FieldValue::Unsigned(value as u128)))
+        }
+        Field::SignedVariable(size) => {
+            let value = read_signed_groups(size, reader)?;
+            Ok(Some(FieldValue::Signed(widened(value))))
+        }
         Field::Align => {
             reader.byte_align();
             Ok(None)
         }
     }
+}
+
+/// Reads a unary number with this stop bit.
+fn read_run<R: BitRead>(stop: bool, reader: &mut R) -> Result<u32, Error>
+    ensures { Reads R.source (unary_entry stop) reader.old result reader.new }
+{
+    match stop {
+        false => reader.read_unary::<Bits<0>>(),
+        true => reader.read_unary::<Bits<1>>(),
+    }
+}
+
+/// Reads a number in groups of this size.
+fn read_groups<R: BitRead>(size: GroupSize, reader: &mut R) -> Result<u64, Error>
+    ensures { Reads R.source (vbr_entry R.source.order (group_bits size) 64 (2 ^ 64))
+        reader.old result reader.new }
+{
+    match size {
+        GroupSize::Four => reader.read_unsigned_vbr::<Bits<4>, u64>(),
+        GroupSize::Eight => reader.read_unsigned_vbr::<Bits<8>, u64>(),
+    }
+}
+
+/// Reads a signed number in groups of this size.
+fn read_signed_groups<R: BitRead>(size: GroupSize, reader: &mut R) -> Result<i64, Error>
+    ensures { Reads R.source (signed_vbr_entry R.source.order (group_bits size) 64)
+        reader.old result reader.new }
+{
+    match size {
+        GroupSize::Four => reader.read_signed_vbr::<Bits<4>, i64>(),
+        GroupSize::Eight => reader.read_signed_vbr::<Bits<8>, i64>(),
+    }
+}
+
+/// Returns a number in a wider type.
+fn widened(value: i64) -> i128
+    ensures { result ≡ value }
+{
+    value as i128
 }
 
 /// Returns the reason for an error of a reader.
@@ -91,6 +149,7 @@ fn read_reason(error: Error) -> Reason
     match error {
         Error::EndOfInput => Reason::BitsEnded,
         Error::OutOfMemory => Reason::OutOfMemory,
+        Error::RunTooLong | Error::VariableWidthOverflow => Reason::LimitPassed,
         _ => Reason::StreamFault,
     }
 }

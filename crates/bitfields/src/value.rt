@@ -9,7 +9,7 @@ ghost use Rattle.bitfields.specs.Value.{lines as lines_of, values as values_of, 
 
 use crate::fault::{Fault, Reason};
 use crate::field::Field;
-use crate::field_value::{FieldValue, value_in};
+use crate::field_value::{FieldValue, ValueKind, value_in, value_kind};
 use crate::layout::Layout;
 use crate::lines::lines;
 use std::alloc::Global;
@@ -19,7 +19,7 @@ use std::alloc::Global;
 /// # Errors
 ///
 /// At the first value field with a fault: `ValueMissing` if its line is missing, `ValueMisspelt` if
-/// the line is no decimal, `ValueDoesNotFit` if the number is too great. Else `ValueLeftOver`
+/// the line spells no value of the field's kind, `ValueDoesNotFit` if the number needs more bits. Else `ValueLeftOver`
 /// (field 0) if lines remain, or `OutOfMemory` (field 0).
 pub fn values(alloc: Global, layout: &Layout, input: &[u8]) -> Result<Vec<FieldValue>, Fault>
     ensures values { IsUnlessMemory (values_of 1 layout.now (lines_of input.now))
@@ -65,9 +65,9 @@ fn push_value(values: &mut Vec<FieldValue>, value: Option<FieldValue>) -> Result
 pub fn value_count(field: Field) -> usize
     ensures { result ≡ value_count_of field }
 {
-    match field {
-        Field::Unsigned(_) => 1,
-        Field::Align => 0,
+    match value_kind(field) {
+        ValueKind::Absent => 0,
+        ValueKind::Unsigned(_) | ValueKind::Signed(_) => 1,
     }
 }
 

@@ -1,10 +1,27 @@
-use Rattle.bitfields.proofs.PackingLemmas.{number_first}
+use borrow.Author.Rules.{sfits_of}
+use Rattle.std.proofs.Common.{rules, SFits}
+use Rattle.std.specs.Int.{w128}
+use Rattle.std.proofs.lemmas.Int.{to_z-of_z}
 use Rattle.bitfields.proofs.packing.append_field.Goals as goal
 
 pub returns-in-Unsigned : goal.returns-in-Unsigned
-returns-in-Unsigned g c =
-    let p = number_first c.args.field c.in-Unsigned.width c.args.values.now c.in-Unsigned.is c.requires.fit in
-    rw (c.in-Unsigned.is, p.2) (rw p.2 at c.write_unsigned_var.ensures.writes)
+returns-in-Unsigned g c = rw c.in-Unsigned.is (rw c.first_unsigned.ensures.first at c.write_unsigned_var.ensures.writes)
+
+pub returns-in-Signed : goal.returns-in-Signed
+returns-in-Signed g c =
+    let fits : SFits w128 c.first_signed.result = search (rules, sfits_of) in
+    rw c.in-Signed.is (rw (to_z-of_z w128 c.first_signed.result fits, c.first_signed.ensures.first) at c.write_signed_var.ensures.writes)
+
+pub returns-in-Unary : goal.returns-in-Unary
+returns-in-Unary g c = rw c.in-Unary.is (rw c.first_unsigned-in-Unary.ensures.first at c.append_run.ensures)
+
+pub returns-in-Variable : goal.returns-in-Variable
+returns-in-Variable g c = rw c.in-Variable.is (rw c.first_unsigned-in-Variable.ensures.first at c.append_groups.ensures)
+
+pub returns-in-SignedVariable : goal.returns-in-SignedVariable
+returns-in-SignedVariable g c =
+    let fits : SFits w128 c.first_signed-in-SignedVariable.result = search (rules, sfits_of) in
+    rw c.in-SignedVariable.is (rw (to_z-of_z w128 c.first_signed-in-SignedVariable.result fits, c.first_signed-in-SignedVariable.ensures.first) at c.append_signed_groups.ensures)
 
 pub returns-in-Align : goal.returns-in-Align
 returns-in-Align g c = rw c.in-Align.is c.byte_align.ensures.writes

@@ -1,0 +1,13 @@
+use Rattle.std.proofs.Common.{rules, ◌≡◌, ◌++◌, ◌<◌, drop, map, length, arith, sym, subst, ap, ◌∙◌, ◌+◌, List, ℕ}
+use Rattle.bitfields.specs.Value.{value_count, value_list, values as values_of}
+use Rattle.bitfields.proofs.LayoutLemmas.{after}
+use Rattle.bitfields.proofs.ValueLemmas.{one_value}
+use Rattle.bitfields.proofs.value.read_values.Goals as goal
+
+pub loop-index-preserved : goal.loop-index-preserved
+loop-index-preserved c =
+    let i = c.loop-index.index in
+    let h : i < length c.args.fields.now = omega arith in
+    let pushed : c.push_value.new.values.items ≡ c.loop-index.values.items ++ value_list c.in-Ok.value = search rules in
+    let more = one_value c.args.fields.now i _ c.loop-index.values.items _ c.in-Ok.value h c.loop-index.invariant (sym c.in-Ok.ensures.value) in
+    rw pushed (search (rules, more))
