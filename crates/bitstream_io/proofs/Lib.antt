@@ -23,6 +23,7 @@ pub use Rattle.bitstream_stream.proofs.WriteLemmas
 pub use Rattle.bitstream_stream.proofs.WriteParts
 pub use Rattle.bitstream_stream.proofs.WriterLemmas
 pub use Rattle.bitstream_value.proofs.BackLemmas
+pub use Rattle.bitstream_value.proofs.OwnLemmas
 pub use Rattle.bitstream_value.proofs.ReadSteps
 pub use Rattle.bitstream_value.proofs.SureLemmas
 pub use Rattle.bitstream_value.proofs.WriteSteps

@@ -93,6 +93,12 @@ pub mod bytes {
     pub use bitstream_stream::byte_reader::ByteReader;
     pub use bitstream_stream::byte_write::ByteWrite;
     pub use bitstream_stream::byte_writer::ByteWriter;
+    pub use bitstream_value::byte_build::{ToByteStream, ToByteStreamUsing, ToByteStreamWith};
+    pub use bitstream_value::byte_parse::{
+        FromByteStream, FromByteStreamUsing, FromByteStreamWith,
+    };
+    pub use bitstream_value::byte_read::ByteReadExt;
+    pub use bitstream_value::byte_write::ByteWriteExt;
 }
 
 /// Laws of the definitions: one function each, whose contract is the law.
@@ -122,12 +128,16 @@ pub mod laws {
     };
     pub use bitstream_value::laws::{
         bits_are_those_appended, bits_using_a_context_are_those_appended,
-        bits_with_a_context_are_those_appended, limited_runs_are_paths, paths_are_read,
-        symbols_have_words,
+        bits_with_a_context_are_those_appended, bytes_are_those_appended,
+        bytes_using_a_context_are_those_appended, bytes_with_a_context_are_those_appended,
+        limited_runs_are_paths, paths_are_read, symbols_have_words,
     };
 }
 
-pub use bytes::{ByteRead, ByteReader, ByteWrite, ByteWriter};
+pub use bytes::{
+    ByteRead, ByteReadExt, ByteReader, ByteWrite, ByteWriteExt, ByteWriter, FromByteStream,
+    FromByteStreamUsing, FromByteStreamWith, ToByteStream, ToByteStreamUsing, ToByteStreamWith,
+};
 pub use compat::{BitRead2, BitWrite2};
 pub use count::{
     BitCount, Checkable, CheckablePrimitive, Checked, CheckedError, CheckedSigned,
