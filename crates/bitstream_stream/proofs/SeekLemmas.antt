@@ -16,12 +16,15 @@ use Rattle.bitstream_count.specs.Entry.{ReadEntry, TooFew, Takes}
 use Rattle.bitstream_number.specs.Word.{Order, bits, word, number}
 use Rattle.bitstream_number.proofs.WordLemmas.{length-word, length-bits}
 use Rattle.bitstream_order.specs.Port.{PortState, Placed}
-use Rattle.bitstream_order.specs.Refusal.{Refusal}
+use Rattle.bitstream_order.specs.Refusal.{Refusal, MayRefuseSeek}
+use Rattle.bitstream_order.specs.Slice.{slice_bytes, slice_place, slice_remaining, slice_refuses_seek}
+use Rattle.bitstream_order.proofs.SliceLemmas.{IsNear, slice_in_range, slice_rest}
 use Rattle.bitstream_stream.specs.Place.{bit_meant, place_of}
 use Rattle.bitstream_stream.specs.Reader.{reader_state}
 use Rattle.bitstream_stream.specs.ReadTable.{unsigned_entry}
 use Rattle.bitstream_stream.specs.Reads.{ReaderState, Reads, ReadOutcome, ReadDone, ReadRefused, failed_reader}
-use Rattle.bitstream_stream.specs.Seek.{SeekerOf, Tells, CountsFrom, Means, Lands, RequestRefused, SkipRefused, GoesTo, OnlyAsked, Begins, SeeksBits, AsksPlace, IsFromHere}
+use Rattle.bitstream_order.specs.declared.slice.Slice.{Slice}
+use Rattle.bitstream_stream.specs.Seek.{IsByteSeek, MaySeek, SeekerOf, Tells, CountsFrom, Means, Lands, RequestRefused, SkipRefused, GoesTo, OnlyAsked, Begins, SeeksBits, AsksPlace, IsFromHere}
 use Rattle.bitstream_stream.proofs.ReadsLemmas.{Consumes-known, parts_left, ok_front}
 use Rattle.bitstream_stream.proofs.TableLemmas.{unsigned-takes}
 
@@ -255,3 +258,19 @@ start_place x below = ap (λ b. if b then Some x else None) (lt-ltb x (2 ^ 64) b
 
 pub goes_there : {R : Type 0} {K : SeekerOf R} {place : ℕ} {old new : R} {r : Result ℕ Error} → place < 2 ^ 64 → GoesTo K place old r new → SeeksBits K (Start place) old r new
 goes_there {place = place} below goes = SeeksBits.was_meant place (λ h. absurd h) (record { at = 0; counts = tt; meant = start_place place below }) goes
+
+-- ---- bytes in memory
+
+near_place : (to : SeekFrom) → IsByteSeek to → IsNear to
+near_place (Start n) near = omega (arith, near)
+near_place (End d) near = near
+near_place (Current d) near = near
+
+pub slice_refuses_none : (refusal : Refusal) → MaySeek (MayRefuseSeek slice_remaining slice_refuses_seek) refusal → ⊥
+slice_refuses_none refusal (to, near, may) = may.refused.1 (slice_in_range may.old to (near_place to near))
+
+pub slice_tells : (s : Slice) (at : ℕ) (xs : List ℕ) → Some (slice_place s) ≡ Some at → Some (slice_bytes s) ≡ Some xs → slice_remaining s ≡ Some (drop at xs)
+slice_tells s at xs position bytes =
+    let same_place : slice_place s ≡ at = cc in
+    let same_bytes : slice_bytes s ≡ xs = cc in
+    slice_rest s ∙ ap₂ (λ n l. Some (drop n l)) same_place same_bytes

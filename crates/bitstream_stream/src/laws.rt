@@ -6,9 +6,11 @@ ghost use Rattle.std.specs.Prelude.{◌≡◌, ℕ, ◌+◌, ◌*◌, ◌^◌, �
 ghost use Rattle.bitstream_number.specs.Word.{Order, High, Low, bits as bits_of, bytes as bytes_in};
 ghost use Rattle.bitstream_count.specs.Entry.{ReadEntry, chain, gives};
 ghost use Rattle.bitstream_count.specs.declared.error.Error.{Error};
-ghost use Rattle.bitstream_order.specs.Refusal.{TrueEnds};
+ghost use Rattle.bitstream_order.specs.Refusal.{Refusal, TrueEnds, MayRefuseSeek};
+ghost use Rattle.bitstream_order.specs.Slice.{slice_bytes, slice_place, slice_remaining, slice_refuses_seek};
 ghost use Rattle.bitstream_stream.specs.Reads.{Reads, sure_answer};
 ghost use Rattle.bitstream_stream.specs.ReadTable.{unsigned_entry, bytes_entry, align_entry};
+ghost use Rattle.bitstream_stream.specs.Seek.{reader_seeker, MaySeek, TellsRest};
 ghost use Rattle.bitstream_stream.specs.Ways.{aligned_reader};
 ghost use Rattle.bitstream_stream.specs.WriteTable.{unsigned, buffer};
 
@@ -61,4 +63,16 @@ pub fn ends_are_known<R: BitRead, A>()
 /// A [`Slice`] refuses only at a true end.
 pub fn slices_end<E: Endianness>()
     ensures { TrueEnds ⟦<BitReader<Slice<'static>, E> as BitRead>⟧.source.may }
+{}
+
+/// Wherever a [`Slice`] stands, its bytes left are those behind its place.
+pub fn slices_tell_their_rest<E: Endianness>()
+    ensures { TellsRest (reader_seeker ⟦<BitReader<Slice<'static>, E> as BitRead>⟧.source
+        (λ slice. Some (slice_place slice)) (λ slice. Some (slice_bytes slice))
+        (MayRefuseSeek slice_remaining slice_refuses_seek)) }
+{}
+
+/// A [`Slice`] refuses none of the seeks that a seek of a reader makes.
+pub fn slices_refuse_no_seek()
+    ensures { (refusal : Refusal) → MaySeek (MayRefuseSeek slice_remaining slice_refuses_seek) refusal → ⊥ }
 {}
