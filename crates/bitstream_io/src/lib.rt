@@ -124,7 +124,8 @@ pub mod laws {
     };
     pub use bitstream_sink::recorder::laws::{recorders_lack_memory, recordings_grow};
     pub use bitstream_stream::laws::{
-        bytes_are_numbers, dropped_queues_are_alignments, ends_are_known, slices_end, words_join,
+        bytes_are_numbers, dropped_queues_are_alignments, ends_are_known, slices_end,
+        slices_refuse_no_seek, slices_tell_their_rest, words_join,
     };
     pub use bitstream_value::laws::{
         bits_are_those_appended, bits_using_a_context_are_those_appended,
