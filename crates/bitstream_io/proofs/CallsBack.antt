@@ -266,7 +266,8 @@ module _ {B : Type 0} (es : List WriteEntry) (b : B) where
         (next-back (bytes_entry o (length bytes)) (buffer o bytes) bytes f (bytes-read o bytes fit) behind)
 
     pub vbr-back : (field size v : ℕ) (f : ℕ → ReadEntry B) → nat_le 2 field ≡ true → nat_le 1 size ≡ true
-        → v < 2 ^ size → GoesBack (f v) es b → GoesBack (chain (vbr_entry o field size (2 ^ size)) f) (vbr o field v ∷ es) b
+        → v < 2 ^ size → GoesBack (f v) es b
+        → GoesBack (chain (vbr_entry o field size (2 ^ size)) f) (vbr o field v ∷ es) b
     vbr-back field size v f groups bits fits behind =
         let wide : 2 ≤ field = grind (arith, nat_tests) in
         let some : 0 < size = grind (arith, nat_tests) in
@@ -304,4 +305,16 @@ module _ {B : Type 0} (es : List WriteEntry) (b : B) where
         (option-read after o size n v within (inl fits))) behind
 
 -- the set of all of these
-pub ruleset calls_go_back = (goes_back, unary-back, truth-back, skip-back, const-back, count-back, bytes-back, vbr-back, signed_vbr-back, non_zero-back, option-back)
+pub ruleset calls_go_back = (
+  goes_back,
+  unary-back,
+  truth-back,
+  skip-back,
+  const-back,
+  count-back,
+  bytes-back,
+  vbr-back,
+  signed_vbr-back,
+  non_zero-back,
+  option-back,
+)

@@ -21,6 +21,7 @@ use Rattle.bitstream_count.specs.declared.checked_error.CheckedError.TheVariants
 use Rattle.bitstream_count.proofs.UnaryLemmas.{read_unary-unary}
 use Rattle.bitstream_count.proofs.VbrLemmas.{vbr_word_accepted, read_vbr-IsAccepted, zig-lt}
 use Rattle.bitstream_order.specs.Fault.{read_refusal_of}
+use Rattle.bitstream_order.specs.Refusal.{TrueEnds}
 use Rattle.bitstream_stream.specs.Alignment.{to_boundary}
 use Rattle.bitstream_stream.specs.Reads.{BitSource}
 use Rattle.bitstream_stream.specs.ReadTable.{first_bit, bit_entry, unsigned_entry, signed_entry, unary_entry, vbr_entry, signed_vbr_entry, bytes_entry, skip_entry, align_entry}
@@ -29,9 +30,10 @@ use Rattle.bitstream_stream.specs.WriteTable.{unsigned, signed, fits_signed}
 use Rattle.bitstream_stream.proofs.EntryLemmas.{word_front-some, chain-ok}
 use Rattle.bitstream_value.proofs.BackLemmas.{signed-word}
 use Rattle.bitstream_value.proofs.SureLemmas.{unsigned-word}
+use Rattle.bitstream_io.proofs.ReadScriptLemmas.{free_call}
 use Rattle.bitstream_io.specs.ReadBack.{IsCall, accepted_calls, matching_read, matching_reads, value_in, answer_of, answers_of, StandsBefore, ReadsBack}
 use Rattle.bitstream_io.specs.ReadBack as back
-use Rattle.bitstream_io.specs.ReadScript.{answered, read_entry, asks_memory, read_entries, run_answers, place_behind, failed_answers, ReadsRun}
+use Rattle.bitstream_io.specs.ReadScript.{answered, read_entry, asks_memory, read_entries, run_answers, place_behind, failed_answers, ReadsRun, AsksNoMemory}
 use Rattle.bitstream_io.specs.ReadScript as lists
 use Rattle.bitstream_io.specs.Script.{write_entry, write_entries}
 use Rattle.bitstream_io.specs.declared.script.answers.Answer.{Answer}
@@ -297,6 +299,10 @@ tails x y xs ys h = cc
 sizes : (calls : List WriteCall) (reads : List ReadCall) → matching_reads calls ≡ reads → length calls ≡ length reads
 sizes calls reads h = sym (length-map calls matching_read) ∙ ap length h
 
+nothing : (before : List WriteCall) (call : WriteCall) (behind : List WriteCall) → [] ≡ before ++ call ∷ behind → ⊥
+nothing [] call behind h = cc
+nothing (b ∷ before) call behind h = cc
+
 none_left : (others : List Step) (call : WriteCall) (calls : List WriteCall) → others ≡ []
     → run_answers others ≡ answers_of (call ∷ calls) → ⊥
 none_left [] call calls is h = cc
@@ -418,3 +424,29 @@ module _ {R : Type 0} (K : BitSource R) (written : List WriteCall) (len : ℕ) (
       (run s.bytes s.known)) in
       back_from_run K kept words all old answers new (read_run (read_entries o (matching_reads kept)) p all) refl
       (answers_back o s.more written len p typed s.place) (place_back o s.more written len p typed s.place) is
+
+-- a call that may ask for memory is not one of those that ask for none
+asks_none : (before : List WriteCall) (call : WriteCall) (behind calls : List WriteCall)
+    → calls ≡ before ++ call ∷ behind → AsksNoMemory (matching_reads calls)
+    → asks_memory (matching_read call) ≡ true → ⊥
+asks_none before call behind [] is free asks = nothing before call behind is
+asks_none [] call behind (c ∷ calls) is free asks =
+    let same : c ≡ call = heads _ _ _ _ is in
+    let none = (free_call (matching_read c) (matching_reads calls) free).0 in
+    let some : asks_memory (matching_read c) ≡ true = ap (λ x. asks_memory (matching_read x)) same ∙ asks in
+    cc
+asks_none (b ∷ before) call behind (c ∷ calls) is free asks =
+    let others = (free_call (matching_read c) (matching_reads calls) free).1 in
+    asks_none before call behind calls (tails _ _ _ _ is) others asks
+
+module _ {R : Type 0} (K : BitSource R) (kept : List WriteCall) (words : List Bool) (old : R) (answers : Places)
+    (new : R) where
+  -- a request that is refused at true ends alone is not refused here
+  pub sure_back : TrueEnds K.may → AsksNoMemory (matching_reads kept) → (K.state old).failed ≡ false
+      → ReadsBack K kept words old answers new → answers ≡ answers_of kept
+  sure_back ends free fine (back.had_failed f same state) = cc
+  sure_back ends free fine (back.was_done f g same taken) = same
+  sure_back ends free fine (back.was_refused before call behind x f g parts may more ended same) =
+      absurd (ended (ends x may))
+  sure_back ends free fine (back.memory_refused before call behind f g parts asks more same) =
+      absurd (asks_none before call behind kept parts free asks)

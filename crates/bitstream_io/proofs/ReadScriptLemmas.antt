@@ -44,6 +44,11 @@ failed_or_not : (b : Bool) → (b ≡ true) ⊎ (b ≡ false)
 failed_or_not true = inl refl
 failed_or_not false = inr refl
 
+-- a call of those that ask for no memory
+pub free_call : (call : ReadCall) (calls : List ReadCall) → AsksNoMemory (call ∷ calls) → (asks_memory call ≡ false) × AsksNoMemory calls
+free_call (Bytes n) calls h = absurd h
+free_call _ calls h = (refl, h)
+
 -- ---- one call
 
 module _ {R A : Type 0} {K : BitSource R} {grows : Bool} (make : A → Answer) {e : ReadEntry A} {s t : R} where
@@ -239,10 +244,6 @@ module _ {R : Type 0} (K : BitSource R) where
         ap₂ (λ (x : Result Answer Error) (l : List (Option (Result Answer Error))). Some x ∷ l) (h.answer ∙ ap (λ k. Err (read_refusal_of k)) end.kind) z.0
         ∙ ap (sure_answers o (call ∷ calls)) (sym (front-few ((read_entry o call).reads p b) p (λ n. read_run (read_entries o calls) (p + n) (drop n b)) (h.ended end xs known)))
     one_sure call calls old mid new answer places xs fine known free (memory_refused g h) others ih = cc
-
-    free_call : (call : ReadCall) (calls : List ReadCall) → AsksNoMemory (call ∷ calls) → (asks_memory call ≡ false) × AsksNoMemory calls
-    free_call (Bytes n) calls h = absurd h
-    free_call _ calls h = (refl, h)
 
     pub sure_of : (calls : List ReadCall) (old : R) (places : List (Option (Result Answer Error))) (new : R) → ReadsEach K calls old places new → (xs : List ℕ) → (K.state old).failed ≡ false → (K.state old).bytes ≡ Some xs → AsksNoMemory calls
         → places ≡ sure_answers K.order calls (read_run (read_entries K.order calls) (K.state old).taken ((K.state old).queue ++ bits K.order xs))

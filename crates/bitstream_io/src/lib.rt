@@ -106,8 +106,8 @@ pub mod laws {
     pub use crate::script::laws::{
         appending_composes, calls_have_values_of_their_types, lists_of_reads_are_known,
         played_calls_are_direct_calls, words_have_one_length, write_runs_join,
-        written_calls_are_read, written_parts_are_read, written_values_are_read,
-        written_words_are_read,
+        written_calls_are_read, written_calls_come_back, written_parts_are_read,
+        written_values_are_read, written_words_are_read,
     };
     pub use bitstream_count::laws::{
         counts_go_back, counts_hash_as_their_numbers, equal_counts_are_equal_numbers,

@@ -16,7 +16,7 @@ ghost use Rattle.bitstream_value.specs.LimitedUnary.{limited_unary, limited_tree
 ghost use Rattle.bitstream_value.specs.NonZero.{non_zero_entry, non_zero, non_zero_vbr_entry, if_any, option_entry, option_vbr_entry};
 ghost use Rattle.bitstream_value.specs.Tree.{Tree, first_path, path_entry, bit_by_bit};
 ghost use Rattle.bitstream_io.specs.Script.{write_entry, write_entries, word_size, AlignsNowhere};
-ghost use Rattle.bitstream_io.specs.ReadBack.{IsReadAs, IsCall, accepted_calls, matching_reads, value_in, answers_of};
+ghost use Rattle.bitstream_io.specs.ReadBack.{IsReadAs, IsCall, accepted_calls, matching_reads, value_in, answers_of, StandsBefore};
 ghost use Rattle.bitstream_io.specs.ReadScript.{read_entries, ReadsEach, run_answers, place_behind, sure_answers, AsksNoMemory};
 ghost use Rattle.bitstream_io.specs.declared.script.answers.Answer.{Answer};
 ghost use Rattle.bitstream_io.specs.declared.script.read_call.ReadCall.{ReadCall};
@@ -89,6 +89,18 @@ pub fn written_calls_are_read()
         → let words = write_run (write_entries None o calls) len in
         place_behind p (read_run (read_entries o (matching_reads (accepted_calls o calls len))) p
         (words ++ more)) ≡ p + length words }
+{}
+
+/// Over a stream that refuses only where its bytes end, as a `Slice` does, matching reads that ask
+/// for no memory answer each value that was written, if the bits left begin with its call's words.
+pub fn written_calls_come_back<R: BitRead>()
+    ensures { (written : List WriteCall) (len : ℕ) (old new : R)
+        (answers : List (Option (Result Answer Error)))
+        → let kept = accepted_calls R.source.order written len in
+        TrueEnds R.source.may → AsksNoMemory (matching_reads kept) → All IsCall written
+        → (R.source.state old).failed ≡ false → StandsBefore R.source written len old
+        → ReadsEach R.source (matching_reads kept) old answers new
+        → answers ≡ answers_of kept }
 {}
 
 /// What a call writes, the read of the same name and width reads back, wherever both stand and
