@@ -9,7 +9,7 @@ use Rattle.std.proofs.lemmas.Grind.{common_steps}
 use Rattle.std.proofs.lemmas.Bool.{cases_lt, lt-ltb, le-ltb, ltb-true, leb-true, le-leb, eqb-true, ne_eqb}
 use Rattle.std.proofs.lemmas.Str.{digit_value_digit}
 use Rattle.std.proofs.lemmas.Int.Digits.{digits_value_more}
-use Rattle.bitfields.specs.Decimal.{is_decimal, decimal_value, decimal_below, decimal_within, positive, negative, signed_after, signed_within}
+use Rattle.bitfields.specs.Decimal.{is_decimal, decimal_value, decimal_below, decimal_within, positive, negative, signed_within}
 use Rattle.bitfields.specs.declared.fault.Reason.{Reason}
 use Rattle.bitfields.specs.declared.fault.Reason.TheVariants.{ValueMisspelt, ValueDoesNotFit}
 use Rattle.std.proofs.lemmas.List.{get_or_append_left}

@@ -18,7 +18,7 @@ use Rattle.bitstream_io.specs.Error.{Error}
 use Rattle.bitstream_io.specs.Error.TheVariants as errors
 use Rattle.bitstream_io.specs.Entry.{ReadEntry, WriteEntry, TooFew, Takes, chain, gives, word_front}
 use Rattle.bitstream_io.specs.Alignment.{to_boundary}
-use Rattle.bitstream_io.specs.ReadTable.{unsigned_entry, signed_entry, unary_entry, vbr_entry, signed_vbr_entry, align_entry}
+use Rattle.bitstream_io.specs.ReadTable.{unsigned_entry, signed_entry, unary_entry, vbr_entry, signed_vbr_entry, skip_entry, align_entry}
 use Rattle.bitstream_io.specs.Run.{accepted, write_run, write_refusals}
 use Rattle.bitstream_io.specs.WriteTable.{align}
 use Rattle.bitstream_io.proofs.EntryLemmas.{map_takes, chain-ok, chain-none, word_front-some, word_front-none}
@@ -26,7 +26,7 @@ use Rattle.bitstream_io.proofs.TableLemmas.{unsigned-takes}
 use Rattle.bitstream_io.proofs.WriteLemmas.{unsigned-fits, signed-accepts}
 use Rattle.bitfields.specs.declared.fault.Reason.TheVariants.{BitsEnded}
 use Rattle.bitfields.specs.declared.field.Field.{Field}
-use Rattle.bitfields.specs.declared.field.Field.TheVariants.{Unsigned, Signed, Unary, Variable, SignedVariable, Align}
+use Rattle.bitfields.specs.declared.field.Field.TheVariants.{Unsigned, Signed, Unary, Variable, SignedVariable, Padding, Align}
 use Rattle.bitfields.specs.declared.field.GroupSize.{GroupSize}
 use Rattle.bitfields.specs.declared.field.GroupSize.TheVariants.{Four, Eight}
 use Rattle.bitfields.specs.declared.field_value.FieldValue.{FieldValue}
@@ -34,7 +34,7 @@ use Rattle.bitfields.specs.declared.field_value.FieldValue.TheVariants as Value
 use Rattle.bitfields.specs.declared.field_value.ValueKind.TheVariants as Kind
 use Rattle.bitfields.specs.Fault.{fault}
 use Rattle.bitfields.specs.Layout.{IsField, group_bits}
-use Rattle.bitfields.specs.Packing.{field_write, field_writes, packed}
+use Rattle.bitfields.specs.Packing.{field_word, field_write, field_writes, packed}
 use Rattle.bitfields.specs.Unpacking.{Unpacked, Unpacks, Stops, field_read, read_reason, unpacked, values_and}
 use Rattle.bitfields.specs.Value.{value_count, value_list, first_unsigned, first_signed, Fit, FitsField, FitsKind}
 
@@ -128,6 +128,11 @@ unary-answers : (stop : Bool) (v p : ℕ) (more : List Bool) → v < 2 ^ 32 → 
 unfolding unary_entry
 unary-answers stop v p more h = read_unary-unary stop v more h
 
+skip-answers : (n p : ℕ) (more : List Bool) → (skip_entry n).reads p (replicate n false ++ more) ≡ Takes (length (replicate n false)) (Ok tt)
+unfolding skip_entry
+skip-answers n p more =
+    word_front-some n (λ _. Ok tt) (replicate n false) more (length-replicate n false) ∙ ap (λ (m : ℕ). Takes m (Ok tt)) (sym (length-replicate n false))
+
 two_bits : (size : GroupSize) → 2 ≤ group_bits size
 two_bits Four = omega arith
 two_bits Eight = omega arith
@@ -165,6 +170,15 @@ trips o (SignedVariable size) vs at i h =
     let x = first_signed vs in
     let p = signed_first 64 vs h in
     trip o (SignedVariable size) vs at (signed_vbr_entry o (group_bits size) 64) Value.Signed x (vbr_word o (group_bits size) (zig x)) refl refl (λ more. signed_vbr-answers o (group_bits size) x at more (two_bits size) p.0) p.1
+trips o (Padding n) vs at i h =
+    let w = replicate n false in
+    record {
+      word = w;
+      value = None;
+      writes = refl;
+      reads = λ more. made (skip_entry n) (λ _. None) at (length w) (w ++ more) tt (skip-answers n at more);
+      first = refl;
+    }
 trips o Align vs at i h =
     let w = replicate (to_boundary at) false in
     let size : to_boundary at ≡ length w = sym (length-replicate (to_boundary at) false) in
@@ -232,6 +246,20 @@ write_run-append (e ∷ es) fs at =
 pub packed-first : (o : Order) (f : Field) (fields : List Field) (vs : List FieldValue) (at : ℕ) (w : List Bool) → field_write o f vs at ≡ Ok w
     → packed o (f ∷ fields) vs at ≡ w ++ packed o fields (drop (value_count f) vs) (at + length w)
 packed-first o f fields vs at w e = run-more (field_write o f vs) (field_writes o fields (drop (value_count f) vs) ++ align ∷ []) w at e
+
+-- a value that fits is accepted, and its word is written
+field_word-written : (o : Order) (f : Field) (vs : List FieldValue) (at : ℕ) → IsField f → FitsField f vs → field_write o f vs at ≡ Ok (field_word o f vs at)
+field_word-written o (Unsigned n) vs at i h = unsigned-fits o 128 n (first_unsigned vs) at i.1 (unsigned_first n vs h).0
+field_word-written o (Signed n) vs at i h = signed-accepts o 128 n (first_signed vs) at i.0 (i.1, (signed_first n vs h).0)
+field_word-written o (Unary stop) vs at i h = refl
+field_word-written o (Variable size) vs at i h = refl
+field_word-written o (SignedVariable size) vs at i h = refl
+field_word-written o (Padding n) vs at i h = refl
+field_word-written o Align vs at i h = refl
+
+pub packed-word : (o : Order) (f : Field) (fields : List Field) (vs : List FieldValue) (at : ℕ) → IsField f → FitsField f vs
+    → packed o (f ∷ fields) vs at ≡ field_word o f vs at ++ packed o fields (drop (value_count f) vs) (at + length (field_word o f vs at))
+packed-word o f fields vs at i h = packed-first o f fields vs at (field_word o f vs at) (field_word-written o f vs at i h)
 
 pub packed-number : (o : Order) (n v : ℕ) (fields : List Field) (vs : List FieldValue) (at : ℕ) → n ≤ 128 → v < 2 ^ n
     → packed o (Unsigned n ∷ fields) (Value.Unsigned v ∷ vs) at ≡ word o n v ++ packed o fields vs (at + n)

@@ -39,10 +39,12 @@ negative (Ok zero) = Err ValueMisspelt
 negative (Ok (suc n)) = Ok (negsuc n)
 negative (Err why) = Err why
 
--- the signed number of n bits of a text's first character and of what follows it: `-` and a decimal other than 0, or a decimal
+-- the signed number of n bits that a text's first character and what follows it spell: `-` and a decimal other than
+-- `0`, or a decimal
 abbrev pub signed_after : ℕ → ℕ → List ℕ → Result ℤ Reason
 signed_after n first rest =
-    if first == 45 then negative (decimal_below (2 ^ (n - 1) + 1) rest) else positive (decimal_below (2 ^ (n - 1)) (first ∷ rest))
+    if first == 45 then negative (decimal_below (2 ^ (n - 1) + 1) rest)
+    else positive (decimal_below (2 ^ (n - 1)) (first ∷ rest))
 
 -- the signed number of n bits that a text spells, or the reason why it spells none
 abbrev pub signed_within : ℕ → List ℕ → Result ℤ Reason

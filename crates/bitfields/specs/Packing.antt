@@ -1,7 +1,10 @@
 -- Packing: the words of fields, and a last alignment.
-use Rattle.std.specs.Prelude.{◌≡◌, ◌⊎◌, ◌≤◌, Result, Ok, Err, ℕ, Bool, List, [], ◌∷◌, ◌++◌, length, drop, Option}
+use Rattle.std.specs.Prelude.{◌≡◌, ◌⊎◌, ◌≤◌, Result, Ok, Err, ℕ, Bool, false, replicate, List, [], ◌∷◌, ◌++◌, length, drop, Option}
 use Rattle.std.specs.Io.KnownBytes.{Appends}
-use Rattle.bitstream_io.specs.Word.{Order, bits}
+use Rattle.bitstream_io.specs.Alignment.{to_boundary}
+use Rattle.bitstream_io.specs.Unary.{unary}
+use Rattle.bitstream_io.specs.Vbr.{vbr_word}
+use Rattle.bitstream_io.specs.Word.{Order, bits, word, signed_word, zig}
 use Rattle.bitstream_io.specs.Error.{Error}
 use Rattle.bitstream_io.specs.Error.TheVariants as errors
 use Rattle.bitstream_io.specs.Entry.{WriteEntry}
@@ -9,12 +12,12 @@ use Rattle.bitstream_io.specs.Fault.{refusal_of}
 use Rattle.bitstream_io.specs.Refusal.{Refusal}
 use Rattle.bitstream_io.specs.Run.{write_run}
 use Rattle.bitstream_io.specs.Sink.{Sink, Appended, WriteRefused}
-use Rattle.bitstream_io.specs.WriteTable.{unsigned, signed, unary_word, vbr, signed_vbr, align}
+use Rattle.bitstream_io.specs.WriteTable.{unsigned, signed, unary_word, vbr, signed_vbr, zeros, align}
 use Rattle.bitfields.specs.declared.fault.Reason.{Reason}
 use Rattle.bitfields.specs.declared.fault.Reason.TheVariants.{OutOfMemory, StreamFault}
 use Rattle.bitfields.specs.declared.fault.Fault.{Fault}
 use Rattle.bitfields.specs.declared.field.Field.{Field}
-use Rattle.bitfields.specs.declared.field.Field.TheVariants.{Unsigned, Signed, Unary, Variable, SignedVariable, Align}
+use Rattle.bitfields.specs.declared.field.Field.TheVariants.{Unsigned, Signed, Unary, Variable, SignedVariable, Padding, Align}
 use Rattle.bitfields.specs.declared.field_value.FieldValue.{FieldValue}
 use Rattle.bitfields.specs.Fault.{fault}
 use Rattle.bitfields.specs.Layout.{group_bits}
@@ -27,7 +30,18 @@ field_write o (Signed n) vs = signed o 128 n (first_signed vs)
 field_write o (Unary stop) vs = unary_word stop (first_unsigned vs)
 field_write o (Variable size) vs = vbr o (group_bits size) (first_unsigned vs)
 field_write o (SignedVariable size) vs = signed_vbr o (group_bits size) (first_signed vs)
+field_write o (Padding n) vs = zeros n
 field_write o Align vs = align
+
+-- the word of a field whose value is the first of these, behind this many bits
+abbrev pub field_word : Order → Field → List FieldValue → ℕ → List Bool
+field_word o (Unsigned n) vs at = word o n (first_unsigned vs)
+field_word o (Signed n) vs at = signed_word o n (first_signed vs)
+field_word o (Unary stop) vs at = unary stop (first_unsigned vs)
+field_word o (Variable size) vs at = vbr_word o (group_bits size) (first_unsigned vs)
+field_word o (SignedVariable size) vs at = vbr_word o (group_bits size) (zig (first_signed vs))
+field_word o (Padding n) vs at = replicate n false
+field_word o Align vs at = replicate (to_boundary at) false
 
 -- the write calls of fields with these values
 abbrev pub field_writes : Order → List Field → List FieldValue → List WriteEntry

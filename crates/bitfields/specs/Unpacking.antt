@@ -5,7 +5,7 @@ use Rattle.bitstream_io.specs.Word.{Order, bits}
 use Rattle.bitstream_io.specs.Error.{Error}
 use Rattle.bitstream_io.specs.Error.TheVariants as errors
 use Rattle.bitstream_io.specs.Entry.{ReadEntry, chain, gives}
-use Rattle.bitstream_io.specs.ReadTable.{unsigned_entry, signed_entry, unary_entry, vbr_entry, signed_vbr_entry, align_entry}
+use Rattle.bitstream_io.specs.ReadTable.{unsigned_entry, signed_entry, unary_entry, vbr_entry, signed_vbr_entry, skip_entry, align_entry}
 use Rattle.bitstream_io.specs.Run.{read_run}
 use Rattle.bitstream_io.specs.Fault.{read_refusal_of}
 use Rattle.bitstream_io.specs.Refusal.{Refusal, IsTrueEnd}
@@ -14,7 +14,7 @@ use Rattle.bitfields.specs.declared.fault.Reason.{Reason}
 use Rattle.bitfields.specs.declared.fault.Reason.TheVariants.{BitsEnded, LimitPassed, StreamFault, OutOfMemory}
 use Rattle.bitfields.specs.declared.fault.Fault.{Fault}
 use Rattle.bitfields.specs.declared.field.Field.{Field}
-use Rattle.bitfields.specs.declared.field.Field.TheVariants.{Unsigned, Signed, Unary, Variable, SignedVariable, Align}
+use Rattle.bitfields.specs.declared.field.Field.TheVariants.{Unsigned, Signed, Unary, Variable, SignedVariable, Padding, Align}
 use Rattle.bitfields.specs.declared.field_value.FieldValue.{FieldValue}
 use Rattle.bitfields.specs.declared.field_value.FieldValue.TheVariants as Value
 use Rattle.bitfields.specs.Fault.{fault}
@@ -46,6 +46,7 @@ field_read o (Signed n) = chain (signed_entry o 128 n) (λ x. gives (Some (Value
 field_read o (Unary stop) = chain (unary_entry stop) (λ v. gives (Some (Value.Unsigned v)))
 field_read o (Variable size) = chain (vbr_entry o (group_bits size) 64 (2 ^ 64)) (λ v. gives (Some (Value.Unsigned v)))
 field_read o (SignedVariable size) = chain (signed_vbr_entry o (group_bits size) 64) (λ x. gives (Some (Value.Signed x)))
+field_read o (Padding n) = chain (skip_entry n) (λ _. gives None)
 field_read o Align = chain align_entry (λ _. gives None)
 
 -- what the answers of the fields' read calls come to; the fields are numbered from k on

@@ -1,6 +1,6 @@
 //! Laws of layouts and values, whatever parses or packs them.
 
-ghost use Rattle.std.specs.Prelude.{◌≡◌, ◌++◌, ◌+◌, ◌^◌, ◌<◌, ◌≤◌, ℕ, Bool, false, List, [], ◌∷◌, length, map, replicate, None, Ok};
+ghost use Rattle.std.specs.Prelude.{◌≡◌, ◌++◌, ◌+◌, ◌^◌, ◌<◌, ◌≤◌, ℕ, Bool, false, List, [], ◌∷◌, length, drop, map, replicate, None, Ok};
 ghost use Rattle.std.specs.List.{All};
 ghost use Rattle.bitstream_io.specs.Word.{Order, bits, word, number};
 ghost use Rattle.bitstream_io.specs.Alignment.{to_boundary};
@@ -8,9 +8,9 @@ ghost use Rattle.bitstream_io.specs.Run.{write_run, write_refusals, read_run};
 ghost use Rattle.bitstream_io.specs.WriteTable.{align};
 ghost use Rattle.bitfields.specs.Fault.{fault};
 ghost use Rattle.bitfields.specs.Layout.{layout_of, layout_text, IsField, IsLayout};
-ghost use Rattle.bitfields.specs.Packing.{packed, field_writes};
+ghost use Rattle.bitfields.specs.Packing.{packed, field_word, field_writes};
 ghost use Rattle.bitfields.specs.Unpacking.{unpacked, Unpacks, Stops, values_and, field_read, answered};
-ghost use Rattle.bitfields.specs.Value.{lines, values, printed_lines, ended_lines, Fit};
+ghost use Rattle.bitfields.specs.Value.{lines, values, printed_lines, ended_lines, value_count, Fit, FitsField};
 
 use crate::fault::Reason;
 use crate::field::Field;
@@ -67,9 +67,13 @@ pub fn unpacking_is_a_read_run()
         ≡ answered k fields at (read_run (map (field_read o) fields) at bits) }
 {}
 
-/// The packed bits are the words of the numbers, with zeros up to the next byte boundary if a field
-/// asks for it, and at the end.
+/// The packed bits are the words of the fields, one behind the other, with zeros up to the next byte
+/// boundary at the end.
 pub fn packing_goes_by_fields()
+    ensures word { (o : Order) (f : Field) (fields : List Field) (vs : List FieldValue) (at : ℕ)
+        → IsField f → FitsField f vs → (let written = field_word o f vs at in
+        packed o (f ∷ fields) vs at
+        ≡ written ++ packed o fields (drop (value_count f) vs) (at + length written)) }
     ensures number { (o : Order) (n v : ℕ) (fields : List Field) (vs : List FieldValue) (at : ℕ)
         → n ≤ 128 → v < 2 ^ n
         → packed o (Field.Unsigned n ∷ fields) (FieldValue.Unsigned v ∷ vs) at

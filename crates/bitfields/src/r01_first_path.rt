@@ -63,7 +63,7 @@ const ROWS: [Row; 16] = [
 /// Values of each kind, and the lines that spell them.
 const KINDS_OF_VALUES: &[u8] = b"5\n4\n8\n-3\n-8\n";
 
-const HEADLINE: [Row; 29] = [
+const HEADLINE: [Row; 33] = [
     Row(
         "pack be u3,a,n1,v4,s4,i4",
         KINDS_OF_VALUES,
@@ -147,6 +147,10 @@ const HEADLINE: [Row; 29] = [
     Row("unpack be v8", &[0xff; 11], b"", "1: limit passed", 4),
     Row("unpack be v8", &[0xff; 9], b"", "1: bits ended", 4),
     Row("unpack be u8,s4", &[0xff; 20], b"", "2: limit passed", 4),
+    Row("pack be u3,p9,u4", b"5\n9\n", &[0xa0, 0x09], "", 0),
+    Row("unpack le p3,u5,p130,u6", &[0xff; 18], b"31\n63\n", "", 0),
+    Row("unpack be u3,p9", b"\xa0", b"", "2: bits ended", 4),
+    Row("pack be p4097", b"", b"", "1: bad layout", 2),
     Row("pack be u0", b"", b"", "1: bad layout", 2),
     Row("pack be u129", b"", b"", "1: bad layout", 2),
     Row("pack be u01", b"", b"", "1: bad layout", 2),

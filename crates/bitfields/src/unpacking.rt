@@ -96,6 +96,10 @@ fn unpack_field<R: BitRead>(field: Field, reader: &mut R) -> Result<Option<Field
             let value = read_signed_groups(size, reader)?;
             Ok(Some(FieldValue::Signed(widened(value))))
         }
+        Field::Padding(bits) => {
+            reader.skip(bits)?;
+            Ok(None)
+        }
         Field::Align => {
             reader.byte_align();
             Ok(None)

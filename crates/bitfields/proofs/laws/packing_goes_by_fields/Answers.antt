@@ -1,6 +1,9 @@
 use Rattle.std.proofs.Common.{append-nil}
-use Rattle.bitfields.proofs.FieldCalls.{packed-number, packed-align}
+use Rattle.bitfields.proofs.FieldCalls.{packed-word, packed-number, packed-align}
 use Rattle.bitfields.proofs.laws.packing_goes_by_fields.Goals as goal
+
+pub returns-clause-word : goal.returns-clause-word
+returns-clause-word c = packed-word
 
 pub returns-clause-number : goal.returns-clause-number
 returns-clause-number c = packed-number

@@ -23,5 +23,8 @@ returns-in-SignedVariable g c =
     let fits : SFits w128 c.first_signed-in-SignedVariable.result = search (rules, sfits_of) in
     rw c.in-SignedVariable.is (rw (to_z-of_z w128 c.first_signed-in-SignedVariable.result fits, c.first_signed-in-SignedVariable.ensures.first) at c.append_signed_groups.ensures)
 
+pub returns-in-Padding : goal.returns-in-Padding
+returns-in-Padding g c = rw c.in-Padding.is c.pad.ensures.writes
+
 pub returns-in-Align : goal.returns-in-Align
 returns-in-Align g c = rw c.in-Align.is c.byte_align.ensures.writes

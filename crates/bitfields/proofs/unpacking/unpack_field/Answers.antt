@@ -54,6 +54,13 @@ returns-in_ok-value-in-SignedVariable g c =
     let same : to_z w128 (of_z w128 c.widened.result) ≡ value = to_z-of_z w128 c.widened.result wide ∙ c.widened.ensures ∙ to_z-of_z w64 value fits in
     rw (c.in-SignedVariable.is, same) (Reads-chain-ok _ (λ v. gives (Some (Value.Signed v))) c.in_ok-value-in-SignedVariable.ensures (Reads-gives _ _))
 
+pub returns-in_err-skip-in-Padding : goal.returns-in_err-skip-in-Padding
+returns-in_err-skip-in-Padding g c =
+    rw c.in-Padding.is (exit (λ _. gives None) c.from_residual-in_err-skip-in-Padding.result c.from_residual-in_err-skip-in-Padding.ensures.1 c.in_err-skip-in-Padding.ensures.reads)
+
+pub returns-in_ok-skip-in-Padding : goal.returns-in_ok-skip-in-Padding
+returns-in_ok-skip-in-Padding g c = rw c.in-Padding.is (Reads-chain-ok _ (λ _. gives None) c.in_ok-skip-in-Padding.ensures.reads (Reads-gives _ _))
+
 pub returns-in-Align : goal.returns-in-Align
 returns-in-Align g c =
     rw c.in-Align.is (Reads-chain-ok _ (λ _. gives None) c.byte_align.ensures.reads (Reads-gives _ _))

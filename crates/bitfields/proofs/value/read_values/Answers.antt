@@ -1,6 +1,5 @@
-use Rattle.std.proofs.Common.{rules, ◌≡◌, ◌++◌, ◌<◌, drop, map, length, arith, sym, subst, ap, ◌∙◌, ◌+◌, List, ℕ}
-use Rattle.bitfields.specs.Value.{value_count, value_list, values as values_of}
-use Rattle.bitfields.proofs.LayoutLemmas.{after}
+use Rattle.std.proofs.Common.{rules, ◌≡◌, ◌++◌, ◌<◌, length, arith, sym}
+use Rattle.bitfields.specs.Value.{value_list}
 use Rattle.bitfields.proofs.ValueLemmas.{one_value}
 use Rattle.bitfields.proofs.value.read_values.Goals as goal
 
