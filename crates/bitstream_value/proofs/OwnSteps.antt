@@ -17,6 +17,7 @@ use Rattle.bitstream_stream.proofs.ReadsLemmas.{Reads-chain-ok, Reads-chain-err,
 use Rattle.bitstream_stream.proofs.WriteParts.{all_none, all_err, all_more, one_of_all}
 use Rattle.bitstream_value.specs.Own.{OwnAnswer, ReadsOwn, WritesOwn, part_then}
 use Rattle.bitstream_stream.specs.WriteTable.{signed}
+use Rattle.bitstream_value.proofs.OwnLemmas.{is_error}
 use Rattle.bitstream_value.proofs.ReadSteps.{width_of}
 use Rattle.bitstream_value.proofs.WriteSteps.{signed_call, signed_value}
 
@@ -48,10 +49,6 @@ part_goes : {R A B E : Type 0} {K : BitSource R} {becomes : Error → E → Type
 part_goes {K = K} {e = e} f {s = s} {t = t} a (Ok x) h own k =
     record { plain = k.plain; called = Reads-chain-ok e (part_then f) (subst (λ y. Reads K e s (Ok y) t) (sym own) h) k.called; answer = k.answer }
 part_goes f a (Err x) h own k = absurd own
-
-is_error : {A E : Type 0} (r : Result A E) (x : E) → IsErrAnd r (λ y. y ≡ x) → r ≡ Err x
-is_error (Ok a) x h = absurd h
-is_error (Err y) x h = ap Err h
 
 module _ {R A B E : Type 0} {K : BitSource R} {becomes : Error → E → Type 0} {e : ReadEntry (Result A E)} (f : A → ReadEntry (Result B E)) {r : Result B E} {s t : R} {answer : Result A E} {flow : ControlFlow _ A} where
   pub then_part : {z : R} {a : A} → ReadsOwn K becomes e s answer t → answer ≡ result_from_control_flow flow → flow ≡ Continue a → ReadsOwn K becomes (f a) t r z → ReadsOwn K becomes (chain e (part_then f)) s r z
