@@ -1,6 +1,7 @@
 -- Calls for whole bytes, one after another, and their number.
-use Rattle.std.proofs.Common.{◌≡◌, ℕ, ◌+◌, ◌<◌, ◌≤◌, List, [], ◌∷◌, length, Some, Result, Ok, Err, refl, sym, ap, ◌∙◌, subst, inl, inr, arith}
-use Rattle.std.specs.Result.{IsErrAnd}
+use Rattle.std.proofs.Common.{Continue, Break, ◌≡◌, ℕ, ◌+◌, ◌<◌, ◌≤◌, List, [], ◌∷◌, length, Some, Result, Ok, Err, refl, sym, ap, ◌∙◌, subst, inl, inr, arith}
+use Rattle.std.specs.Result.{IsErrAnd, result_from_control_flow}
+use Rattle.std.specs.declared.ops.ControlFlow.{ControlFlow}
 use Rattle.bitstream_number.specs.Word.{Order, High}
 use Rattle.bitstream_count.specs.declared.error.Error.{Error}
 use Rattle.bitstream_count.specs.declared.error.Error.TheVariants.{CounterOverflow}
@@ -11,12 +12,36 @@ use Rattle.bitstream_stream.specs.ByteSink.{ByteSink, ByteWrites, past_limit, wa
 use Rattle.bitstream_value.specs.ByteTypes.{byte_counter_sink, ByteWritesAll, ByteWritesOwn, total_length, held_by, CountsBytes}
 use Rattle.bitstream_value.specs.Lengths.{in_place, number_of, IsNumberWithin}
 use Rattle.bitstream_value.specs.Own.{OwnAnswer, same_error}
+use Rattle.bitstream_value.proofs.OwnLemmas.{is_error}
 use Rattle.bitstream_value.proofs.LengthLemmas.{if-true, if-false, past, within, told}
 
 -- writes that have no error but the sink's
 pub plainly_written : {S : Type 0} (K : ByteSink S) (pieces : List (List ℕ)) (r : Result (Unit {0}) Error) (s t : S) → ByteWritesAll K pieces s r t → ByteWritesOwn K same_error pieces (Ok tt) s r t
 plainly_written K pieces (Ok v) s t h = record { plain = Ok v; called = h; answer = refl }
 plainly_written K pieces (Err x) s t h = record { plain = Err x; called = h; answer = refl }
+
+-- ---- writes one after another, as the proof of a caller goes through them: `search few_pieces`
+
+module _ {S : Type 0} (K : ByteSink S) (piece : List ℕ) (pieces : List (List ℕ)) (r : Result (Unit {0}) Error) (s t : S) (answer : Result (Unit {0}) Error) where
+  -- a call whose answer a `?` looked at, and what follows it
+  pub then_piece : (z : S) (flow : ControlFlow _ (Unit {0})) → ByteWrites K piece s answer t → answer ≡ result_from_control_flow flow → flow ≡ Continue tt → ByteWritesAll K pieces t r z → ByteWritesAll K (piece ∷ pieces) s r z
+  unfolding ByteWritesAll
+  then_piece z flow h p q k = inr (t, subst (λ x. ByteWrites K piece s x t) (p ∙ ap result_from_control_flow q) h, k)
+
+  -- one whose error it returned
+  pub end_piece : (flow : ControlFlow _ (Unit {0})) (x : _) → ByteWrites K piece s answer t → answer ≡ result_from_control_flow flow → flow ≡ Break x → IsErrAnd r (λ y. y ≡ x.0) → ByteWritesAll K (piece ∷ pieces) s r t
+  unfolding ByteWritesAll
+  end_piece flow x h p q k =
+      let is = is_error r x.0 k in
+      inl (rw is refl, subst (λ y. ByteWrites K piece s y t) (p ∙ ap result_from_control_flow q ∙ sym is) h)
+
+-- the last call
+pub last_piece : {S : Type 0} (K : ByteSink S) (piece : List ℕ) (r : Result (Unit {0}) Error) (s t : S) → ByteWrites K piece s r t → ByteWritesAll K (piece ∷ []) s r t
+unfolding ByteWritesAll
+last_piece K piece (Ok v) s t h = inr (t, h, (refl, refl))
+last_piece K piece (Err x) s t h = inl (refl, h)
+
+pub ruleset few_pieces = (then_piece, end_piece, last_piece)
 
 -- ---- a call on a counter is a sum
 

@@ -14,3 +14,4 @@ pub mod WriteSteps
 pub mod OwnLemmas
 pub mod LengthLemmas
 pub mod ByteTypeLemmas
+pub mod OwnSteps

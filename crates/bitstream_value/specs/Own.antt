@@ -1,5 +1,5 @@
 -- Calls whose errors are of a type of their own, into which the errors of a stream go.
-use Rattle.std.specs.Prelude.{◌≡◌, List, Result, Ok, Err}
+use Rattle.std.specs.Prelude.{if◌then◌else◌, Bool, ◌≡◌, List, Result, Ok, Err}
 use Rattle.std.specs.Result.{IsErrAnd}
 use Rattle.bitstream_count.specs.declared.error.Error.{Error}
 use Rattle.bitstream_count.specs.Entry.{ReadEntry, WriteEntry, chain, gives}
@@ -38,3 +38,7 @@ plain_reads entry = chain entry (λ value. gives (Ok value))
 abbrev pub part_then : {A B E : Type 0} → (A → ReadEntry (Result B E)) → Result A E → ReadEntry (Result B E)
 part_then f (Ok value) = f value
 part_then f (Err error) = gives (Err error)
+
+-- a read that must find a constant, which answers `err` if it does not
+abbrev pub must_hold : {E : Type 0} → ReadEntry Bool → E → ReadEntry (Result (Unit {0}) E)
+must_hold entry err = chain entry (λ same. gives (if same then Ok tt else Err err))
