@@ -6,8 +6,8 @@ use Rattle.std.proofs.Math.Nat.{mod-eq_of_lt}
 use Rattle.std.proofs.Math.Seq.{drop-append_seam}
 use Rattle.std.proofs.lemmas.Bool.{cases_lt, le-leb}
 use Rattle.std.proofs.lemmas.List.{length-replicate}
-use Rattle.bitstream_count.proofs.UnaryLemmas.{read_unary-unary}
-use Rattle.bitstream_count.proofs.VbrLemmas.{read_vbr-IsAccepted, vbr_word_accepted, zig-lt}
+use Rattle.bitstream_io.proofs.UnaryLemmas.{read_unary-unary}
+use Rattle.bitstream_io.proofs.VbrLemmas.{read_vbr-IsAccepted, vbr_word_accepted, zig-lt}
 use Rattle.bitstream_io.specs.Unary.{unary}
 use Rattle.bitstream_io.specs.Vbr.{vbr_word}
 use Rattle.bitstream_io.specs.Word.{Order, word, number, signed_word, signed_number, FitsSignedBits, zig, zag}

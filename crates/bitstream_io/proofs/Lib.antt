@@ -4,6 +4,8 @@ mod ReadBackLemmas
 mod ReadScriptLemmas
 mod Rows
 mod ScriptLemmas
+pub use Rattle.bitstream_count.proofs.UnaryLemmas
+pub use Rattle.bitstream_count.proofs.VbrLemmas
 pub use Rattle.bitstream_number.proofs.SignedLemmas
 pub use Rattle.bitstream_number.proofs.WordLemmas
 pub use Rattle.bitstream_order.proofs.FaultLemmas
@@ -24,6 +26,7 @@ pub use Rattle.bitstream_stream.proofs.WriteParts
 pub use Rattle.bitstream_stream.proofs.WriterLemmas
 pub use Rattle.bitstream_value.proofs.BackLemmas
 pub use Rattle.bitstream_value.proofs.OwnLemmas
+pub use Rattle.bitstream_value.proofs.OwnSteps
 pub use Rattle.bitstream_value.proofs.ReadSteps
 pub use Rattle.bitstream_value.proofs.SureLemmas
 pub use Rattle.bitstream_value.proofs.WriteSteps

@@ -18,7 +18,7 @@ growing_contents g = Some (growing_bytes g)
 abbrev pub growing_capacity : {A : Type 0} → Growing A → ℕ
 growing_capacity g = vec_capacity g.bytes
 
--- A request to write some bytes is refused only if the vector has no memory left for them, as want of memory, and writes
+-- A request to write some bytes is refused only if the vector has no memory left for them, as `OutOfMemory`, and writes
 -- nothing.
 pub record GrowthRefused {A : Type 0} (before : Growing A) (wanted : ℕ) (kind : ErrorKind) (after : Growing A) : Type 0 where
   pub memory : kind ≡ OutOfMemory
