@@ -40,41 +40,51 @@ use Rattle.bitfields.specs.Value.{value_count, value_list, first_unsigned, first
 
 -- ---- a field's read call
 
-pub unsigned-reads : (o : Order) (n p : ℕ) (b : List Bool) → n ≤ 128 → (field_read o (Unsigned n)).reads p b ≡ word_front n (λ w. Ok (Some (Value.Unsigned (number o w)))) b
+pub unsigned-reads : (o : Order) (n p : ℕ) (b : List Bool) → n ≤ 128 → (field_read o (Unsigned n)).reads p b
+    ≡ word_front n (λ w. Ok (Some (Value.Unsigned (number o w)))) b
 unsigned-reads o n p b i =
-    rw (unsigned-takes o 128 n i) ((map_takes n (number o) (λ v. Some (Value.Unsigned v)) (λ w. Ok (Some (Value.Unsigned (number o w)))) (λ w len. refl)).reads p b)
+    rw (unsigned-takes o 128 n i) ((map_takes n (number o) (λ v. Some (Value.Unsigned v))
+    (λ w. Ok (Some (Value.Unsigned (number o w)))) (λ w len. refl)).reads p b)
 
-pub align-reads : (o : Order) (p : ℕ) (b : List Bool) → (field_read o Align).reads p b ≡ word_front (to_boundary p) (λ _. Ok None) b
+pub align-reads : (o : Order) (p : ℕ) (b : List Bool) → (field_read o Align).reads p b
+    ≡ word_front (to_boundary p) (λ _. Ok None) b
 unfolding align_entry
 align-reads o p b = elim (cases_lt (length b) (to_boundary p)) [
-  | inl few ↦ chain-none align_entry (λ _. gives None) p b (word_front-none (to_boundary p) (λ _. Ok tt) b few) ∙ sym (word_front-none (to_boundary p) (λ _. Ok None) b few)
+  | inl few ↦ chain-none align_entry (λ _. gives None) p b (word_front-none (to_boundary p) (λ _. Ok tt) b few)
+      ∙ sym (word_front-none (to_boundary p) (λ _. Ok None) b few)
   | inr enough ↦
       let yes = le-leb (to_boundary p) (length b) enough in
       let first : align_entry.reads p b ≡ Takes (to_boundary p) (Ok tt) = rw yes refl in
-      let same : Takes (to_boundary p + 0) (Ok None) ≡ word_front (to_boundary p) (λ _. Ok None) b = rw (yes, add-zero) refl in
+      let same : Takes (to_boundary p + 0) (Ok None) ≡ word_front (to_boundary p) (λ _. Ok None) b =
+      rw (yes, add-zero) refl in
       chain-ok align_entry (λ _. gives None) p b (to_boundary p) tt first ∙ same
 ]
 
 -- ---- the first field of some, by its read call
 
-pub unpacked-takes : (o : Order) (k : ℕ) (f : Field) (fs : List Field) (at n : ℕ) (b : List Bool) (v : Option FieldValue) → (field_read o f).reads at b ≡ Takes n (Ok v)
+pub unpacked-takes : (o : Order) (k : ℕ) (f : Field) (fs : List Field) (at n : ℕ) (b : List Bool)
+    (v : Option FieldValue) → (field_read o f).reads at b ≡ Takes n (Ok v)
     → unpacked o k (f ∷ fs) at b ≡ values_and (value_list v) (unpacked o (k + 1) fs (at + n) (drop n b))
 unpacked-takes o k f fs at n b v e = rw e refl
 
-pub unpacked-refused : (o : Order) (k : ℕ) (f : Field) (fs : List Field) (at n : ℕ) (b : List Bool) (x : Error) → (field_read o f).reads at b ≡ Takes n (Err x)
+pub unpacked-refused : (o : Order) (k : ℕ) (f : Field) (fs : List Field) (at n : ℕ) (b : List Bool) (x : Error)
+    → (field_read o f).reads at b ≡ Takes n (Err x)
     → unpacked o k (f ∷ fs) at b ≡ Stops (fault k (read_reason x))
 unpacked-refused o k f fs at n b errors.RunTooLong e = rw e refl
 unpacked-refused o k f fs at n b x e = rw e refl
 
-pub unpacked-short : (o : Order) (k : ℕ) (f : Field) (fs : List Field) (at : ℕ) (b : List Bool) → (field_read o f).reads at b ≡ TooFew → unpacked o k (f ∷ fs) at b ≡ Stops (fault k BitsEnded)
+pub unpacked-short : (o : Order) (k : ℕ) (f : Field) (fs : List Field) (at : ℕ) (b : List Bool)
+    → (field_read o f).reads at b ≡ TooFew → unpacked o k (f ∷ fs) at b ≡ Stops (fault k BitsEnded)
 unpacked-short o k f fs at b e = rw e refl
 
 -- a word that the first field takes, and what follows it
-pub unpacked-first : (o : Order) (k : ℕ) (f : Field) (fs : List Field) (at : ℕ) (w rest : List Bool) (v : Option FieldValue) → (field_read o f).reads at (w ++ rest) ≡ Takes (length w) (Ok v)
+pub unpacked-first : (o : Order) (k : ℕ) (f : Field) (fs : List Field) (at : ℕ) (w rest : List Bool)
+    (v : Option FieldValue) → (field_read o f).reads at (w ++ rest) ≡ Takes (length w) (Ok v)
     → unpacked o k (f ∷ fs) at (w ++ rest) ≡ values_and (value_list v) (unpacked o (k + 1) fs (at + length w) rest)
 unpacked-first o k f fs at w rest v e =
     unpacked-takes o k f fs at (length w) (w ++ rest) v e
-    ∙ ap (λ (b : List Bool). values_and (value_list v) (unpacked o (k + 1) fs (at + length w) b)) (drop-append_seam w rest)
+    ∙ ap (λ (b : List Bool). values_and (value_list v) (unpacked o (k + 1) fs (at + length w) b))
+    (drop-append_seam w rest)
 
 -- ---- what a field writes, as it is read
 
@@ -87,23 +97,28 @@ pub record Trips (o : Order) (f : Field) (vs : List FieldValue) (at : ℕ) : Typ
   pub first : vs ≡ value_list value ++ drop (value_count f) vs
 
 -- the number that stands first fits, and stands first
-pub unsigned_first : (n : ℕ) (vs : List FieldValue) → FitsKind (Kind.Unsigned n) vs → (first_unsigned vs < 2 ^ n) × (vs ≡ Value.Unsigned (first_unsigned vs) ∷ drop 1 vs)
+pub unsigned_first : (n : ℕ) (vs : List FieldValue) → FitsKind (Kind.Unsigned n) vs → (first_unsigned vs < 2 ^ n)
+    × (vs ≡ Value.Unsigned (first_unsigned vs) ∷ drop 1 vs)
 unsigned_first n [] h = absurd h
 unsigned_first n (Value.Unsigned v ∷ vs) h = (h, refl)
 unsigned_first n (Value.Signed x ∷ vs) h = absurd h
 
-pub signed_first : (n : ℕ) (vs : List FieldValue) → FitsKind (Kind.Signed n) vs → FitsSignedBits n (first_signed vs) × (vs ≡ Value.Signed (first_signed vs) ∷ drop 1 vs)
+pub signed_first : (n : ℕ) (vs : List FieldValue) → FitsKind (Kind.Signed n) vs → FitsSignedBits n (first_signed vs)
+    × (vs ≡ Value.Signed (first_signed vs) ∷ drop 1 vs)
 signed_first n [] h = absurd h
 signed_first n (Value.Unsigned v ∷ vs) h = absurd h
 signed_first n (Value.Signed x ∷ vs) h = (h, refl)
 
 -- a call and what is made of its answer
-made : {A B : Type 0} (e : ReadEntry A) (f : A → B) (p n : ℕ) (b : List Bool) (a : A) → e.reads p b ≡ Takes n (Ok a) → (chain e (λ v. gives (f v))).reads p b ≡ Takes n (Ok (f a))
+made : {A B : Type 0} (e : ReadEntry A) (f : A → B) (p n : ℕ) (b : List Bool) (a : A) → e.reads p b ≡ Takes n (Ok a)
+    → (chain e (λ v. gives (f v))).reads p b ≡ Takes n (Ok (f a))
 made e f p n b a h = chain-ok e (λ v. gives (f v)) p b n a h ∙ ap (λ (m : ℕ). Takes m (Ok (f a))) (add-zero n)
 
 -- the word of a field's call, which is read as the field's value
-trip : {A : Type 0} (o : Order) (f : Field) (vs : List FieldValue) (at : ℕ) (e : ReadEntry A) (make : A → FieldValue) (a : A) (w : List Bool)
-    → field_read o f ≡ chain e (λ v. gives (Some (make v))) → field_write o f vs at ≡ Ok w → ((more : List Bool) → e.reads at (w ++ more) ≡ Takes (length w) (Ok a))
+trip : {A : Type 0} (o : Order) (f : Field) (vs : List FieldValue) (at : ℕ) (e : ReadEntry A) (make : A
+    → FieldValue) (a : A) (w : List Bool)
+    → field_read o f ≡ chain e (λ v. gives (Some (make v))) → field_write o f vs at ≡ Ok w
+    → ((more : List Bool) → e.reads at (w ++ more) ≡ Takes (length w) (Ok a))
     → vs ≡ make a ∷ drop (value_count f) vs → Trips o f vs at
 trip o f vs at e make a w is writes reads first = record {
   word = w;
@@ -113,63 +128,82 @@ trip o f vs at e make a w is writes reads first = record {
   first = first;
 }
 
-unsigned-answers : (o : Order) (n v p : ℕ) (more : List Bool) → n ≤ 128 → v < 2 ^ n → (unsigned_entry o 128 n).reads p (word o n v ++ more) ≡ Takes (length (word o n v)) (Ok v)
+unsigned-answers : (o : Order) (n v p : ℕ) (more : List Bool) → n ≤ 128 → v < 2 ^ n
+    → (unsigned_entry o 128 n).reads p (word o n v ++ more) ≡ Takes (length (word o n v)) (Ok v)
 unsigned-answers o n v p more le h =
     rw (unsigned-takes o 128 n le) (word_front-some n (λ w. Ok (number o w)) (word o n v) more (length-word o n v))
-    ∙ ap (λ (u : ℕ). Takes n (Ok u)) (number-word o n v ∙ mod-eq_of_lt h) ∙ ap (λ (m : ℕ). Takes m (Ok v)) (sym (length-word o n v))
+    ∙ ap (λ (u : ℕ). Takes n (Ok u)) (number-word o n v ∙ mod-eq_of_lt h)
+    ∙ ap (λ (m : ℕ). Takes m (Ok v)) (sym (length-word o n v))
 
-signed-answers : (o : Order) (n : ℕ) (x : ℤ) (p : ℕ) (more : List Bool) → 1 ≤ n → n ≤ 128 → FitsSignedBits n x → (signed_entry o 128 n).reads p (signed_word o n x ++ more) ≡ Takes (length (signed_word o n x)) (Ok x)
+signed-answers : (o : Order) (n : ℕ) (x : ℤ) (p : ℕ) (more : List Bool) → 1 ≤ n → n ≤ 128 → FitsSignedBits n x
+    → (signed_entry o 128 n).reads p (signed_word o n x ++ more) ≡ Takes (length (signed_word o n x)) (Ok x)
 signed-answers o n x p more some le h =
     (signed-word o 128 n some le).reads p (signed_word o n x ++ more)
     ∙ word_front-some n (λ w. Ok (signed_number o w)) (signed_word o n x) more (length-word o n _)
-    ∙ ap (λ (y : ℤ). Takes n (Ok y)) (signed_number-signed_word o n x some h) ∙ ap (λ (m : ℕ). Takes m (Ok x)) (sym (length-word o n _))
+    ∙ ap (λ (y : ℤ). Takes n (Ok y)) (signed_number-signed_word o n x some h)
+    ∙ ap (λ (m : ℕ). Takes m (Ok x)) (sym (length-word o n _))
 
-unary-answers : (stop : Bool) (v p : ℕ) (more : List Bool) → v < 2 ^ 32 → (unary_entry stop).reads p (unary stop v ++ more) ≡ Takes (length (unary stop v)) (Ok v)
+unary-answers : (stop : Bool) (v p : ℕ) (more : List Bool) → v < 2 ^ 32
+    → (unary_entry stop).reads p (unary stop v ++ more) ≡ Takes (length (unary stop v)) (Ok v)
 unfolding unary_entry
 unary-answers stop v p more h = read_unary-unary stop v more h
 
-skip-answers : (n p : ℕ) (more : List Bool) → (skip_entry n).reads p (replicate n false ++ more) ≡ Takes (length (replicate n false)) (Ok tt)
+skip-answers : (n p : ℕ) (more : List Bool) → (skip_entry n).reads p (replicate n false ++ more)
+    ≡ Takes (length (replicate n false)) (Ok tt)
 unfolding skip_entry
 skip-answers n p more =
-    word_front-some n (λ _. Ok tt) (replicate n false) more (length-replicate n false) ∙ ap (λ (m : ℕ). Takes m (Ok tt)) (sym (length-replicate n false))
+    word_front-some n (λ _. Ok tt) (replicate n false) more (length-replicate n false)
+    ∙ ap (λ (m : ℕ). Takes m (Ok tt)) (sym (length-replicate n false))
 
 two_bits : (size : GroupSize) → 2 ≤ group_bits size
 two_bits Four = omega arith
 two_bits Eight = omega arith
 
-vbr-answers : (o : Order) (field v p : ℕ) (more : List Bool) → 2 ≤ field → v < 2 ^ 64 → (vbr_entry o field 64 (2 ^ 64)).reads p (vbr_word o field v ++ more) ≡ Takes (length (vbr_word o field v)) (Ok v)
+vbr-answers : (o : Order) (field v p : ℕ) (more : List Bool) → 2 ≤ field → v < 2 ^ 64
+    → (vbr_entry o field 64 (2 ^ 64)).reads p (vbr_word o field v ++ more) ≡ Takes (length (vbr_word o field v)) (Ok v)
 unfolding vbr_entry
 vbr-answers o field v p more wide h =
-    read_vbr-IsAccepted o field (omega arith) 64 (2 ^ 64) (vbr_word o field v) v more wide (vbr_word_accepted o field (omega arith) 64 (2 ^ 64) v wide (lit< tt) (omega arith) h)
+    read_vbr-IsAccepted o field (omega arith) 64 (2 ^ 64) (vbr_word o field v) v more wide
+    (vbr_word_accepted o field (omega arith) 64 (2 ^ 64) v wide (lit< tt) (omega arith) h)
 
 signed_vbr-answers : (o : Order) (field : ℕ) (x : ℤ) (p : ℕ) (more : List Bool) → 2 ≤ field → FitsSignedBits 64 x
-    → (signed_vbr_entry o field 64).reads p (vbr_word o field (zig x) ++ more) ≡ Takes (length (vbr_word o field (zig x))) (Ok x)
+    → (signed_vbr_entry o field 64).reads p (vbr_word o field (zig x) ++ more)
+    ≡ Takes (length (vbr_word o field (zig x))) (Ok x)
 unfolding signed_vbr_entry
 signed_vbr-answers o field x p more wide h =
     let w = vbr_word o field (zig x) in
-    made (vbr_entry o field 64 (2 ^ 64)) zag p (length w) (w ++ more) (zig x) (vbr-answers o field (zig x) p more wide (zig-lt 64 x (lit< tt) h)) ∙ ap (λ (y : ℤ). Takes (length w) (Ok y)) (zag-zig x)
+    made (vbr_entry o field 64 (2 ^ 64)) zag p (length w) (w
+    ++ more) (zig x) (vbr-answers o field (zig x) p more wide (zig-lt 64 x (lit< tt) h))
+    ∙ ap (λ (y : ℤ). Takes (length w) (Ok y)) (zag-zig x)
 
 pub trips : (o : Order) (f : Field) (vs : List FieldValue) (at : ℕ) → IsField f → FitsField f vs → Trips o f vs at
 trips o (Unsigned n) vs at i h =
     let v = first_unsigned vs in
     let p = unsigned_first n vs h in
-    trip o (Unsigned n) vs at (unsigned_entry o 128 n) Value.Unsigned v (word o n v) refl (unsigned-fits o 128 n v at i.1 p.0) (λ more. unsigned-answers o n v at more i.1 p.0) p.1
+    trip o (Unsigned n) vs at (unsigned_entry o 128 n) Value.Unsigned v (word o n v) refl
+    (unsigned-fits o 128 n v at i.1 p.0) (λ more. unsigned-answers o n v at more i.1 p.0) p.1
 trips o (Signed n) vs at i h =
     let x = first_signed vs in
     let p = signed_first n vs h in
-    trip o (Signed n) vs at (signed_entry o 128 n) Value.Signed x (signed_word o n x) refl (signed-accepts o 128 n x at i.0 (i.1, p.0)) (λ more. signed-answers o n x at more i.0 i.1 p.0) p.1
+    trip o (Signed n) vs at (signed_entry o 128 n) Value.Signed x (signed_word o n x) refl
+    (signed-accepts o 128 n x at i.0 (i.1, p.0)) (λ more. signed-answers o n x at more i.0 i.1 p.0) p.1
 trips o (Unary stop) vs at i h =
     let v = first_unsigned vs in
     let p = unsigned_first 32 vs h in
-    trip o (Unary stop) vs at (unary_entry stop) Value.Unsigned v (unary stop v) refl refl (λ more. unary-answers stop v at more p.0) p.1
+    trip o (Unary stop) vs at (unary_entry stop) Value.Unsigned v (unary stop v) refl refl
+    (λ more. unary-answers stop v at more p.0) p.1
 trips o (Variable size) vs at i h =
     let v = first_unsigned vs in
     let p = unsigned_first 64 vs h in
-    trip o (Variable size) vs at (vbr_entry o (group_bits size) 64 (2 ^ 64)) Value.Unsigned v (vbr_word o (group_bits size) v) refl refl (λ more. vbr-answers o (group_bits size) v at more (two_bits size) p.0) p.1
+    trip o (Variable size) vs at (vbr_entry o (group_bits size) 64 (2 ^ 64)) Value.Unsigned v
+    (vbr_word o (group_bits size) v) refl refl (λ more. vbr-answers o (group_bits size) v at more (two_bits size)
+    p.0) p.1
 trips o (SignedVariable size) vs at i h =
     let x = first_signed vs in
     let p = signed_first 64 vs h in
-    trip o (SignedVariable size) vs at (signed_vbr_entry o (group_bits size) 64) Value.Signed x (vbr_word o (group_bits size) (zig x)) refl refl (λ more. signed_vbr-answers o (group_bits size) x at more (two_bits size) p.0) p.1
+    trip o (SignedVariable size) vs at (signed_vbr_entry o (group_bits size) 64) Value.Signed x
+    (vbr_word o (group_bits size) (zig x)) refl refl
+    (λ more. signed_vbr-answers o (group_bits size) x at more (two_bits size) p.0) p.1
 trips o (Padding n) vs at i h =
     let w = replicate n false in
     record {
@@ -186,33 +220,42 @@ trips o Align vs at i h =
       word = w;
       value = None;
       writes = refl;
-      reads = λ more. align-reads o at (w ++ more) ∙ word_front-some (to_boundary at) (λ _. Ok None) w more (sym size) ∙ ap (λ (m : ℕ). Takes m (Ok None)) size;
+      reads = λ more. align-reads o at (w ++ more) ∙ word_front-some (to_boundary at) (λ _. Ok None) w more (sym size)
+          ∙ ap (λ (m : ℕ). Takes m (Ok None)) size;
       first = refl;
     }
 
 -- an accepted call, and those that follow it
-run-more : (entry : WriteEntry) (entries : List WriteEntry) (w : List Bool) (len : ℕ) → entry len ≡ Ok w → write_run (entry ∷ entries) len ≡ w ++ write_run entries (len + length w)
+run-more : (entry : WriteEntry) (entries : List WriteEntry) (w : List Bool) (len : ℕ) → entry len ≡ Ok w
+    → write_run (entry ∷ entries) len ≡ w ++ write_run entries (len + length w)
 run-more entry entries w len e = rw e refl
 
-refusals-more : (entry : WriteEntry) (entries : List WriteEntry) (w : List Bool) (len : ℕ) → entry len ≡ Ok w → write_refusals (entry ∷ entries) len ≡ None ∷ write_refusals entries (len + length w)
+refusals-more : (entry : WriteEntry) (entries : List WriteEntry) (w : List Bool) (len : ℕ) → entry len ≡ Ok w
+    → write_refusals (entry ∷ entries) len ≡ None ∷ write_refusals entries (len + length w)
 refusals-more entry entries w len e = rw e refl
 
 -- values that fit are written without a refusal
-pub refusals-none : (o : Order) (fields : List Field) (vs : List FieldValue) (at : ℕ) → AllByRecursion IsField fields → Fit fields vs
+pub refusals-none : (o : Order) (fields : List Field) (vs : List FieldValue) (at : ℕ) → AllByRecursion IsField fields
+    → Fit fields vs
     → AllByRecursion (λ r. r ≡ None) (write_refusals (field_writes o fields vs ++ align ∷ []) at)
 refusals-none o [] vs at i h = (refl, tt)
 refusals-none o (f ∷ fs) vs at i h =
     let t = trips o f vs at i.0 h.0 in
-    subst (λ rs. AllByRecursion (λ r. r ≡ None) rs) (sym (refusals-more (field_write o f vs) (field_writes o fs (drop (value_count f) vs) ++ align ∷ []) t.word at t.writes))
+    subst (λ rs. AllByRecursion (λ r. r ≡ None) rs) (sym
+    (refusals-more (field_write o f vs) (field_writes o fs (drop (value_count f) vs)
+    ++ align ∷ []) t.word at t.writes))
     (refl, refusals-none o fs (drop (value_count f) vs) (at + length t.word) i.1 h.1)
 
 -- the values of the first field and those of the others
-values_first : (vs ws : List FieldValue) (us : List FieldValue) (at : ℕ) → vs ≡ ws ++ us → values_and ws (Unpacks us at) ≡ Unpacks vs at
+values_first : (vs ws : List FieldValue) (us : List FieldValue) (at : ℕ) → vs ≡ ws ++ us → values_and ws (Unpacks us at)
+    ≡ Unpacks vs at
 values_first vs ws us at e = ap (λ (xs : List FieldValue). Unpacks xs at) (sym e)
 
 -- what is written of values that fit is unpacked as these values, whatever follows
-pub unpacked-written : (o : Order) (k : ℕ) (fields : List Field) (vs : List FieldValue) (at : ℕ) (rest : List Bool) → AllByRecursion IsField fields → Fit fields vs
-    → unpacked o k fields at (write_run (field_writes o fields vs) at ++ rest) ≡ Unpacks vs (at + length (write_run (field_writes o fields vs) at))
+pub unpacked-written : (o : Order) (k : ℕ) (fields : List Field) (vs : List FieldValue) (at : ℕ) (rest : List Bool)
+    → AllByRecursion IsField fields → Fit fields vs
+    → unpacked o k fields at (write_run (field_writes o fields vs) at ++ rest)
+    ≡ Unpacks vs (at + length (write_run (field_writes o fields vs) at))
 unpacked-written o k [] vs at rest i h =
     let place : at ≡ at + 0 = omega arith in
     ap (λ (p : ℕ). Unpacks [] p) place ∙ ap (λ (us : List FieldValue). Unpacks us (at + 0)) (sym h)
@@ -220,7 +263,8 @@ unpacked-written o k (f ∷ fs) vs at rest i h =
     let t = trips o f vs at i.0 h.0 in
     let us = drop (value_count f) vs in
     let x = write_run (field_writes o fs us) (at + length t.word) in
-    let written : write_run (field_writes o (f ∷ fs) vs) at ≡ t.word ++ x = run-more (field_write o f vs) (field_writes o fs us) t.word at t.writes in
+    let written : write_run (field_writes o (f ∷ fs) vs) at ≡ t.word ++ x =
+    run-more (field_write o f vs) (field_writes o fs us) t.word at t.writes in
     let place : at + length t.word + length x ≡ at + length (t.word ++ x) = rw length-append (omega arith) in
     let whole : unpacked o k (f ∷ fs) at ((t.word ++ x) ++ rest) ≡ Unpacks vs (at + length (t.word ++ x)) =
     ap (λ (b : List Bool). unpacked o k (f ∷ fs) at b) (append_assoc t.word x rest)
@@ -233,7 +277,8 @@ unpacked-written o k (f ∷ fs) vs at rest i h =
 -- ---- packing, field by field
 
 -- the write calls of the fields, and others behind them
-pub write_run-append : (es fs : List WriteEntry) (at : ℕ) → write_run (es ++ fs) at ≡ write_run es at ++ write_run fs (at + length (write_run es at))
+pub write_run-append : (es fs : List WriteEntry) (at : ℕ)
+    → write_run (es ++ fs) at ≡ write_run es at ++ write_run fs (at + length (write_run es at))
 write_run-append [] fs at = let none : at ≡ at + 0 = omega arith in ap (write_run fs) none
 write_run-append (e ∷ es) fs at =
     let w = accepted (e at) in
@@ -243,23 +288,32 @@ write_run-append (e ∷ es) fs at =
     ∙ sym (append_assoc w x (write_run fs (at + length w + length x)))
     ∙ ap (λ (p : ℕ). (w ++ x) ++ write_run fs p) place
 
-pub packed-first : (o : Order) (f : Field) (fields : List Field) (vs : List FieldValue) (at : ℕ) (w : List Bool) → field_write o f vs at ≡ Ok w
+pub packed-first : (o : Order) (f : Field) (fields : List Field) (vs : List FieldValue) (at : ℕ) (w : List Bool)
+    → field_write o f vs at ≡ Ok w
     → packed o (f ∷ fields) vs at ≡ w ++ packed o fields (drop (value_count f) vs) (at + length w)
-packed-first o f fields vs at w e = run-more (field_write o f vs) (field_writes o fields (drop (value_count f) vs) ++ align ∷ []) w at e
+packed-first o f fields vs at w e = run-more (field_write o f vs) (field_writes o fields (drop (value_count f) vs)
+    ++ align ∷ []) w at e
 
 -- a value that fits is accepted, and its word is written
-field_word-written : (o : Order) (f : Field) (vs : List FieldValue) (at : ℕ) → IsField f → FitsField f vs → field_write o f vs at ≡ Ok (field_word o f vs at)
+field_word-written : (o : Order) (f : Field) (vs : List FieldValue) (at : ℕ) → IsField f → FitsField f vs
+    → field_write o f vs at ≡ Ok (field_word o f vs at)
 field_word-written o (Unsigned n) vs at i h = unsigned-fits o 128 n (first_unsigned vs) at i.1 (unsigned_first n vs h).0
-field_word-written o (Signed n) vs at i h = signed-accepts o 128 n (first_signed vs) at i.0 (i.1, (signed_first n vs h).0)
+field_word-written o (Signed n) vs at i h = signed-accepts o 128 n (first_signed vs) at i.0 (
+  i.1,
+  (signed_first n vs h).0,
+)
 field_word-written o (Unary stop) vs at i h = refl
 field_word-written o (Variable size) vs at i h = refl
 field_word-written o (SignedVariable size) vs at i h = refl
 field_word-written o (Padding n) vs at i h = refl
 field_word-written o Align vs at i h = refl
 
-pub packed-word : (o : Order) (f : Field) (fields : List Field) (vs : List FieldValue) (at : ℕ) → IsField f → FitsField f vs
-    → packed o (f ∷ fields) vs at ≡ field_word o f vs at ++ packed o fields (drop (value_count f) vs) (at + length (field_word o f vs at))
-packed-word o f fields vs at i h = packed-first o f fields vs at (field_word o f vs at) (field_word-written o f vs at i h)
+pub packed-word : (o : Order) (f : Field) (fields : List Field) (vs : List FieldValue) (at : ℕ) → IsField f
+    → FitsField f vs
+    → packed o (f ∷ fields) vs at ≡ field_word o f vs at ++ packed o fields (drop (value_count f) vs)
+    (at + length (field_word o f vs at))
+packed-word o f fields vs at i h = packed-first o f fields vs at (field_word o f vs at)
+    (field_word-written o f vs at i h)
 
 pub packed-number : (o : Order) (n v : ℕ) (fields : List Field) (vs : List FieldValue) (at : ℕ) → n ≤ 128 → v < 2 ^ n
     → packed o (Unsigned n ∷ fields) (Value.Unsigned v ∷ vs) at ≡ word o n v ++ packed o fields vs (at + n)
@@ -267,19 +321,23 @@ packed-number o n v fields vs at i h =
     packed-first o (Unsigned n) fields (Value.Unsigned v ∷ vs) at (word o n v) (unsigned-fits o 128 n v at i h)
     ∙ ap (λ (m : ℕ). word o n v ++ packed o fields vs (at + m)) (length-word o n v)
 
-pub packed-align : (o : Order) (fields : List Field) (vs : List FieldValue) (at : ℕ) → packed o (Align ∷ fields) vs at ≡ replicate (to_boundary at) false ++ packed o fields vs (at + to_boundary at)
+pub packed-align : (o : Order) (fields : List Field) (vs : List FieldValue) (at : ℕ)
+    → packed o (Align ∷ fields) vs at ≡ replicate (to_boundary at) false ++ packed o fields vs (at + to_boundary at)
 packed-align o fields vs at =
     packed-first o Align fields vs at (replicate (to_boundary at) false) refl
-    ∙ ap (λ (m : ℕ). replicate (to_boundary at) false ++ packed o fields vs (at + m)) (length-replicate (to_boundary at) false)
+    ∙ ap (λ (m : ℕ). replicate (to_boundary at) false ++ packed o fields vs (at + m))
+    (length-replicate (to_boundary at) false)
 
 -- ---- unpacking, field by field
 
 -- the first field takes n bits, where they are there
-first_word : (o : Order) (k : ℕ) (f : Field) (fs : List Field) (at n : ℕ) (w rest : List Bool) (g : List Bool → Result (Option FieldValue) Error) (v : Option FieldValue)
+first_word : (o : Order) (k : ℕ) (f : Field) (fs : List Field) (at n : ℕ) (w rest : List Bool) (g : List Bool
+    → Result (Option FieldValue) Error) (v : Option FieldValue)
     → ((b : List Bool) → (field_read o f).reads at b ≡ word_front n g b) → g w ≡ Ok v → length w ≡ n
     → unpacked o k (f ∷ fs) at (w ++ rest) ≡ values_and (value_list v) (unpacked o (k + 1) fs (at + n) rest)
 first_word o k f fs at n w rest g v reads is size =
-    unpacked-first o k f fs at w rest v (reads (w ++ rest) ∙ word_front-some n g w rest size ∙ ap (Takes n) is ∙ ap (λ (m : ℕ). Takes m (Ok v)) (sym size))
+    unpacked-first o k f fs at w rest v (reads (w ++ rest) ∙ word_front-some n g w rest size ∙ ap (Takes n) is
+    ∙ ap (λ (m : ℕ). Takes m (Ok v)) (sym size))
     ∙ ap (λ (m : ℕ). values_and (value_list v) (unpacked o (k + 1) fs (at + m) rest)) size
 
 pub values_and-nil : (r : Unpacked) → values_and [] r ≡ r
@@ -287,18 +345,25 @@ values_and-nil (Unpacks ws at) = refl
 values_and-nil (Stops f) = refl
 
 pub unpacked-number : (o : Order) (k n : ℕ) (fields : List Field) (at : ℕ) (w rest : List Bool) → n ≤ 128 → length w ≡ n
-    → unpacked o k (Unsigned n ∷ fields) at (w ++ rest) ≡ values_and (Value.Unsigned (number o w) ∷ []) (unpacked o (k + 1) fields (at + n) rest)
+    → unpacked o k (Unsigned n ∷ fields) at (w ++ rest)
+    ≡ values_and (Value.Unsigned (number o w) ∷ []) (unpacked o (k + 1) fields (at + n) rest)
 unpacked-number o k n fields at w rest i size =
-    first_word o k (Unsigned n) fields at n w rest (λ w. Ok (Some (Value.Unsigned (number o w)))) (Some (Value.Unsigned (number o w))) (λ b. unsigned-reads o n at b i) refl size
+    first_word o k (Unsigned n) fields at n w rest (λ w. Ok (Some (Value.Unsigned (number o w))))
+    (Some (Value.Unsigned (number o w))) (λ b. unsigned-reads o n at b i) refl size
 
 pub unpacked-align : (o : Order) (k : ℕ) (fields : List Field) (at : ℕ) (w rest : List Bool) → length w ≡ to_boundary at
     → unpacked o k (Align ∷ fields) at (w ++ rest) ≡ unpacked o (k + 1) fields (at + to_boundary at) rest
 unpacked-align o k fields at w rest size =
-    first_word o k Align fields at (to_boundary at) w rest (λ _. Ok None) None (align-reads o at) refl size ∙ values_and-nil (unpacked o (k + 1) fields (at + to_boundary at) rest)
+    first_word o k Align fields at (to_boundary at) w rest (λ _. Ok None) None (align-reads o at) refl size
+    ∙ values_and-nil (unpacked o (k + 1) fields (at + to_boundary at) rest)
 
-pub unpacked-few : (o : Order) (k n : ℕ) (fields : List Field) (at : ℕ) (b : List Bool) → n ≤ 128 → length b < n → unpacked o k (Unsigned n ∷ fields) at b ≡ Stops (fault k BitsEnded)
+pub unpacked-few : (o : Order) (k n : ℕ) (fields : List Field) (at : ℕ) (b : List Bool) → n ≤ 128 → length b < n
+    → unpacked o k (Unsigned n ∷ fields) at b ≡ Stops (fault k BitsEnded)
 unpacked-few o k n fields at b i few =
-    unpacked-short o k (Unsigned n) fields at b (unsigned-reads o n at b i ∙ word_front-none n (λ w. Ok (Some (Value.Unsigned (number o w)))) b few)
+    unpacked-short o k (Unsigned n) fields at b (unsigned-reads o n at b i
+    ∙ word_front-none n (λ w. Ok (Some (Value.Unsigned (number o w)))) b few)
 
-pub unpacked-few_to_align : (o : Order) (k : ℕ) (fields : List Field) (at : ℕ) (b : List Bool) → length b < to_boundary at → unpacked o k (Align ∷ fields) at b ≡ Stops (fault k BitsEnded)
-unpacked-few_to_align o k fields at b few = unpacked-short o k Align fields at b (align-reads o at b ∙ word_front-none (to_boundary at) (λ _. Ok None) b few)
+pub unpacked-few_to_align : (o : Order) (k : ℕ) (fields : List Field) (at : ℕ) (b : List Bool)
+    → length b < to_boundary at → unpacked o k (Align ∷ fields) at b ≡ Stops (fault k BitsEnded)
+unpacked-few_to_align o k fields at b few = unpacked-short o k Align fields at b (align-reads o at b
+    ∙ word_front-none (to_boundary at) (λ _. Ok None) b few)

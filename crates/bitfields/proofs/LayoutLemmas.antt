@@ -10,11 +10,14 @@ abbrev pub after : {A E : Type 0} → List A → Result (List A) E → Result (L
 after xs (Ok ys) = Ok (xs ++ ys)
 after xs (Err e) = Err e
 
-pub after-one_more : {A E : Type 0} (xs : List A) (x : A) (r : Result (List A) E) → after xs (one_more x r) ≡ after (xs ++ x ∷ []) r
+pub after-one_more : {A E : Type 0} (xs : List A) (x : A) (r : Result (List A) E) → after xs (one_more x r)
+    ≡ after (xs ++ x ∷ []) r
 after-one_more xs x (Ok ys) = ap Ok (sym (append_assoc xs (x ∷ []) ys))
 after-one_more xs x (Err e) = refl
 
-pub one_field : (parts : List (List ℕ)) (i : ℕ) (xs : List Field) (f : Field) → i < length parts → fields_of 1 parts ≡ after xs (fields_of (i + 1) (drop i parts)) → field_of (get_or parts i []) ≡ Some f → fields_of 1 parts ≡ after (xs ++ f ∷ []) (fields_of (i + 1 + 1) (drop (i + 1) parts))
+pub one_field : (parts : List (List ℕ)) (i : ℕ) (xs : List Field) (f : Field) → i < length parts → fields_of 1 parts
+    ≡ after xs (fields_of (i + 1) (drop i parts)) → field_of (get_or parts i []) ≡ Some f → fields_of 1 parts
+    ≡ after (xs ++ f ∷ []) (fields_of (i + 1 + 1) (drop (i + 1) parts))
 one_field parts i xs f h known is =
     let cut : drop i parts ≡ get_or parts i [] ∷ drop (i + 1) parts = rw add-one (drop-cons parts i [] h) in
     known
@@ -22,7 +25,9 @@ one_field parts i xs f h known is =
     ∙ ap (λ (o : Option Field). after xs (field_and (i + 1) o (fields_of (i + 1 + 1) (drop (i + 1) parts)))) is
     ∙ after-one_more xs f (fields_of (i + 1 + 1) (drop (i + 1) parts))
 
-pub bad_field : (parts : List (List ℕ)) (i : ℕ) (xs : List Field) → i < length parts → fields_of 1 parts ≡ after xs (fields_of (i + 1) (drop i parts)) → field_of (get_or parts i []) ≡ None → fields_of 1 parts ≡ Err (fault (i + 1) BadLayout)
+pub bad_field : (parts : List (List ℕ)) (i : ℕ) (xs : List Field) → i < length parts → fields_of 1 parts
+    ≡ after xs (fields_of (i + 1) (drop i parts)) → field_of (get_or parts i []) ≡ None → fields_of 1 parts
+    ≡ Err (fault (i + 1) BadLayout)
 bad_field parts i xs h known is =
     let cut : drop i parts ≡ get_or parts i [] ∷ drop (i + 1) parts = rw add-one (drop-cons parts i [] h) in
     known

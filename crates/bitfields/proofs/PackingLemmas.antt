@@ -33,21 +33,27 @@ use Rattle.bitfields.proofs.FieldCalls.{refusals-none, write_run-append}
 -- ---- a list of accepted calls, to a sink without a limit
 
 -- a call whose word is x adds it to a sink that has not failed and has no limit, or a request is refused
-WritesBits-from : {S : Type 0} (K : Sink S) (entry : WriteEntry) (x : List Bool) (old : S) (r : Result (Unit {0}) Error) (new : S) → K.failed old ≡ false → K.limit ≡ None → entry (K.len old) ≡ Ok x → Writes K entry old r new → WritesBits K x old r new
+WritesBits-from : {S : Type 0} (K : Sink S) (entry : WriteEntry) (x : List Bool) (old : S)
+    (r : Result (Unit {0}) Error) (new : S) → K.failed old ≡ false → K.limit ≡ None → entry (K.len old) ≡ Ok x
+    → Writes K entry old r new → WritesBits K x old r new
 WritesBits-from K entry x old r new sound unlimited is (had_failed p q k) = absurd (cc)
 WritesBits-from K entry x old r new sound unlimited is (was_rejected error p q e k) = absurd (cc)
-WritesBits-from K entry x old r new sound unlimited is (past_limit w p q beyond e k) = absurd (subst (λ (m : Option ℕ). IsPastLimit m (K.len old + length w)) unlimited beyond)
+WritesBits-from K entry x old r new sound unlimited is (past_limit w p q beyond e k) =
+    absurd (subst (λ (m : Option ℕ). IsPastLimit m (K.len old + length w)) unlimited beyond)
 WritesBits-from K entry x old r new sound unlimited is (was_refused w error p q within e f) =
     let same : w ≡ x = cc in
-    subst (λ (a : Result (Unit {0}) Error). WritesBits K x old a new) (sym e) (subst (λ (y : List Bool). WriteRefused K old y error new) same f)
+    subst (λ (a : Result (Unit {0}) Error). WritesBits K x old a new) (sym e)
+    (subst (λ (y : List Bool). WriteRefused K old y error new) same f)
 WritesBits-from K entry x old r new sound unlimited is (was_done w done p q within e a) =
     let same : w ≡ x = cc in
-    subst (λ (b : Result (Unit {0}) Error). WritesBits K x old b new) (sym e) (subst (λ (y : List Bool). Appended K old y new) same a)
+    subst (λ (b : Result (Unit {0}) Error). WritesBits K x old b new) (sym e)
+    (subst (λ (y : List Bool). Appended K old y new) same a)
 
 Appended-nil : {S : Type 0} (K : Sink S) (s : S) → K.failed s ≡ false → Appended K s [] s
 Appended-nil K s sound = record { grown = K.appends_nil s; sound = sound; refusals = refl; reference_names = refl }
 
-Appended-trans : {S : Type 0} (K : Sink S) (s t z : S) (x y : List Bool) → Appended K s x t → Appended K t y z → Appended K s (x ++ y) z
+Appended-trans : {S : Type 0} (K : Sink S) (s t z : S) (x y : List Bool) → Appended K s x t → Appended K t y z
+    → Appended K s (x ++ y) z
 Appended-trans K s t z x y h k = record {
   grown = K.appends_trans s t z x y h.grown k.grown;
   sound = k.sound;
@@ -56,12 +62,14 @@ Appended-trans K s t z x y h k = record {
 }
 
 -- what follows bits that were added
-WritesBits-later : {S : Type 0} (K : Sink S) (x y : List Bool) (old mid : S) (r : Result (Unit {0}) Error) (new : S) → Appended K old x mid → WritesBits K y mid r new → WritesBits K (x ++ y) old r new
+WritesBits-later : {S : Type 0} (K : Sink S) (x y : List Bool) (old mid : S) (r : Result (Unit {0}) Error) (new : S)
+    → Appended K old x mid → WritesBits K y mid r new → WritesBits K (x ++ y) old r new
 WritesBits-later K x y old mid (Ok done) new h k = Appended-trans K old mid new x y h k
 WritesBits-later K x y old mid (Err e) new h k = WriteRefused-behind K old mid new e x y h k
 
 -- a refusal of the first bits is one of all
-WritesBits-first : {S : Type 0} (K : Sink S) (x y : List Bool) (old : S) (r : Result (Unit {0}) Error) (new : S) → IsErr r → WritesBits K x old r new → WritesBits K (x ++ y) old r new
+WritesBits-first : {S : Type 0} (K : Sink S) (x y : List Bool) (old : S) (r : Result (Unit {0}) Error) (new : S)
+    → IsErr r → WritesBits K x old r new → WritesBits K (x ++ y) old r new
 WritesBits-first K x y old (Ok done) new h k = absurd (cc)
 WritesBits-first K x y old (Err e) new h k = WriteRefused-longer K old new e x y k
 
@@ -70,11 +78,14 @@ accepted-word (Ok w) h = refl
 accepted-word (Err e) h = absurd (cc)
 
 -- calls that are all accepted add their write run
-WritesBits-all : {S : Type 0} (K : Sink S) (es : List WriteEntry) (old : S) (r : Result (Unit {0}) Error) (new : S) → K.failed old ≡ false → K.limit ≡ None
-    → AllByRecursion (λ e. e ≡ None) (write_refusals es (K.len old)) → WritesAll K es old r new → WritesBits K (write_run es (K.len old)) old r new
+WritesBits-all : {S : Type 0} (K : Sink S) (es : List WriteEntry) (old : S) (r : Result (Unit {0}) Error) (new : S)
+    → K.failed old ≡ false → K.limit ≡ None
+    → AllByRecursion (λ e. e ≡ None) (write_refusals es (K.len old)) → WritesAll K es old r new
+    → WritesBits K (write_run es (K.len old)) old r new
 unfolding WritesAll
 WritesBits-all K [] old r new sound unlimited fine w =
-    subst (λ (s : Result (Unit {0}) Error). WritesBits K [] old s new) (sym w.0) (subst (λ (z : _). Appended K old [] z) (sym w.1) (Appended-nil K old sound))
+    subst (λ (s : Result (Unit {0}) Error). WritesBits K [] old s new) (sym w.0)
+    (subst (λ (z : _). Appended K old [] z) (sym w.1) (Appended-nil K old sound))
 WritesBits-all K (e ∷ es) old r new sound unlimited fine (inl h) =
     let x = accepted (e (K.len old)) in
     let here = WritesBits-from K e x old r new sound unlimited (accepted-word (e (K.len old)) fine.0) h.1 in
@@ -83,15 +94,20 @@ WritesBits-all K (e ∷ es) old r new sound unlimited fine (inr (mid, first, oth
     let x = accepted (e (K.len old)) in
     let here = WritesBits-from K e x old (Ok tt) mid sound unlimited (accepted-word (e (K.len old)) fine.0) first in
     let place : K.len mid ≡ K.len old + length x = K.appends_len old mid x here.grown in
-    let rest = WritesBits-all K es mid r new here.sound unlimited (subst (λ (n : ℕ). AllByRecursion (λ e. e ≡ None) (write_refusals es n)) (sym place) fine.1) others in
-    WritesBits-later K x (write_run es (K.len old + length x)) old mid r new here (subst (λ (n : ℕ). WritesBits K (write_run es n) mid r new) place rest)
+    let rest = WritesBits-all K es mid r new here.sound unlimited
+    (subst (λ (n : ℕ). AllByRecursion (λ e. e ≡ None) (write_refusals es n)) (sym place) fine.1) others in
+    WritesBits-later K x (write_run es (K.len old + length x)) old mid r new here
+    (subst (λ (n : ℕ). WritesBits K (write_run es n) mid r new) place rest)
 
 -- values that fit are packed
-pub WritesBits-packed : {S : Type 0} (K : Sink S) (fields : List Field) (vs : List FieldValue) (old : S) (r : Result (Unit {0}) Error) (new : S) → IsLayout fields → Fit fields vs
-    → WritesAll K (field_writes K.order fields vs ++ align ∷ []) old r new → K.failed old ≡ false → K.limit ≡ None → WritesBits K (packed K.order fields vs (K.len old)) old r new
+pub WritesBits-packed : {S : Type 0} (K : Sink S) (fields : List Field) (vs : List FieldValue) (old : S)
+    (r : Result (Unit {0}) Error) (new : S) → IsLayout fields → Fit fields vs
+    → WritesAll K (field_writes K.order fields vs ++ align ∷ []) old r new → K.failed old ≡ false → K.limit ≡ None
+    → WritesBits K (packed K.order fields vs (K.len old)) old r new
 WritesBits-packed K fields vs old r new layout fit w sound unlimited =
     let each = recursion_from_All IsField fields layout.in_range in
-    WritesBits-all K (field_writes K.order fields vs ++ align ∷ []) old r new sound unlimited (refusals-none K.order fields vs (K.len old) each fit) w
+    WritesBits-all K (field_writes K.order fields vs ++ align ∷ []) old r new sound unlimited
+    (refusals-none K.order fields vs (K.len old) each fit) w
 
 -- ---- the fields' calls, one behind the other
 
@@ -101,54 +117,70 @@ result_err (Err y) h = ap Err h
 
 -- what is made of the calls that are left is made of them all
 abbrev pub Remains : {S : Type 0} → Sink S → List WriteEntry → S → List WriteEntry → S → Type 0
-Remains {S} K all old left now = (r : Result (Unit {0}) Error) (new : S) → WritesAll K left now r new → WritesAll K all old r new
+Remains {S} K all old left now = (r : Result (Unit {0}) Error) (new : S) → WritesAll K left now r new
+    → WritesAll K all old r new
 
 -- the calls of fields, and the first of them
 writes_first : (o : Order) (fields : List Field) (i : ℕ) (d : Field) (vs : List FieldValue) → i < length fields
-    → field_writes o (drop i fields) vs ≡ field_write o (get_or fields i d) vs ∷ field_writes o (drop (i + 1) fields) (drop (value_count (get_or fields i d)) vs)
+    → field_writes o (drop i fields) vs ≡ field_write o (get_or fields i d) vs ∷ field_writes o (drop (i + 1) fields)
+    (drop (value_count (get_or fields i d)) vs)
 writes_first o fields i d vs h =
     let cut : drop i fields ≡ get_or fields i d ∷ drop (i + 1) fields = rw add-one (drop-cons fields i d h) in
     ap (λ (fs : List Field). field_writes o fs vs) cut
 
 -- the first fields wrote their words, and these are the values of the others
-pub record Packing {S : Type 0} (K : Sink S) (fields : List Field) (vs : List FieldValue) (i : ℕ) (old : S) (rest : List FieldValue) (now : S) : Type 0 where
+pub record Packing {S : Type 0} (K : Sink S) (fields : List Field) (vs : List FieldValue) (i : ℕ) (old : S)
+    (rest : List FieldValue) (now : S) : Type 0 where
   pub fit : Fit (drop i fields) rest
   pub remains : Remains K (field_writes K.order fields vs) old (field_writes K.order (drop i fields) rest) now
 
-pub Packing-start : {S : Type 0} (K : Sink S) (fields : List Field) (vs : List FieldValue) (s : S) → Fit fields vs → Packing K fields vs 0 s vs s
+pub Packing-start : {S : Type 0} (K : Sink S) (fields : List Field) (vs : List FieldValue) (s : S) → Fit fields vs
+    → Packing K fields vs 0 s vs s
 Packing-start K fields vs s fit = record { fit = fit; remains = λ r new h. h }
 
 -- the first of the fields that are left fits
-pub Packing-fits : {S : Type 0} (K : Sink S) (fields : List Field) (vs : List FieldValue) (i : ℕ) (d : Field) (old : S) (rest : List FieldValue) (now : S) → i < length fields → Packing K fields vs i old rest now
+pub Packing-fits : {S : Type 0} (K : Sink S) (fields : List Field) (vs : List FieldValue) (i : ℕ) (d : Field)
+    (old : S) (rest : List FieldValue) (now : S) → i < length fields → Packing K fields vs i old rest now
     → FitsField (get_or fields i d) rest × Fit (drop (i + 1) fields) (drop (value_count (get_or fields i d)) rest)
 Packing-fits K fields vs i d old rest now h known =
     let cut : drop i fields ≡ get_or fields i d ∷ drop (i + 1) fields = rw add-one (drop-cons fields i d h) in
     subst (λ (fs : List Field). Fit fs rest) cut known.fit
 
-pub Packing-more : {S : Type 0} (K : Sink S) (fields : List Field) (vs : List FieldValue) (i : ℕ) (d : Field) (old : S) (rest behind : List FieldValue) (now new : S) → i < length fields → Packing K fields vs i old rest now
-    → Writes {T = Unit {0}} K (field_write K.order (get_or fields i d) rest) now (Ok tt) new → behind ≡ drop (value_count (get_or fields i d)) rest → Packing K fields vs (i + 1) old behind new
+pub Packing-more : {S : Type 0} (K : Sink S) (fields : List Field) (vs : List FieldValue) (i : ℕ) (d : Field)
+    (old : S) (rest behind : List FieldValue) (now new : S) → i < length fields → Packing K fields vs i old rest now
+    → Writes {T = Unit {0}} K (field_write K.order (get_or fields i d) rest) now (Ok tt) new → behind
+    ≡ drop (value_count (get_or fields i d)) rest → Packing K fields vs (i + 1) old behind new
 Packing-more {S} K fields vs i d old rest behind now new h known w is =
     let e = field_write K.order (get_or fields i d) rest in
     let more = field_writes K.order (drop (i + 1) fields) in
     record {
-      fit = subst (λ (us : List FieldValue). Fit (drop (i + 1) fields) us) (sym is) (Packing-fits K fields vs i d old rest now h known).1;
+      fit = subst (λ (us : List FieldValue). Fit (drop (i + 1) fields) us) (sym is)
+          (Packing-fits K fields vs i d old rest now h known).1;
       remains = λ r z others. known.remains r z
           (subst (λ (es : List WriteEntry). WritesAll K es now r z) (sym (writes_first K.order fields i d rest h))
-          (all_more K e (more (drop (value_count (get_or fields i d)) rest)) now new r z w (subst (λ (us : List FieldValue). WritesAll K (more us) new r z) is others)));
+          (all_more K e (more (drop (value_count (get_or fields i d)) rest)) now new r z w
+          (subst (λ (us : List FieldValue). WritesAll K (more us) new r z) is others)));
     }
 
-pub Packing-fault : {S : Type 0} (K : Sink S) (fields : List Field) (vs : List FieldValue) (i : ℕ) (d : Field) (old : S) (rest : List FieldValue) (now : S) (r : Result (Unit {0}) Error) (error : Error) (new : S) → i < length fields
-    → Packing K fields vs i old rest now → r ≡ Err error → Writes {T = Unit {0}} K (field_write K.order (get_or fields i d) rest) now (Err error) new → WritesAll K (field_writes K.order fields vs) old r new
+pub Packing-fault : {S : Type 0} (K : Sink S) (fields : List Field) (vs : List FieldValue) (i : ℕ) (d : Field) (old :
+    S) (rest : List FieldValue) (now : S) (r : Result (Unit {0}) Error) (error : Error) (new : S) → i < length fields
+    → Packing K fields vs i old rest now → r ≡ Err error
+    → Writes {T = Unit {0}} K (field_write K.order (get_or fields i d) rest) now (Err error) new
+    → WritesAll K (field_writes K.order fields vs) old r new
 Packing-fault K fields vs i d old rest now r error new h known is w =
     known.remains r new
     (subst (λ (es : List WriteEntry). WritesAll K es now r new) (sym (writes_first K.order fields i d rest h))
-    (all_err K (field_write K.order (get_or fields i d) rest) (field_writes K.order (drop (i + 1) fields) (drop (value_count (get_or fields i d)) rest)) now r error new is w))
+    (all_err K (field_write K.order (get_or fields i d) rest)
+    (field_writes K.order (drop (i + 1) fields) (drop (value_count (get_or fields i d)) rest)) now r error new is
+    w))
 
-pub Packing-end : {S : Type 0} (K : Sink S) (fields : List Field) (vs : List FieldValue) (i : ℕ) (old : S) (rest : List FieldValue) (now : S) → length fields ≤ i → Packing K fields vs i old rest now
+pub Packing-end : {S : Type 0} (K : Sink S) (fields : List Field) (vs : List FieldValue) (i : ℕ) (old : S)
+    (rest : List FieldValue) (now : S) → length fields ≤ i → Packing K fields vs i old rest now
     → WritesAll K (field_writes K.order fields vs) old (Ok tt) now
 Packing-end K fields vs i old rest now end known =
     known.remains (Ok tt) now
-    (subst (λ (fs : List Field). WritesAll K (field_writes K.order fs rest) now (Ok tt) now) (sym (drop_all i fields end)) (all_none K now))
+    (subst (λ (fs : List Field). WritesAll K (field_writes K.order fs rest) now (Ok tt) now)
+    (sym (drop_all i fields end)) (all_none K now))
 
 -- ---- a new writer of a stream
 
@@ -156,48 +188,74 @@ length-packed : (o : Order) (fields : List Field) (vs : List FieldValue) → len
 length-packed o fields vs =
     let w = write_run (field_writes o fields vs) 0 in
     let last = write_run (align ∷ []) (0 + length w) in
-    let parts : length (packed o fields vs 0) ≡ length w + length last = ap length (write_run-append (field_writes o fields vs) (align ∷ []) 0) ∙ length-append w last in
-    let rest : length last ≡ to_boundary (0 + length w) = ap length (append-nil (accepted (align (0 + length w)))) ∙ length-replicate (to_boundary (0 + length w)) false in
+    let parts : length (packed o fields vs 0) ≡ length w + length last =
+    ap length (write_run-append (field_writes o fields vs) (align ∷ []) 0) ∙ length-append w last in
+    let rest : length last ≡ to_boundary (0 + length w) = ap length (append-nil (accepted (align (0 + length w))))
+    ∙ length-replicate (to_boundary (0 + length w)) false in
     omega (arith, parts, rest)
 
 -- the bytes of the packed values were handed on
-pub PackedBytes-from : (o : Order) (fields : List Field) (vs : List FieldValue) (held : Option (List ℕ)) (reference_names : List GName) (s t : WriterState) → t.queued < 8 → s ≡ new_writer_state held reference_names
+pub PackedBytes-from : (o : Order) (fields : List Field) (vs : List FieldValue)
+    (held : Option (List ℕ)) (reference_names : List GName) (s t : WriterState) → t.queued < 8 → s
+    ≡ new_writer_state held reference_names
     → Carries o s (packed o fields vs (8 * s.port.sent + s.queued)) t → PackedBytes o fields vs held t.port.bytes
 PackedBytes-from o fields vs held reference_names s t few fresh was =
-    let c : Carries o (new_writer_state held reference_names) (packed o fields vs 0) t = subst (λ (u : WriterState). Carries o u (packed o fields vs (8 * u.port.sent + u.queued)) t) fresh was in
+    let c : Carries o (new_writer_state held reference_names) (packed o fields vs 0) t =
+    subst (λ (u : WriterState). Carries o u (packed o fields vs (8 * u.port.sent + u.queued)) t) fresh was in
     let x = packed o fields vs 0 in
-    let whole : x ≡ bits o c.bytes ++ word o t.queued t.queue = ap (λ (u : List Bool). u ++ x) (sym (word-none o 0)) ∙ c.word in
-    let rest : t.queued ≡ 0 = omega (arith, few, length-packed o fields vs, ap length whole, length-append (bits o c.bytes) (word o t.queued t.queue), length-bits o c.bytes, length-word o t.queued t.queue) in
+    let whole : x ≡ bits o c.bytes ++ word o t.queued t.queue = ap (λ (u : List Bool). u ++ x) (sym (word-none o 0))
+    ∙ c.word in
+    let rest : t.queued ≡ 0 = omega (
+      arith,
+      few,
+      length-packed o fields vs,
+      ap length whole,
+      length-append (bits o c.bytes) (word o t.queued t.queue),
+      length-bits o c.bytes,
+      length-word o t.queued t.queue,
+    )
+    in
     record {
       bytes = c.bytes;
       grows = c.grows;
-      says = sym (whole ∙ ap (λ (u : List Bool). bits o c.bytes ++ u) (ap (λ (n : ℕ). word o n t.queue) rest ∙ word-none o t.queue) ∙ append-nil (bits o c.bytes));
+      says = sym (whole ∙ ap (λ (u : List Bool). bits o c.bytes ++ u) (ap (λ (n : ℕ). word o n t.queue) rest
+          ∙ word-none o t.queue) ∙ append-nil (bits o c.bytes));
     }
 
 -- ---- refusals
 
 -- an input whose values were refused is answered so, and the stream is as it was
-pub Packs-refused : {W : Type 0} (contents : W → Option (List ℕ)) (may : Refusal → Type 0) (o : Order) (fields : List Field) (values : Result (List FieldValue) Fault) (output : W) (r : Result (Unit {0}) Fault) (f : Fault)
-    → IsErrAnd r (λ e. e ≡ f) → (f ≡ fault 0 OutOfMemory) ⊎ (values ≡ Err f) → Packs contents may o fields values output r output
+pub Packs-refused : {W : Type 0} (contents : W → Option (List ℕ)) (may : Refusal → Type 0) (o : Order) (fields :
+    List Field) (values : Result (List FieldValue) Fault) (output : W) (r : Result (Unit {0}) Fault) (f : Fault)
+    → IsErrAnd r (λ e. e ≡ f) → (f ≡ fault 0 OutOfMemory) ⊎ (values ≡ Err f)
+    → Packs contents may o fields values output r output
 Packs-refused contents may o fields values output (Ok done) f h why = absurd h
 Packs-refused contents may o fields (Ok vs) output (Err e) f h (inl memory) = inl (h ∙ memory, refl)
 Packs-refused contents may o fields (Ok vs) output (Err e) f h (inr is) = absurd (cc)
 Packs-refused contents may o fields (Err x) output (Err e) f h (inl memory) = (refl, inr (h ∙ memory))
-Packs-refused contents may o fields (Err x) output (Err e) f h (inr is) = (let same : x ≡ f = cc in (refl, inl (h ∙ sym same)))
+Packs-refused contents may o fields (Err x) output (Err e) f h (inr is) =
+    (let same : x ≡ f = cc in (refl, inl (h ∙ sym same)))
 
 -- the bytes that bits filled, of a new writer
-pub filled : (o : Order) (held : Option (List ℕ)) (reference_names : List GName) (s : WriterState) → s ≡ new_writer_state held reference_names → (x : List Bool) (known : Option (List ℕ)) → Fills o s x known
+pub filled : (o : Order) (held : Option (List ℕ)) (reference_names : List GName) (s : WriterState) → s
+    ≡ new_writer_state held reference_names → (x : List Bool) (known : Option (List ℕ)) → Fills o s x known
     → (bytes : List ℕ) × Appends held known bytes × (rest : List Bool) × (x ≡ bits o bytes ++ rest)
 filled o held reference_names s fresh x known h =
-    let f : Fills o (new_writer_state held reference_names) x known = subst (λ (u : WriterState). Fills o u x known) fresh h in
+    let f : Fills o (new_writer_state held reference_names) x known =
+    subst (λ (u : WriterState). Fills o u x known) fresh h in
     (f.bytes, f.grows, f.rest, ap (λ (u : List Bool). u ++ x) (sym (word-none o 0)) ∙ f.word)
 
 -- a refused request of a writer, as one of its stream
-pub PackingRefused-from : {S : Type 0} (K : Sink S) (may : Refusal → Type 0) (fields : List Field) (vs : List FieldValue) (held : Option (List ℕ)) (old new : S) (error : Error) (f : Fault) → ((x : Refusal) → K.may x → may x) → K.len old ≡ 0
-    → ((x : List Bool) (known : Option (List ℕ)) → K.fills old x known → (bytes : List ℕ) × Appends held known bytes × (rest : List Bool) × (x ≡ bits K.order bytes ++ rest))
-    → WriteRefused K old (packed K.order fields vs (K.len old)) error new → f ≡ fault 0 (write_reason error) → PackingRefused may K.order fields vs held f (K.contents new)
+pub PackingRefused-from : {S : Type 0} (K : Sink S) (may : Refusal → Type 0) (fields : List Field)
+    (vs : List FieldValue) (held : Option (List ℕ)) (old new : S) (error : Error) (f : Fault)
+    → ((x : Refusal) → K.may x → may x) → K.len old ≡ 0
+    → ((x : List Bool) (known : Option (List ℕ)) → K.fills old x known → (bytes : List ℕ) × Appends held known bytes
+    × (rest : List Bool) × (x ≡ bits K.order bytes ++ rest))
+    → WriteRefused K old (packed K.order fields vs (K.len old)) error new → f ≡ fault 0 (write_reason error)
+    → PackingRefused may K.order fields vs held f (K.contents new)
 PackingRefused-from K may fields vs held old new error f is none fills h why =
-    let whole : packed K.order fields vs (K.len old) ≡ packed K.order fields vs 0 = ap (packed K.order fields vs) none in
+    let whole : packed K.order fields vs (K.len old) ≡ packed K.order fields vs 0 =
+    ap (packed K.order fields vs) none in
     let went = fills h.front h.refusal.before h.before in
     record {
       refusal = h.refusal;
@@ -207,6 +265,7 @@ PackingRefused-from K may fields vs held old new error f is none fills h why =
       bytes = went.0;
       grows = went.1;
       rest = went.2 ++ h.back;
-      begins = sym whole ∙ h.parts ∙ ap (λ (u : List Bool). u ++ h.back) went.3 ∙ append_assoc (bits K.order went.0) went.2 h.back;
+      begins = sym whole ∙ h.parts ∙ ap (λ (u : List Bool). u ++ h.back) went.3
+          ∙ append_assoc (bits K.order went.0) went.2 h.back;
       after = h.after;
     }

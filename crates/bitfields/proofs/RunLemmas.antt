@@ -15,26 +15,37 @@ use Rattle.bitfields.specs.Run.{SpelledInput, PackingFault, misspelt_input, refu
 use Rattle.bitfields.specs.Streams.{InputStream, OutputStream, ReadToEnd, RefusedOutput}
 use Rattle.bitfields.specs.Value.{lines, values}
 
-spelt_as : {fields : List Field} {input input_after : Option (List ℕ)} {bytes : List ℕ} {spelt : Result (List FieldValue) Fault} → ReadToEnd input bytes input_after → values 1 fields (lines bytes) ≡ spelt → SpelledInput fields input spelt input_after
+spelt_as : {fields : List Field} {input input_after : Option (List ℕ)} {bytes : List ℕ}
+    {spelt : Result (List FieldValue) Fault} → ReadToEnd input bytes input_after → values 1 fields (lines bytes) ≡ spelt
+    → SpelledInput fields input spelt input_after
 spelt_as {bytes = bytes} reads is = record { bytes = bytes; reads = reads; spells = is }
 
-module _ {R W : Type 0} {I : InputStream R} {O : OutputStream W} {o : Order} {fields : List Field} {input : R} {output : W} {bytes : List ℕ} {input_after : R} (reads : ReadToEnd (I.remaining input) bytes (I.remaining input_after)) where
+module _ {R W : Type 0} {I : InputStream R} {O : OutputStream W} {o : Order} {fields : List Field} {input : R} {output :
+    W} {bytes : List ℕ} {input_after : R} (reads : ReadToEnd (I.remaining input) bytes (I.remaining input_after)) where
   -- packing what the input spells was refused
-  pub packing_fault : (spelt : Result (List FieldValue) Fault) {f : Fault} {output_after : W} → values 1 fields (lines bytes) ≡ spelt
-      → Packs O.contents (MayRefuse O.contents O.refuses) o fields spelt output (Err f) output_after → PackingFault I O o fields input output f input_after output_after
+  pub packing_fault : (spelt : Result (List FieldValue) Fault) {f : Fault} {output_after : W}
+      → values 1 fields (lines bytes) ≡ spelt
+      → Packs O.contents (MayRefuse O.contents O.refuses) o fields spelt output (Err f) output_after
+      → PackingFault I O o fields input output f input_after output_after
   packing_fault (Ok vs) is (inl h) = refused_memory bytes reads h.0 h.1
   packing_fault (Ok vs) is (inr h) = refused_bytes vs (spelt_as reads is) h
   packing_fault (Err x) is (same, inl e) = misspelt_input (spelt_as reads (is ∙ ap Err (sym e))) same
   packing_fault (Err x) is (same, inr memory) = refused_memory bytes reads memory same
 
   -- the flush behind what was packed was refused
-  pub packing_unflushed : (spelt : Result (List FieldValue) Fault) {f : Fault} {filled output_after : W} → values 1 fields (lines bytes) ≡ spelt
-      → Packs O.contents (MayRefuse O.contents O.refuses) o fields spelt output (Ok tt) filled → RefusedOutput O filled 0 f output_after → PackingFault I O o fields input output f input_after output_after
-  packing_unflushed (Ok vs) {filled = filled} is packs refused = unflushed_bytes vs (spelt_as reads is) (record { filled = filled; packs = packs; refused = refused })
+  pub packing_unflushed : (spelt : Result (List FieldValue) Fault) {f : Fault} {filled output_after : W}
+      → values 1 fields (lines bytes) ≡ spelt
+      → Packs O.contents (MayRefuse O.contents O.refuses) o fields spelt output (Ok tt) filled
+      → RefusedOutput O filled 0 f output_after → PackingFault I O o fields input output f input_after output_after
+  packing_unflushed (Ok vs) {filled = filled} is packs refused =
+      unflushed_bytes vs (spelt_as reads is) (record { filled = filled; packs = packs; refused = refused })
   packing_unflushed (Err x) is packs refused = absurd packs
 
 -- the request for a fault's line was served or refused
-pub reported : {X : Type 0} (T : OutputStream X) (f : Fault) (before after : X) (line : List ℕ) (r : Result (Unit {0}) Error) → line ≡ fault_line f
-    → OnOk r (Appends (T.contents before) (T.contents after) line) → IfErr r (λ e. T.refuses before (length line) (error_kind e) after) → Reports T f before after
+pub reported : {X : Type 0} (T : OutputStream X) (f : Fault) (before after : X) (line : List ℕ)
+    (r : Result (Unit {0}) Error) → line ≡ fault_line f
+    → OnOk r (Appends (T.contents before) (T.contents after) line)
+    → IfErr r (λ e. T.refuses before (length line) (error_kind e) after) → Reports T f before after
 reported T f before after line (Ok done) is printed refused = inl (rw is at printed)
-reported T f before after line (Err e) is printed refused = inr (record { kind = error_kind e; refused = rw is at refused })
+reported T f before after line (Err e) is printed refused =
+    inr (record { kind = error_kind e; refused = rw is at refused })

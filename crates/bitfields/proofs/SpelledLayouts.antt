@@ -30,7 +30,8 @@ small n h =
 
 -- a letter and a number have no comma
 letter-lacks_comma : (letter n : ℕ) → 44 < letter → n ≤ 4096 → lacks_comma (letter ∷ decimal n)
-letter-lacks_comma letter n above h = All-cons (λ b. (b == 44) ≡ false) letter (decimal n) (ne_eqb letter 44 (λ e. omega arith)) (decimal_lacks 44 n (lit< tt) (small n h))
+letter-lacks_comma letter n above h = All-cons (λ b. (b == 44)
+    ≡ false) letter (decimal n) (ne_eqb letter 44 (λ e. omega arith)) (decimal_lacks 44 n (lit< tt) (small n h))
 
 bit_small : (stop : Bool) → digit_value stop ≤ 1
 bit_small true = omega arith
@@ -43,9 +44,12 @@ size_small Eight = (omega arith, omega arith)
 field_text-lacks_comma : (f : Field) → IsField f → lacks_comma (field_text f)
 field_text-lacks_comma (Unsigned n) h = letter-lacks_comma 117 n (lit< tt) (omega (arith, h.1))
 field_text-lacks_comma (Signed n) h = letter-lacks_comma 105 n (lit< tt) (omega (arith, h.1))
-field_text-lacks_comma (Unary stop) h = letter-lacks_comma 110 (digit_value stop) (lit< tt) (omega (arith, bit_small stop))
-field_text-lacks_comma (Variable size) h = letter-lacks_comma 118 (group_bits size) (lit< tt) (omega (arith, (size_small size).1))
-field_text-lacks_comma (SignedVariable size) h = letter-lacks_comma 115 (group_bits size) (lit< tt) (omega (arith, (size_small size).1))
+field_text-lacks_comma (Unary stop) h = letter-lacks_comma 110 (digit_value stop) (lit< tt)
+    (omega (arith, bit_small stop))
+field_text-lacks_comma (Variable size) h = letter-lacks_comma 118 (group_bits size) (lit< tt)
+    (omega (arith, (size_small size).1))
+field_text-lacks_comma (SignedVariable size) h = letter-lacks_comma 115 (group_bits size) (lit< tt)
+    (omega (arith, (size_small size).1))
 field_text-lacks_comma (Padding n) h = letter-lacks_comma 112 n (lit< tt) h.1
 field_text-lacks_comma Align h = All-cons (λ b. (b == 44) ≡ false) 97 [] refl (All-nil (λ b. (b == 44) ≡ false))
 
@@ -65,13 +69,15 @@ field_of-field_text : (f : Field) → IsField f → field_of (field_text f) ≡ 
 field_of-field_text (Unsigned n) h = ap (option_map Unsigned) (spelt_number 1 128 n (omega arith) h.0 h.1)
 field_of-field_text (Signed n) h = ap (option_map Signed) (spelt_number 1 128 n (omega arith) h.0 h.1)
 field_of-field_text (Unary stop) h =
-    ap (option_map (λ (n : ℕ). Unary (n == 1))) (spelt_number 0 1 (digit_value stop) (omega arith) (omega arith) (bit_small stop)) ∙ ap Some (stop_back stop)
+    ap (option_map (λ (n : ℕ). Unary (n == 1))) (spelt_number 0 1 (digit_value stop) (omega arith) (omega arith)
+    (bit_small stop)) ∙ ap Some (stop_back stop)
 field_of-field_text (Variable size) h = ap (option_map Variable) (size_back size)
 field_of-field_text (SignedVariable size) h = ap (option_map SignedVariable) (size_back size)
 field_of-field_text (Padding n) h = ap (option_map Padding) (spelt_number 1 4096 n (omega arith) h.0 h.1)
 field_of-field_text Align h = refl
 
-segments-layout_text : (f : Field) (fs : List Field) → AllByRecursion IsField (f ∷ fs) → segments (layout_text (f ∷ fs)) ≡ map field_text (f ∷ fs)
+segments-layout_text : (f : Field) (fs : List Field) → AllByRecursion IsField (f ∷ fs) → segments (layout_text (f ∷ fs))
+    ≡ map field_text (f ∷ fs)
 segments-layout_text f [] h = slice_split_none (λ b. b == 44) (field_text f) (field_text-lacks_comma f h.0)
 segments-layout_text f (g ∷ fs) h =
     slice_split_at (λ b. b == 44) (field_text f) 44 (layout_text (g ∷ fs)) (field_text-lacks_comma f h.0) refl
@@ -98,7 +104,8 @@ abbrev pub IsSpelt : List ℕ → Field → Type 0
 IsSpelt segment f = IsField f × (field_text f ≡ segment)
 
 -- a number that is spelt is the one that is written
-number_spelt : {P : Type 0} (low high : ℕ) (rest : List ℕ) (o : Option ℕ) (make : ℕ → Field) (f : Field) → high ≤ 4096 → decimal_within low high rest ≡ o → option_map make o ≡ Some f
+number_spelt : {P : Type 0} (low high : ℕ) (rest : List ℕ) (o : Option ℕ) (make : ℕ → Field) (f : Field) → high ≤ 4096
+    → decimal_within low high rest ≡ o → option_map make o ≡ Some f
     → ((n : ℕ) → low ≤ n → n ≤ high → decimal n ≡ rest → make n ≡ f → P) → P
 number_spelt low high rest None make f top e h found = absurd (cc)
 number_spelt low high rest (Some n) make f top e h found =
@@ -111,7 +118,9 @@ stop_spelt zero h = refl
 stop_spelt (suc zero) h = refl
 stop_spelt (suc (suc n)) h = absurd (omega arith)
 
-size_by : (a b : Bool) (n : ℕ) (size : GroupSize) → (n == 4) ≡ a → (n == 8) ≡ b → (let r : Option GroupSize = if a then Some Four else if b then Some Eight else None in r) ≡ Some size → group_bits size ≡ n
+size_by : (a b : Bool) (n : ℕ) (size : GroupSize) → (n == 4) ≡ a → (n == 8) ≡ b
+    → (let r : Option GroupSize = if a then Some Four else if b then Some Eight else None in r) ≡ Some size
+    → group_bits size ≡ n
 size_by true b n size e d h =
     let same : Four ≡ size = cc in
     subst (λ (s : GroupSize). group_bits s ≡ n) same (sym (eqb-true n 4 e))
@@ -121,7 +130,8 @@ size_by false true n size e d h =
 size_by false false n size e d h = absurd (cc)
 
 -- a size of groups that is spelt is the one that is written
-size_spelt : {P : Type 0} (rest : List ℕ) (o : Option ℕ) (make : GroupSize → Field) (f : Field) → decimal_within 4 8 rest ≡ o → option_map make (group_size_of o) ≡ Some f
+size_spelt : {P : Type 0} (rest : List ℕ) (o : Option ℕ) (make : GroupSize → Field) (f : Field)
+    → decimal_within 4 8 rest ≡ o → option_map make (group_size_of o) ≡ Some f
     → ((size : GroupSize) → decimal (group_bits size) ≡ rest → make size ≡ f → P) → P
 size_spelt rest None make f e h found = absurd (cc)
 size_spelt {P = P} rest (Some n) make f e h found =
@@ -135,11 +145,13 @@ size_spelt {P = P} rest (Some n) make f e h found =
         found size (ap decimal (size_by (n == 4) (n == 8) n size refl refl is) ∙ written) same
 
 -- a letter, if it is this one, decides the field; else the letters that follow do
-by_letter : {P : Type 0} (is : Bool) (letter c : ℕ) (x y : Option Field) (f : Field) → (letter == c) ≡ is → (letter ≡ c → x ≡ Some f → P) → (y ≡ Some f → P) → (if is then x else y) ≡ Some f → P
+by_letter : {P : Type 0} (is : Bool) (letter c : ℕ) (x y : Option Field) (f : Field) → (letter == c) ≡ is
+    → (letter ≡ c → x ≡ Some f → P) → (y ≡ Some f → P) → (if is then x else y) ≡ Some f → P
 by_letter true letter c x y f e here others h = here (eqb-true letter c e) h
 by_letter false letter c x y f e here others h = others h
 
-align_spelt : (a : Bool) (letter : ℕ) (rest : List ℕ) (f : Field) → (letter == 97 && (length rest == 0)) ≡ a → (let r : Option Field = if a then Some Align else None in r) ≡ Some f → IsSpelt (letter ∷ rest) f
+align_spelt : (a : Bool) (letter : ℕ) (rest : List ℕ) (f : Field) → (letter == 97 && (length rest == 0)) ≡ a
+    → (let r : Option Field = if a then Some Align else None in r) ≡ Some f → IsSpelt (letter ∷ rest) f
 align_spelt true letter [] f e h =
     let is : letter ≡ 97 = grind (arith, common_steps) in
     let same : Align ≡ f = cc in
@@ -148,25 +160,37 @@ align_spelt true letter (b ∷ rest) f e h = absurd (grind (arith, common_steps)
 align_spelt false letter rest f e h = absurd (cc)
 
 -- a field that is in range, of this letter and this number
-written : (letter c : ℕ) (rest number : List ℕ) (g f : Field) → letter ≡ c → g ≡ f → IsField g → field_text g ≡ c ∷ number → number ≡ rest → IsSpelt (letter ∷ rest) f
+written : (letter c : ℕ) (rest number : List ℕ) (g f : Field) → letter ≡ c → g ≡ f → IsField g → field_text g
+    ≡ c ∷ number → number ≡ rest → IsSpelt (letter ∷ rest) f
 written letter c rest number g f is same range text spells =
     (subst IsField same range, ap field_text (sym same) ∙ text ∙ ap (λ t. c ∷ t) spells ∙ ap (λ l. l ∷ rest) (sym is))
 
 letter_spelt : (letter : ℕ) (rest : List ℕ) (f : Field) → field_after letter rest ≡ Some f → IsSpelt (letter ∷ rest) f
 letter_spelt letter rest f h =
     by_letter (letter == 117) letter 117 _ _ f refl
-    (λ is k. number_spelt 1 128 rest (decimal_within 1 128 rest) Unsigned f (omega arith) refl k (λ n some most spells same. written letter 117 rest (decimal n) (Unsigned n) f is same (some, most) refl spells))
+    (λ is k. number_spelt 1 128 rest (decimal_within 1 128 rest) Unsigned f (omega arith) refl k
+    (λ n some most spells same. written letter 117 rest (decimal n) (Unsigned n) f is same (
+      some,
+      most,
+    ) refl spells))
     (by_letter (letter == 105) letter 105 _ _ f refl
-    (λ is k. number_spelt 1 128 rest (decimal_within 1 128 rest) Signed f (omega arith) refl k (λ n some most spells same. written letter 105 rest (decimal n) (Signed n) f is same (some, most) refl spells))
+    (λ is k. number_spelt 1 128 rest (decimal_within 1 128 rest) Signed f (omega arith) refl k
+    (λ n some most spells same. written letter 105 rest (decimal n) (Signed n) f is same (some, most) refl spells))
     (by_letter (letter == 110) letter 110 _ _ f refl
     (λ is k. number_spelt 0 1 rest (decimal_within 0 1 rest) (λ n. Unary (n == 1)) f (omega arith) refl k
-    (λ n some most spells same. written letter 110 rest (decimal n) (Unary (n == 1)) f is same tt (ap (λ m. 110 ∷ decimal m) (stop_spelt n most)) spells))
+    (λ n some most spells same. written letter 110 rest (decimal n) (Unary (n == 1)) f is same tt
+    (ap (λ m. 110 ∷ decimal m) (stop_spelt n most)) spells))
     (by_letter (letter == 118) letter 118 _ _ f refl
-    (λ is k. size_spelt rest (decimal_within 4 8 rest) Variable f refl k (λ size spells same. written letter 118 rest (decimal (group_bits size)) (Variable size) f is same tt refl spells))
+    (λ is k. size_spelt rest (decimal_within 4 8 rest) Variable f refl k
+    (λ size spells same. written letter 118 rest (decimal (group_bits size)) (Variable size) f is same tt refl
+    spells))
     (by_letter (letter == 115) letter 115 _ _ f refl
-    (λ is k. size_spelt rest (decimal_within 4 8 rest) SignedVariable f refl k (λ size spells same. written letter 115 rest (decimal (group_bits size)) (SignedVariable size) f is same tt refl spells))
+    (λ is k. size_spelt rest (decimal_within 4 8 rest) SignedVariable f refl k
+    (λ size spells same. written letter 115 rest (decimal (group_bits size)) (SignedVariable size) f is same tt refl
+    spells))
     (by_letter (letter == 112) letter 112 _ _ f refl
-    (λ is k. number_spelt 1 4096 rest (decimal_within 1 4096 rest) Padding f (omega arith) refl k (λ n some most spells same. written letter 112 rest (decimal n) (Padding n) f is same (some, most) refl spells))
+    (λ is k. number_spelt 1 4096 rest (decimal_within 1 4096 rest) Padding f (omega arith) refl k
+    (λ n some most spells same. written letter 112 rest (decimal n) (Padding n) f is same (some, most) refl spells))
     (align_spelt (letter == 97 && (length rest == 0)) letter rest f refl)))))) h
 
 -- a field that is spelt is in range, and written as its segment
@@ -178,21 +202,29 @@ segment_spelt (letter ∷ rest) f h = letter_spelt letter rest f h
 abbrev AreSpelt : List (List ℕ) → List Field → Type 0
 AreSpelt parts fs = AllByRecursion IsField fs × (map field_text fs ≡ parts)
 
-field_spelt : (k : ℕ) (segment : List ℕ) (others : List (List ℕ)) (o : Option Field) (r : Result (List Field) Fault) (fs : List Field) → field_of segment ≡ o → ((gs : List Field) → r ≡ Ok gs → AreSpelt others gs) → field_and k o r ≡ Ok fs → AreSpelt (segment ∷ others) fs
+field_spelt : (k : ℕ) (segment : List ℕ) (others : List (List ℕ)) (o : Option Field)
+    (r : Result (List Field) Fault) (fs : List Field) → field_of segment ≡ o
+    → ((gs : List Field) → r ≡ Ok gs → AreSpelt others gs) → field_and k o r ≡ Ok fs → AreSpelt (segment ∷ others) fs
 field_spelt k segment others None r fs e more h = absurd (cc)
 field_spelt k segment others (Some f) (Err x) fs e more h = absurd (cc)
 field_spelt k segment others (Some f) (Ok gs) fs e more h =
     let same : f ∷ gs ≡ fs = cc in
     let first = segment_spelt segment f e in
     let rest = more gs refl in
-    subst (λ hs. AllByRecursion IsField hs × (map field_text hs ≡ segment ∷ others)) same ((first.0, rest.0), ap (λ t. t ∷ map field_text gs) first.1 ∙ ap (λ ts. segment ∷ ts) rest.1)
+    subst (λ hs. AllByRecursion IsField hs × (map field_text hs ≡ segment ∷ others)) same (
+      (first.0, rest.0),
+      ap (λ t. t ∷ map field_text gs) first.1 ∙ ap (λ ts. segment ∷ ts) rest.1,
+    )
 
 segments_spelt : (k : ℕ) (parts : List (List ℕ)) (fs : List Field) → fields_of k parts ≡ Ok fs → AreSpelt parts fs
-segments_spelt k [] fs h = (let same : [] ≡ fs = cc in subst (λ gs. AllByRecursion IsField gs × (map field_text gs ≡ [])) same (tt, refl))
+segments_spelt k [] fs h = (let same : [] ≡ fs = cc in
+    subst (λ gs. AllByRecursion IsField gs × (map field_text gs ≡ [])) same (tt, refl))
 segments_spelt k (segment ∷ others) fs h =
     field_spelt k segment others (field_of segment) (fields_of (k + 1) others) fs refl (segments_spelt (k + 1) others) h
 
-layout_spelt : (parts : List (List ℕ)) (many : Bool) (x : Fault) (fields : List Field) → nat_lt 256 (length parts) ≡ many → 0 < length parts → (if many then Err x else fields_of 1 parts) ≡ Ok fields → IsLayout fields × (map field_text fields ≡ parts)
+layout_spelt : (parts : List (List ℕ)) (many : Bool) (x : Fault) (fields : List Field) → nat_lt 256 (length parts)
+    ≡ many → 0 < length parts → (if many then Err x else fields_of 1 parts) ≡ Ok fields → IsLayout fields
+    × (map field_text fields ≡ parts)
 layout_spelt parts true x fields e some h = absurd (cc)
 layout_spelt parts false x fields e some h =
     let p = segments_spelt 1 parts fields h in
@@ -200,8 +232,10 @@ layout_spelt parts false x fields e some h =
     let few : length parts ≤ 256 = ltb-false 256 (length parts) e in
     (record { some = omega arith; few = omega arith; in_range = All-from_recursion IsField fields p.0 }, p.1)
 
-pub layout_text-layout_of : (text : List ℕ) (fields : List Field) → layout_of text ≡ Ok fields → IsLayout fields × (layout_text fields ≡ text)
+pub layout_text-layout_of : (text : List ℕ) (fields : List Field) → layout_of text ≡ Ok fields → IsLayout fields
+    × (layout_text fields ≡ text)
 layout_text-layout_of text fields h =
     let some : 0 < length (segments text) = rw (length-slice_split (λ b. b == 44) text) (omega arith) in
-    let p = layout_spelt (segments text) (nat_lt 256 (length (segments text))) (fault 0 TooManyFields) fields refl some h in
+    let p = layout_spelt (segments text) (nat_lt 256 (length (segments text))) (fault 0 TooManyFields) fields refl some
+    h in
     (p.0, ap (join_with_byte 44) p.1 ∙ join_with_byte-slice_split 44 text)

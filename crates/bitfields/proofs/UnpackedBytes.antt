@@ -20,31 +20,40 @@ use Rattle.bitfields.specs.Unpacking.{Unpacks, Stops, unpacked, read_reason, in_
 use Rattle.bitfields.proofs.UnpackingLemmas.{ComesTo, ComesTo-calls, ComesTo-reference_names}
 
 -- a new reader fetched the bytes that the bits taken reach into
-bytes_taken : (known : Option (List ℕ)) (reference_names : List GName) (n : ℕ) (gone : List ℕ) (t : ReaderState) → Demands t → Consumes known t.bytes gone → t.fetched ≡ 0 + length gone → t.taken ≡ 0 + n → TakesLeastBytes known gone t.taken t.bytes
+bytes_taken : (known : Option (List ℕ)) (reference_names : List GName) (n : ℕ) (gone : List ℕ) (t : ReaderState)
+    → Demands t → Consumes known t.bytes gone → t.fetched ≡ 0 + length gone → t.taken ≡ 0 + n
+    → TakesLeastBytes known gone t.taken t.bytes
 bytes_taken known reference_names n gone t demands loses fetched taken = record {
   loses = loses;
   least = (omega (arith, demands, fetched), omega (arith, demands, fetched));
 }
 
 -- what is said whatever follows a word, is said by the bytes that hold it
-told_by : {A : Type 0} (o : Order) (f : List Bool → A) (gone : List ℕ) (w rest : List Bool) (a : A) → [] ++ bits o gone ≡ w ++ rest → ((more : List Bool) → f (w ++ more) ≡ a) → f (bits o gone) ≡ a
+told_by : {A : Type 0} (o : Order) (f : List Bool → A) (gone : List ℕ) (w rest : List Bool) (a : A) → [] ++ bits o gone
+    ≡ w ++ rest → ((more : List Bool) → f (w ++ more) ≡ a) → f (bits o gone) ≡ a
 told_by o f gone w rest a parts says = ap f parts ∙ says rest
 
 -- and by these, whatever follows them
-told_whatever : {A : Type 0} (o : Order) (f : List Bool → A) (gone : List ℕ) (w rest : List Bool) (a : A) → [] ++ bits o gone ≡ w ++ rest → ((more : List Bool) → f (w ++ more) ≡ a)
+told_whatever : {A : Type 0} (o : Order) (f : List Bool → A) (gone : List ℕ) (w rest : List Bool) (a : A) → []
+    ++ bits o gone ≡ w ++ rest → ((more : List Bool) → f (w ++ more) ≡ a)
     → (more : List Bool) → f (bits o gone ++ more) ≡ a
-told_whatever o f gone w rest a parts says more = ap (λ (b : List Bool). f (b ++ more)) parts ∙ ap f (append_assoc w rest more) ∙ says (rest ++ more)
+told_whatever o f gone w rest a parts says more = ap (λ (b : List Bool). f (b ++ more)) parts
+    ∙ ap f (append_assoc w rest more) ∙ says (rest ++ more)
 
 -- the lines and faults of a new reader's calls, by the bytes of its stream
-abbrev pub UnpacksKnown : (Refusal → Type 0) → Order → List Field → Option (List ℕ) → Result (List ℕ) Fault → Option (List ℕ) → Type 0
+abbrev pub UnpacksKnown : (Refusal → Type 0) → Order → List Field → Option (List ℕ) → Result (List ℕ) Fault
+    → Option (List ℕ) → Type 0
 UnpacksKnown may o fields old result new = UnpacksBytes {R = Option (List ℕ)} (λ b. b) may o fields old result new
 
-UnpacksKnown-from : (o : Order) (may allowed : Refusal → Type 0) (fields : List Field) (known : Option (List ℕ)) (reference_names : List GName) (r : Result (List FieldValue) Fault) (t : ReaderState)
-    → ((x : Refusal) → may x → allowed x) → Demands t → ComesTo o may 1 fields (new_reader_state known reference_names) r t → UnpacksKnown allowed o fields known (in_lines r) t.bytes
+UnpacksKnown-from : (o : Order) (may allowed : Refusal → Type 0) (fields : List Field)
+    (known : Option (List ℕ)) (reference_names : List GName) (r : Result (List FieldValue) Fault) (t : ReaderState)
+    → ((x : Refusal) → may x → allowed x) → Demands t → ComesTo o may 1 fields (new_reader_state known reference_names)
+    r t → UnpacksKnown allowed o fields known (in_lines r) t.bytes
 UnpacksKnown-from o may allowed fields known reference_names (Ok vs) t is demands h = record {
   gone = h.took.gone;
   len = t.taken;
-  taken = bytes_taken known reference_names (length h.word) h.took.gone t demands h.took.loses h.took.fetched h.took.taken;
+  taken = bytes_taken known reference_names (length h.word) h.took.gone t demands h.took.loses h.took.fetched
+      h.took.taken;
   values = vs;
   says = told_whatever o (unpacked o 1 fields 0) h.took.gone h.word t.queue (Unpacks vs t.taken) h.took.parts h.says;
   prints = refl;
@@ -63,12 +72,14 @@ UnpacksKnown-from o may allowed fields known reference_names (Err f) t is demand
   reason = h.reason;
   gone = h.took.gone;
   len = t.taken;
-  taken = bytes_taken known reference_names (length h.word) h.took.gone t demands h.took.loses h.took.fetched h.took.taken;
+  taken = bytes_taken known reference_names (length h.word) h.took.gone t demands h.took.loses h.took.fetched
+      h.took.taken;
   values = h.values;
   at = h.at;
   before = told_by o (unpacked o 1 h.front 0) h.took.gone h.word t.queue (Unpacks h.values h.at) h.took.parts h.before;
   value = h.value;
-  says = told_by o (unpacked o 1 (h.front ++ h.here ∷ []) 0) h.took.gone h.word t.queue (Unpacks (h.values ++ h.value ∷ []) t.taken) h.took.parts h.says;
+  says = told_by o (unpacked o 1 (h.front ++ h.here ∷ []) 0) h.took.gone h.word t.queue
+      (Unpacks (h.values ++ h.value ∷ []) t.taken) h.took.parts h.says;
 }))
 UnpacksKnown-from o may allowed fields known reference_names (Err f) t is demands (inr (inr h)) = inr (inr (record {
   field = h.field;
@@ -80,44 +91,70 @@ UnpacksKnown-from o may allowed fields known reference_names (Err f) t is demand
   after = h.after;
   stops = h.stops;
   ended = λ end xs told.
-      h.ended end xs told ∙ ap Stops (sym (h.reason ∙ ap (λ (kind : ErrorKind). fault h.field (read_reason (read_refusal_of kind))) end.kind));
+      h.ended end xs told
+      ∙ ap Stops (sym (h.reason ∙ ap (λ (kind : ErrorKind). fault h.field (read_reason (read_refusal_of kind)))
+      end.kind));
 }))
 
 -- a refusal of a stream that is seen through another state is one of that stream
-pub MayRefuse-seen : {R S : Type 0} (f : S → R) (known : R → Option (List ℕ)) (refuses : R → ℕ → ErrorKind → R → Type 0) (x : Refusal) → MayRefuse (λ s. known (f s)) (λ s n kind t. refuses (f s) n kind (f t)) x → MayRefuse known refuses x
-MayRefuse-seen f known refuses x h = record { old = f h.old; new = f h.new; before = h.before; after = h.after; refused = h.refused }
+pub MayRefuse-seen : {R S : Type 0} (f : S → R) (known : R → Option (List ℕ)) (refuses : R → ℕ → ErrorKind → R
+    → Type 0) (x : Refusal) → MayRefuse (λ s. known (f s)) (λ s n kind t. refuses (f s) n kind (f t)) x
+    → MayRefuse known refuses x
+MayRefuse-seen f known refuses x h = record {
+  old = f h.old;
+  new = f h.new;
+  before = h.before;
+  after = h.after;
+  refused = h.refused;
+}
 
 -- what the calls of a new reader come to
-pub Unpacks-from : {R : Type 0} (K : BitSource R) (allowed : Refusal → Type 0) (fields : List Field) (known : Option (List ℕ)) (reference_names : List GName) (old new : R) (result : Result (List ℕ) Fault) → ((x : Refusal) → K.may x → allowed x)
-    → K.state old ≡ new_reader_state known reference_names → ReadsLines K fields old result new → UnpacksKnown allowed K.order fields known result (K.state new).bytes × ((K.state new).reference_names ≡ reference_names)
+pub Unpacks-from : {R : Type 0} (K : BitSource R) (allowed : Refusal → Type 0) (fields : List Field)
+    (known : Option (List ℕ)) (reference_names : List GName) (old new : R) (result : Result (List ℕ) Fault)
+    → ((x : Refusal) → K.may x → allowed x)
+    → K.state old ≡ new_reader_state known reference_names → ReadsLines K fields old result new
+    → UnpacksKnown allowed K.order fields known result (K.state new).bytes
+    × ((K.state new).reference_names ≡ reference_names)
 Unpacks-from K allowed fields known reference_names old new result is fresh h =
     let fine : (K.state old).failed ≡ false = ap (λ (s : ReaderState). s.failed) fresh in
     let comes = ComesTo-calls K 1 fields old h.answer new fine h.reads in
     let anew = subst (λ (s : ReaderState). ComesTo K.order K.may 1 fields s h.answer (K.state new)) fresh comes in (
-      subst (λ (r : Result (List ℕ) Fault). UnpacksKnown allowed K.order fields known r (K.state new).bytes) (sym h.prints) (UnpacksKnown-from K.order K.may allowed fields known reference_names h.answer (K.state new) is (K.demands new) anew),
-      ComesTo-reference_names K.order K.may 1 fields (new_reader_state known reference_names) h.answer (K.state new) anew,
+      subst (λ (r : Result (List ℕ) Fault). UnpacksKnown allowed K.order fields known r (K.state new).bytes)
+          (sym h.prints) (UnpacksKnown-from K.order K.may allowed fields known reference_names h.answer (K.state new) is
+          (K.demands new) anew),
+      ComesTo-reference_names K.order K.may 1 fields (new_reader_state known reference_names) h.answer (K.state new)
+          anew,
     )
 
-pub UnpacksBytes-exit : {R V : Type 0} (known : R → Option (List ℕ)) (may : Refusal → Type 0) (o : Order) (fields : List Field) (old new : R) (view : V → List ℕ) (r : Result V Fault) (f : Fault)
-    → IsErrAnd r (λ e. e ≡ f) → UnpacksBytes known may o fields old (Err f) new → UnpacksBytes known may o fields old (seen view r) new
+pub UnpacksBytes-exit : {R V : Type 0} (known : R → Option (List ℕ)) (may : Refusal → Type 0) (o : Order)
+    (fields : List Field) (old new : R) (view : V → List ℕ) (r : Result V Fault) (f : Fault)
+    → IsErrAnd r (λ e. e ≡ f) → UnpacksBytes known may o fields old (Err f) new
+    → UnpacksBytes known may o fields old (seen view r) new
 UnpacksBytes-exit known may o fields old new view (Ok v) f h k = absurd h
-UnpacksBytes-exit known may o fields old new view (Err e) f h k = subst (λ (x : Fault). UnpacksBytes known may o fields old (Err x) new) (sym h) k
+UnpacksBytes-exit known may o fields old new view (Err e) f h k =
+    subst (λ (x : Fault). UnpacksBytes known may o fields old (Err x) new) (sym h) k
 
 -- what the bytes taken say, whatever follows them, all bytes say
-said_by : {A : Type 0} (o : Order) (f : List Bool → A) (known after : Option (List ℕ)) (gone xs : List ℕ) (a : A) → Consumes known after gone → known ≡ Some xs → ((more : List Bool) → f (bits o gone ++ more) ≡ a) → f (bits o xs) ≡ a
+said_by : {A : Type 0} (o : Order) (f : List Bool → A) (known after : Option (List ℕ)) (gone xs : List ℕ) (a : A)
+    → Consumes known after gone → known ≡ Some xs → ((more : List Bool) → f (bits o gone ++ more) ≡ a) → f (bits o xs)
+    ≡ a
 said_by o f known after gone xs a loses told says =
     let rest = Consumes-known known after gone xs loses told in
     ap (λ (bytes : List ℕ). f (bits o bytes)) rest.2 ∙ ap f (bits-append o gone rest.0) ∙ says (bits o rest.0)
 
 -- over a source whose refusals are all true ends, a refusal is exactly that of the bits
-pub said : {R : Type 0} (known : R → Option (List ℕ)) (may : Refusal → Type 0) (o : Order) (fields : List Field) (old new : R) (result : Result (List ℕ) Fault) → UnpacksBytes known may o fields old result new → TrueEnds may
+pub said : {R : Type 0} (known : R → Option (List ℕ)) (may : Refusal → Type 0) (o : Order) (fields :
+    List Field) (old new : R) (result : Result (List ℕ) Fault) → UnpacksBytes known may o fields old result new
+    → TrueEnds may
     → (xs : List ℕ) → known old ≡ Some xs → IsSaid o fields xs result
 said known may o fields old new (Ok text) h ends xs told = record {
   values = h.values;
   len = h.len;
-  says = said_by o (unpacked o 1 fields 0) (known old) (known new) h.gone xs (Unpacks h.values h.len) h.taken.loses told h.says;
+  says = said_by o (unpacked o 1 fields 0) (known old) (known new) h.gone xs (Unpacks h.values h.len) h.taken.loses told
+      h.says;
   prints = h.prints;
 }
-said known may o fields old new (Err f) (inl h) ends xs told = inr (said_by o (unpacked o 1 fields 0) (known old) (known new) h.gone xs (Stops f) h.taken.loses told h.says)
+said known may o fields old new (Err f) (inl h) ends xs told =
+    inr (said_by o (unpacked o 1 fields 0) (known old) (known new) h.gone xs (Stops f) h.taken.loses told h.says)
 said known may o fields old new (Err f) (inr (inl h)) ends xs told = inl (ap (λ (why : Fault). why.reason) h.reason)
 said known may o fields old new (Err f) (inr (inr h)) ends xs told = inr (h.ended (ends h.refusal h.allowed) xs told)

@@ -24,7 +24,8 @@ use Rattle.bitfields.proofs.FieldCalls.{unpacked-first, unpacked-refused, unpack
 
 -- ---- the fields' calls, one behind the other
 
-behind-append : (us vs : List FieldValue) (r : Result (List FieldValue) Fault) → behind us (behind vs r) ≡ behind (us ++ vs) r
+behind-append : (us vs : List FieldValue) (r : Result (List FieldValue) Fault) → behind us (behind vs r)
+    ≡ behind (us ++ vs) r
 behind-append us vs (Ok ws) = ap Ok (sym (append_assoc us vs ws))
 behind-append us vs (Err f) = refl
 
@@ -33,52 +34,68 @@ behind-nil (Ok ws) = refl
 behind-nil (Err f) = refl
 
 -- what is made of the calls that are left is made of them all, behind the values that were read
-pub record Unpacking {R : Type 0} (K : BitSource R) (fields : List Field) (i : ℕ) (old : R) (text : List ℕ) (now : R) : Type 0 where
+pub record Unpacking {R : Type 0} (K : BitSource R) (fields : List Field) (i : ℕ) (old : R) (text : List ℕ) (now : R) :
+    Type 0 where
   pub values : List FieldValue
   pub prints : text ≡ printed_lines values
-  pub remains : (r : Result (List FieldValue) Fault) (new : R) → ReadsFields K (i + 1) (drop i fields) now r new → ReadsFields K 1 fields old (behind values r) new
+  pub remains : (r : Result (List FieldValue) Fault) (new : R) → ReadsFields K (i + 1) (drop i fields) now r new
+      → ReadsFields K 1 fields old (behind values r) new
 
-pub Unpacking-start : {R : Type 0} (K : BitSource R) (fields : List Field) (s : R) (text : List ℕ) → text ≡ [] → Unpacking K fields 0 s text s
+pub Unpacking-start : {R : Type 0} (K : BitSource R) (fields : List Field) (s : R) (text : List ℕ) → text ≡ []
+    → Unpacking K fields 0 s text s
 Unpacking-start K fields s text none = record {
   values = [];
   prints = none;
-  remains = λ r new h. subst (λ (x : Result (List FieldValue) Fault). ReadsFields K 1 fields s x new) (sym (behind-nil r)) h;
+  remains = λ r new h. subst (λ (x : Result (List FieldValue) Fault). ReadsFields K 1 fields s x new)
+      (sym (behind-nil r)) h;
 }
 
 -- the calls of the fields that are left, by the next of them
-remaining : {R : Type 0} (K : BitSource R) (fields : List Field) (i : ℕ) (d : Field) (old : R) (text : List ℕ) (now : R) → i < length fields → (known : Unpacking K fields i old text now)
-    → (r : Result (List FieldValue) Fault) (new : R) → ReadsFields K (i + 1) (get_or fields i d ∷ drop (i + 1) fields) now r new → ReadsFields K 1 fields old (behind known.values r) new
+remaining : {R : Type 0} (K : BitSource R) (fields : List Field) (i : ℕ) (d : Field) (old : R) (text : List ℕ) (now : R)
+    → i < length fields → (known : Unpacking K fields i old text now)
+    → (r : Result (List FieldValue) Fault) (new : R) → ReadsFields K (i + 1) (get_or fields i d ∷ drop (i + 1) fields)
+    now r new → ReadsFields K 1 fields old (behind known.values r) new
 remaining K fields i d old text now h known r new calls =
     let cut : drop i fields ≡ get_or fields i d ∷ drop (i + 1) fields = rw add-one (drop-cons fields i d h) in
     known.remains r new (subst (λ (fs : List Field). ReadsFields K (i + 1) fs now r new) (sym cut) calls)
 
-pub Unpacking-more : {R : Type 0} (K : BitSource R) (fields : List Field) (i : ℕ) (d : Field) (old now new : R) (text more : List ℕ) (v : Option FieldValue) → i < length fields → Unpacking K fields i old text now
-    → Reads K (field_read K.order (get_or fields i d)) now (Ok v) new → more ≡ text ++ printed_lines (value_list v) → Unpacking K fields (i + 1) old more new
+pub Unpacking-more : {R : Type 0} (K : BitSource R) (fields : List Field) (i : ℕ) (d : Field) (old now new :
+    R) (text more : List ℕ) (v : Option FieldValue) → i < length fields → Unpacking K fields i old text now
+    → Reads K (field_read K.order (get_or fields i d)) now (Ok v) new → more ≡ text ++ printed_lines (value_list v)
+    → Unpacking K fields (i + 1) old more new
 unfolding ReadsFields
 Unpacking-more K fields i d old now new text more v h known reads printed = record {
   values = known.values ++ value_list v;
-  prints = printed ∙ ap (λ (bs : List ℕ). bs ++ printed_lines (value_list v)) known.prints ∙ sym (flat_map-append printed_line known.values (value_list v));
+  prints = printed ∙ ap (λ (bs : List ℕ). bs ++ printed_lines (value_list v)) known.prints
+      ∙ sym (flat_map-append printed_line known.values (value_list v));
   remains = λ r z rest.
-      subst (λ (x : Result (List FieldValue) Fault). ReadsFields K 1 fields old x z) (behind-append known.values (value_list v) r)
-      (remaining K fields i d old text now h known (behind (value_list v) r) z (inr (inr (v, new, r, reads, rest, refl))));
+      subst (λ (x : Result (List FieldValue) Fault). ReadsFields K 1 fields old x z)
+      (behind-append known.values (value_list v) r)
+      (remaining K fields i d old text now h known (behind (value_list v) r) z
+      (inr (inr (v, new, r, reads, rest, refl))));
 }
 
-pub Unpacking-end : {R : Type 0} (K : BitSource R) (fields : List Field) (i : ℕ) (old now : R) (text : List ℕ) → length fields ≤ i → Unpacking K fields i old text now → ReadsLines K fields old (Ok text) now
+pub Unpacking-end : {R : Type 0} (K : BitSource R) (fields : List Field) (i : ℕ) (old now : R) (text : List ℕ)
+    → length fields ≤ i → Unpacking K fields i old text now → ReadsLines K fields old (Ok text) now
 unfolding ReadsFields
 Unpacking-end {R} K fields i old now text end known =
     let none : ReadsFields K (i + 1) [] now (Ok []) now = (refl, refl) in
     record {
       answer = behind known.values (Ok []);
-      reads = known.remains (Ok []) now (subst (λ (fs : List Field). ReadsFields K (i + 1) fs now (Ok []) now) (sym (drop_all i fields end)) none);
+      reads = known.remains (Ok []) now (subst (λ (fs : List Field). ReadsFields K (i + 1) fs now (Ok []) now)
+          (sym (drop_all i fields end)) none);
       prints = ap Ok (known.prints ∙ ap printed_lines (sym (append-nil known.values)));
     }
 
-pub Unpacking-err : {R : Type 0} (K : BitSource R) (fields : List Field) (i : ℕ) (d : Field) (old now new : R) (text : List ℕ) (x : Error) (f : Fault) → i < length fields → Unpacking K fields i old text now
-    → Reads K (field_read K.order (get_or fields i d)) now (Err x) new → f ≡ fault (i + 1) (read_reason x) → ReadsLines K fields old (Err f) new
+pub Unpacking-err : {R : Type 0} (K : BitSource R) (fields : List Field) (i : ℕ) (d : Field) (old now new : R)
+    (text : List ℕ) (x : Error) (f : Fault) → i < length fields → Unpacking K fields i old text now
+    → Reads K (field_read K.order (get_or fields i d)) now (Err x) new → f ≡ fault (i + 1) (read_reason x)
+    → ReadsLines K fields old (Err f) new
 unfolding ReadsFields
 Unpacking-err K fields i d old now new text x f h known reads is = record {
   answer = Err f;
-  reads = remaining K fields i d old text now h known (Err f) new (inr (inl (record { error = x; reads = reads; answer = ap Err is })));
+  reads = remaining K fields i d old text now h known (Err f) new
+      (inr (inl (record { error = x; reads = reads; answer = ap Err is })));
   prints = refl;
 }
 
@@ -86,8 +103,10 @@ some_of : (v : Option FieldValue) → IsSome v → (u : FieldValue) × (v ≡ So
 some_of (Some u) h = (u, refl)
 some_of None h = absurd (cc)
 
-pub Unpacking-memory_refused : {R : Type 0} (K : BitSource R) (fields : List Field) (i : ℕ) (d : Field) (old now new : R) (text : List ℕ) (v : Option FieldValue) (f : Fault) → i < length fields → Unpacking K fields i old text now
-    → Reads K (field_read K.order (get_or fields i d)) now (Ok v) new → IsSome v → f ≡ fault (i + 1) OutOfMemory → ReadsLines K fields old (Err f) new
+pub Unpacking-memory_refused : {R : Type 0} (K : BitSource R) (fields : List Field) (i : ℕ) (d : Field) (old now new :
+    R) (text : List ℕ) (v : Option FieldValue) (f : Fault) → i < length fields → Unpacking K fields i old text now
+    → Reads K (field_read K.order (get_or fields i d)) now (Ok v) new → IsSome v → f ≡ fault (i + 1) OutOfMemory
+    → ReadsLines K fields old (Err f) new
 unfolding ReadsFields
 Unpacking-memory_refused K fields i d old now new text v f h known reads some is =
     let u = some_of v some in
@@ -95,7 +114,8 @@ Unpacking-memory_refused K fields i d old now new text v f h known reads some is
       answer = Err f;
       reads = remaining K fields i d old text now h known (Err f) new (inl (record {
         value = u.0;
-        reads = subst (λ (u : Option FieldValue). Reads K (field_read K.order (get_or fields i d)) now (Ok u) new) u.1 reads;
+        reads = subst (λ (u : Option FieldValue). Reads K (field_read K.order (get_or fields i d)) now (Ok u) new) u.1
+            reads;
         answer = ap Err is;
       }));
       prints = refl;
@@ -104,21 +124,26 @@ Unpacking-memory_refused K fields i d old now new text v f h known reads some is
 -- ---- what the calls come to
 
 -- the bits held before and those of the bytes fetched, by a word and the bits held behind it
-held_parts : (o : Order) (a b u : List Bool) (g h : List ℕ) → a ++ bits o g ≡ u ++ b → a ++ bits o (g ++ h) ≡ u ++ (b ++ bits o h)
+held_parts : (o : Order) (a b u : List Bool) (g h : List ℕ) → a ++ bits o g ≡ u ++ b → a ++ bits o (g ++ h) ≡ u
+    ++ (b ++ bits o h)
 held_parts o a b u g h p =
-    ap (λ (w : List Bool). a ++ w) (bits-append o g h) ∙ sym (append_assoc a (bits o g) (bits o h)) ∙ ap (λ (w : List Bool). w ++ bits o h) p ∙ append_assoc u b (bits o h)
+    ap (λ (w : List Bool). a ++ w) (bits-append o g h) ∙ sym (append_assoc a (bits o g) (bits o h))
+    ∙ ap (λ (w : List Bool). w ++ bits o h) p ∙ append_assoc u b (bits o h)
 
-first_parts : {A : Type 0} (o : Order) (e : ReadEntry A) (v : A) (s t : ReaderState) (h : ReadDone o e s (Ok v) t) → s.queue ++ bits o h.gone ≡ h.word ++ t.queue
+first_parts : {A : Type 0} (o : Order) (e : ReadEntry A) (v : A) (s t : ReaderState) (h : ReadDone o e s (Ok v) t)
+    → s.queue ++ bits o h.gone ≡ h.word ++ t.queue
 first_parts o e v s t h = h.parts ∙ ap (λ (w : List Bool). h.word ++ w) (sym h.queue)
 
 -- the calls of all fields answered, and took this word
-pub record TookFields (o : Order) (k : ℕ) (fields : List Field) (old : ReaderState) (vs : List FieldValue) (new : ReaderState) : Type 0 where
+pub record TookFields (o : Order) (k : ℕ) (fields : List Field) (old : ReaderState) (vs : List FieldValue)
+    (new : ReaderState) : Type 0 where
   pub word : List Bool
   pub took : Took o old word new
   pub says : (more : List Bool) → unpacked o k fields old.taken (word ++ more) ≡ Unpacks vs new.taken
 
 -- a call answered an error, and this word was taken until then
-pub record ToldFields (o : Order) (k : ℕ) (fields : List Field) (old : ReaderState) (f : Fault) (new : ReaderState) : Type 0 where
+pub record ToldFields (o : Order) (k : ℕ) (fields : List Field) (old : ReaderState) (f : Fault) (new : ReaderState) :
+    Type 0 where
   pub word : List Bool
   pub gone : List ℕ
   pub loses : Consumes old.bytes new.bytes gone
@@ -130,7 +155,8 @@ pub record ToldFields (o : Order) (k : ℕ) (fields : List Field) (old : ReaderS
   pub says : (more : List Bool) → unpacked o k fields old.taken (word ++ more) ≡ Stops f
 
 -- the calls of the first fields answered, and no memory was left for the line of the last of them
-pub record MemoryRefusedFields (o : Order) (k : ℕ) (fields : List Field) (old : ReaderState) (f : Fault) (new : ReaderState) : Type 0 where
+pub record MemoryRefusedFields (o : Order) (k : ℕ) (fields : List Field) (old : ReaderState) (f : Fault)
+    (new : ReaderState) : Type 0 where
   pub front : List Field
   pub here : Field
   pub back : List Field
@@ -142,10 +168,12 @@ pub record MemoryRefusedFields (o : Order) (k : ℕ) (fields : List Field) (old 
   pub at : ℕ
   pub before : (more : List Bool) → unpacked o k front old.taken (word ++ more) ≡ Unpacks values at
   pub value : FieldValue
-  pub says : (more : List Bool) → unpacked o k (front ++ here ∷ []) old.taken (word ++ more) ≡ Unpacks (values ++ value ∷ []) new.taken
+  pub says : (more : List Bool) → unpacked o k (front ++ here ∷ []) old.taken (word ++ more)
+      ≡ Unpacks (values ++ value ∷ []) new.taken
 
 -- a request was refused for a field
-pub record UnpackingRefusedFields (o : Order) (may : Refusal → Type 0) (k : ℕ) (fields : List Field) (old : ReaderState) (f : Fault) (new : ReaderState) : Type 0 where
+pub record UnpackingRefusedFields (o : Order) (may : Refusal → Type 0) (k : ℕ) (fields : List Field)
+    (old : ReaderState) (f : Fault) (new : ReaderState) : Type 0 where
   pub field : ℕ
   pub refusal : Refusal
   pub allowed : may refusal
@@ -156,45 +184,60 @@ pub record UnpackingRefusedFields (o : Order) (may : Refusal → Type 0) (k : �
   pub fetched : new.fetched ≡ old.fetched + length gone
   pub reference_names : new.reference_names ≡ old.reference_names
   pub stops : unpacked o k fields old.taken (old.queue ++ bits o gone) ≡ Stops (fault field BitsEnded)
-  pub ended : IsTrueEnd refusal → (xs : List ℕ) → old.bytes ≡ Some xs → unpacked o k fields old.taken (old.queue ++ bits o xs) ≡ Stops (fault field BitsEnded)
+  pub ended : IsTrueEnd refusal → (xs : List ℕ) → old.bytes ≡ Some xs
+      → unpacked o k fields old.taken (old.queue ++ bits o xs) ≡ Stops (fault field BitsEnded)
 
-abbrev pub ComesTo : Order → (Refusal → Type 0) → ℕ → List Field → ReaderState → Result (List FieldValue) Fault → ReaderState → Type 0
+abbrev pub ComesTo : Order → (Refusal → Type 0) → ℕ → List Field → ReaderState → Result (List FieldValue) Fault
+    → ReaderState → Type 0
 ComesTo o may k fields old (Ok vs) new = TookFields o k fields old vs new
-ComesTo o may k fields old (Err f) new = ToldFields o k fields old f new ⊎ MemoryRefusedFields o k fields old f new ⊎ UnpackingRefusedFields o may k fields old f new
+ComesTo o may k fields old (Err f) new = ToldFields o k fields old f new ⊎ MemoryRefusedFields o k fields old f new
+    ⊎ UnpackingRefusedFields o may k fields old f new
 
-pub ComesTo-reference_names : (o : Order) (may : Refusal → Type 0) (k : ℕ) (fields : List Field) (old : ReaderState) (r : Result (List FieldValue) Fault) (new : ReaderState) → ComesTo o may k fields old r new → new.reference_names ≡ old.reference_names
+pub ComesTo-reference_names : (o : Order) (may : Refusal → Type 0) (k : ℕ) (fields : List Field)
+    (old : ReaderState) (r : Result (List FieldValue) Fault) (new : ReaderState) → ComesTo o may k fields old r new
+    → new.reference_names ≡ old.reference_names
 ComesTo-reference_names o may k fields old (Ok vs) new h = h.took.reference_names
 ComesTo-reference_names o may k fields old (Err f) new (inl h) = h.reference_names
 ComesTo-reference_names o may k fields old (Err f) new (inr (inl h)) = h.took.reference_names
 ComesTo-reference_names o may k fields old (Err f) new (inr (inr h)) = h.reference_names
 
 -- the first field's word, and what follows it
-first_then : (o : Order) (k : ℕ) (f : Field) (fs : List Field) (v : Option FieldValue) (s t : ReaderState) (h : ReadDone o (field_read o f) s (Ok v) t) (more : List Bool)
+first_then : (o : Order) (k : ℕ) (f : Field) (fs : List Field) (v : Option FieldValue) (s t : ReaderState)
+    (h : ReadDone o (field_read o f) s (Ok v) t) (more : List Bool)
     → unpacked o k (f ∷ fs) s.taken (h.word ++ more) ≡ values_and (value_list v) (unpacked o (k + 1) fs t.taken more)
 first_then o k f fs v s t h more =
-    unpacked-first o k f fs s.taken h.word more v (h.decides more) ∙ ap (λ (p : ℕ). values_and (value_list v) (unpacked o (k + 1) fs p more)) (sym h.taken)
+    unpacked-first o k f fs s.taken h.word more v (h.decides more)
+    ∙ ap (λ (p : ℕ). values_and (value_list v) (unpacked o (k + 1) fs p more)) (sym h.taken)
 
 -- and what follows behind another word
-word_then : (o : Order) (k : ℕ) (f : Field) (fs : List Field) (v : Option FieldValue) (s t : ReaderState) (h : ReadDone o (field_read o f) s (Ok v) t) (w : List Bool) (r : Unpacked)
-    → ((more : List Bool) → unpacked o (k + 1) fs t.taken (w ++ more) ≡ r) → (more : List Bool) → unpacked o k (f ∷ fs) s.taken ((h.word ++ w) ++ more) ≡ values_and (value_list v) r
+word_then : (o : Order) (k : ℕ) (f : Field) (fs : List Field) (v : Option FieldValue) (s t : ReaderState)
+    (h : ReadDone o (field_read o f) s (Ok v) t) (w : List Bool) (r : Unpacked)
+    → ((more : List Bool) → unpacked o (k + 1) fs t.taken (w ++ more) ≡ r) → (more : List Bool)
+    → unpacked o k (f ∷ fs) s.taken ((h.word ++ w) ++ more) ≡ values_and (value_list v) r
 word_then o k f fs v s t h w r says more =
-    ap (unpacked o k (f ∷ fs) s.taken) (append_assoc h.word w more) ∙ first_then o k f fs v s t h (w ++ more) ∙ ap (values_and (value_list v)) (says more)
+    ap (unpacked o k (f ∷ fs) s.taken) (append_assoc h.word w more) ∙ first_then o k f fs v s t h (w ++ more)
+    ∙ ap (values_and (value_list v)) (says more)
 
-ToldFields-later : (o : Order) (k : ℕ) (f : Field) (fs : List Field) (v : Option FieldValue) (why : Fault) (s t z : ReaderState) → ReadDone o (field_read o f) s (Ok v) t → ToldFields o (k + 1) fs t why z → ToldFields o k (f ∷ fs) s why z
+ToldFields-later : (o : Order) (k : ℕ) (f : Field) (fs : List Field) (v : Option FieldValue) (why : Fault)
+    (s t z : ReaderState) → ReadDone o (field_read o f) s (Ok v) t → ToldFields o (k + 1) fs t why z
+    → ToldFields o k (f ∷ fs) s why z
 ToldFields-later o k f fs v why s t z h x =
     record {
       word = h.word ++ x.word;
       gone = h.gone ++ x.gone;
       loses = Consumes-trans s.bytes t.bytes z.bytes h.gone x.gone h.loses x.loses;
       rest = x.rest;
-      parts = held_parts o s.queue t.queue h.word h.gone x.gone (first_parts o (field_read o f) v s t h) ∙ ap (λ (w : List Bool). h.word ++ w) x.parts ∙ sym (append_assoc h.word x.word x.rest);
+      parts = held_parts o s.queue t.queue h.word h.gone x.gone (first_parts o (field_read o f) v s t h)
+          ∙ ap (λ (w : List Bool). h.word ++ w) x.parts ∙ sym (append_assoc h.word x.word x.rest);
       fetched = omega (arith, h.fetched, x.fetched, length-append h.gone x.gone);
       taken = omega (arith, h.taken, x.taken, length-append h.word x.word);
       reference_names = x.reference_names ∙ h.reference_names;
       says = word_then o k f fs v s t h x.word (Stops why) x.says;
     }
 
-MemoryRefusedFields-later : (o : Order) (k : ℕ) (f : Field) (fs : List Field) (v : Option FieldValue) (why : Fault) (s t z : ReaderState) → ReadDone o (field_read o f) s (Ok v) t → MemoryRefusedFields o (k + 1) fs t why z → MemoryRefusedFields o k (f ∷ fs) s why z
+MemoryRefusedFields-later : (o : Order) (k : ℕ) (f : Field) (fs : List Field) (v : Option FieldValue) (why :
+    Fault) (s t z : ReaderState) → ReadDone o (field_read o f) s (Ok v) t → MemoryRefusedFields o (k + 1) fs t why z
+    → MemoryRefusedFields o k (f ∷ fs) s why z
 MemoryRefusedFields-later o k f fs v why s t z h x =
     let place : k + 1 + length x.front ≡ k + length (f ∷ x.front) = omega arith in
     record {
@@ -210,11 +253,14 @@ MemoryRefusedFields-later o k f fs v why s t z h x =
       before = word_then o k f x.front v s t h x.word (Unpacks x.values x.at) x.before;
       value = x.value;
       says = λ more.
-          word_then o k f (x.front ++ x.here ∷ []) v s t h x.word (Unpacks (x.values ++ x.value ∷ []) z.taken) x.says more
-          ∙ ap (λ (us : List FieldValue). Unpacks us z.taken) (sym (append_assoc (value_list v) x.values (x.value ∷ [])));
+          word_then o k f (x.front ++ x.here ∷ []) v s t h x.word (Unpacks (x.values ++ x.value ∷ []) z.taken) x.says
+          more
+          ∙ ap (λ (us : List FieldValue). Unpacks us z.taken)
+          (sym (append_assoc (value_list v) x.values (x.value ∷ [])));
     }
 
-UnpackingRefusedFields-later : (o : Order) (may : Refusal → Type 0) (k : ℕ) (f : Field) (fs : List Field) (v : Option FieldValue) (why : Fault) (s t z : ReaderState) → ReadDone o (field_read o f) s (Ok v) t
+UnpackingRefusedFields-later : (o : Order) (may : Refusal → Type 0) (k : ℕ) (f : Field) (fs : List Field)
+    (v : Option FieldValue) (why : Fault) (s t z : ReaderState) → ReadDone o (field_read o f) s (Ok v) t
     → UnpackingRefusedFields o may (k + 1) fs t why z → UnpackingRefusedFields o may k (f ∷ fs) s why z
 UnpackingRefusedFields-later o may k f fs v why s t z h x =
     let first = took o (field_read o f) v s t h in
@@ -229,14 +275,17 @@ UnpackingRefusedFields-later o may k f fs v why s t z h x =
       after = x.after;
       fetched = omega (arith, h.fetched, x.fetched, length-append h.gone x.gone);
       reference_names = x.reference_names ∙ h.reference_names;
-      stops = ap (unpacked o k (f ∷ fs) s.taken) whole ∙ first_then o k f fs v s t h (t.queue ++ bits o x.gone) ∙ ap (values_and (value_list v)) x.stops;
+      stops = ap (unpacked o k (f ∷ fs) s.taken) whole ∙ first_then o k f fs v s t h (t.queue ++ bits o x.gone)
+          ∙ ap (values_and (value_list v)) x.stops;
       ended = λ end xs known.
           let left = Took-left o h.word s t first xs known in
-          ap (unpacked o k (f ∷ fs) s.taken) left.2 ∙ first_then o k f fs v s t h (t.queue ++ bits o left.0) ∙ ap (values_and (value_list v)) (x.ended end left.0 left.1);
+          ap (unpacked o k (f ∷ fs) s.taken) left.2 ∙ first_then o k f fs v s t h (t.queue ++ bits o left.0)
+          ∙ ap (values_and (value_list v)) (x.ended end left.0 left.1);
     }
 
 -- what follows a field that answered
-ComesTo-later : (o : Order) (may : Refusal → Type 0) (k : ℕ) (f : Field) (fs : List Field) (v : Option FieldValue) (r : Result (List FieldValue) Fault) (s t z : ReaderState) → ReadDone o (field_read o f) s (Ok v) t
+ComesTo-later : (o : Order) (may : Refusal → Type 0) (k : ℕ) (f : Field) (fs : List Field) (v : Option FieldValue)
+    (r : Result (List FieldValue) Fault) (s t z : ReaderState) → ReadDone o (field_read o f) s (Ok v) t
     → ComesTo o may (k + 1) fs t r z → ComesTo o may k (f ∷ fs) s (behind (value_list v) r) z
 ComesTo-later o may k f fs v (Ok ws) s t z h x = record {
   word = h.word ++ x.word;
@@ -244,11 +293,14 @@ ComesTo-later o may k f fs v (Ok ws) s t z h x = record {
   says = word_then o k f fs v s t h x.word (Unpacks ws z.taken) x.says;
 }
 ComesTo-later o may k f fs v (Err why) s t z h (inl x) = inl (ToldFields-later o k f fs v why s t z h x)
-ComesTo-later o may k f fs v (Err why) s t z h (inr (inl x)) = inr (inl (MemoryRefusedFields-later o k f fs v why s t z h x))
-ComesTo-later o may k f fs v (Err why) s t z h (inr (inr x)) = inr (inr (UnpackingRefusedFields-later o may k f fs v why s t z h x))
+ComesTo-later o may k f fs v (Err why) s t z h (inr (inl x)) =
+    inr (inl (MemoryRefusedFields-later o k f fs v why s t z h x))
+ComesTo-later o may k f fs v (Err why) s t z h (inr (inr x)) =
+    inr (inr (UnpackingRefusedFields-later o may k f fs v why s t z h x))
 
 -- a field answered an error
-ToldFields-here : (o : Order) (k : ℕ) (f : Field) (fs : List Field) (x : Error) (s t : ReaderState) → ReadDone o (field_read o f) s (Err x) t → ToldFields o k (f ∷ fs) s (fault k (read_reason x)) t
+ToldFields-here : (o : Order) (k : ℕ) (f : Field) (fs : List Field) (x : Error) (s t : ReaderState)
+    → ReadDone o (field_read o f) s (Err x) t → ToldFields o k (f ∷ fs) s (fault k (read_reason x)) t
 ToldFields-here o k f fs x s t h = record {
   word = h.word;
   gone = h.gone;
@@ -262,7 +314,9 @@ ToldFields-here o k f fs x s t h = record {
 }
 
 -- a field's call faulted
-UnpackingRefusedFields-here : (o : Order) (may : Refusal → Type 0) (k : ℕ) (f : Field) (fs : List Field) (x : Error) (s t : ReaderState) → ReadRefused o may (field_read o f) s (Err x) t → UnpackingRefusedFields o may k (f ∷ fs) s (fault k (read_reason x)) t
+UnpackingRefusedFields-here : (o : Order) (may : Refusal → Type 0) (k : ℕ) (f : Field) (fs : List Field)
+    (x : Error) (s t : ReaderState) → ReadRefused o may (field_read o f) s (Err x) t
+    → UnpackingRefusedFields o may k (f ∷ fs) s (fault k (read_reason x)) t
 UnpackingRefusedFields-here o may k f fs x s t h =
     let same : x ≡ read_refusal_of h.refusal.kind = (let a = h.answer in cc) in
     record {
@@ -280,7 +334,8 @@ UnpackingRefusedFields-here o may k f fs x s t h =
     }
 
 -- no memory was left for a field's line
-MemoryRefusedFields-here : (o : Order) (k : ℕ) (f : Field) (fs : List Field) (v : FieldValue) (s t : ReaderState) → ReadDone o (field_read o f) s (Ok (Some v)) t → MemoryRefusedFields o k (f ∷ fs) s (fault k OutOfMemory) t
+MemoryRefusedFields-here : (o : Order) (k : ℕ) (f : Field) (fs : List Field) (v : FieldValue) (s t : ReaderState)
+    → ReadDone o (field_read o f) s (Ok (Some v)) t → MemoryRefusedFields o k (f ∷ fs) s (fault k OutOfMemory) t
 MemoryRefusedFields-here o k f fs v s t h =
     let place : k ≡ k + 0 = omega arith in
     record {
@@ -298,43 +353,57 @@ MemoryRefusedFields-here o k f fs v s t h =
       says = first_then o k f [] (Some v) s t h;
     }
 
-ComesTo-none : (o : Order) (may : Refusal → Type 0) (k : ℕ) (s : ReaderState) → s.failed ≡ false → ComesTo o may k [] s (Ok []) s
+ComesTo-none : (o : Order) (may : Refusal → Type 0) (k : ℕ) (s : ReaderState) → s.failed ≡ false
+    → ComesTo o may k [] s (Ok []) s
 ComesTo-none o may k s fine = record { word = []; took = Took-nil o s fine; says = λ more. refl }
 
 -- one call, and what the others come to
-memory_refused_here : {R : Type 0} (K : BitSource R) (k : ℕ) (f : Field) (fs : List Field) (v : FieldValue) (old new : R) → (K.state old).failed ≡ false → Reads K (field_read K.order f) old (Ok (Some v)) new
+memory_refused_here : {R : Type 0} (K : BitSource R) (k : ℕ) (f : Field) (fs : List Field) (v : FieldValue)
+    (old new : R) → (K.state old).failed ≡ false → Reads K (field_read K.order f) old (Ok (Some v)) new
     → ComesTo K.order K.may k (f ∷ fs) (K.state old) (Err (fault k OutOfMemory)) (K.state new)
 memory_refused_here K k f fs v old new fine (had_failed x) = absurd (let failed = x.failed in cc)
-memory_refused_here K k f fs v old new fine (was_done x) = inr (inl (MemoryRefusedFields-here K.order k f fs v (K.state old) (K.state new) x))
+memory_refused_here K k f fs v old new fine (was_done x) =
+    inr (inl (MemoryRefusedFields-here K.order k f fs v (K.state old) (K.state new) x))
 memory_refused_here K k f fs v old new fine (was_refused x) = absurd (let a = x.answer in cc)
 memory_refused_here K k f fs v old new fine (memory_refused grows x) = absurd (cc)
 
-refused_here : {R : Type 0} (K : BitSource R) (k : ℕ) (f : Field) (fs : List Field) (e : Error) (old new : R) → (K.state old).failed ≡ false → Reads K (field_read K.order f) old (Err e) new
+refused_here : {R : Type 0} (K : BitSource R) (k : ℕ) (f : Field) (fs : List Field) (e : Error) (old new : R)
+    → (K.state old).failed ≡ false → Reads K (field_read K.order f) old (Err e) new
     → ComesTo K.order K.may k (f ∷ fs) (K.state old) (Err (fault k (read_reason e))) (K.state new)
 refused_here K k f fs e old new fine (had_failed x) = absurd (let failed = x.failed in cc)
 refused_here K k f fs e old new fine (was_done x) = inl (ToldFields-here K.order k f fs e (K.state old) (K.state new) x)
-refused_here K k f fs e old new fine (was_refused x) = inr (inr (UnpackingRefusedFields-here K.order K.may k f fs e (K.state old) (K.state new) x))
+refused_here K k f fs e old new fine (was_refused x) =
+    inr (inr (UnpackingRefusedFields-here K.order K.may k f fs e (K.state old) (K.state new) x))
 refused_here K k f fs e old new fine (memory_refused grows x) = absurd (cc)
 
-answered_here : {R : Type 0} (K : BitSource R) (k : ℕ) (f : Field) (fs : List Field) (v : Option FieldValue) (rest : Result (List FieldValue) Fault) (old mid new : R) → (K.state old).failed ≡ false
-    → Reads K (field_read K.order f) old (Ok v) mid → ((K.state mid).failed ≡ false → ComesTo K.order K.may (k + 1) fs (K.state mid) rest (K.state new))
+answered_here : {R : Type 0} (K : BitSource R) (k : ℕ) (f : Field) (fs : List Field) (v : Option FieldValue)
+    (rest : Result (List FieldValue) Fault) (old mid new : R) → (K.state old).failed ≡ false
+    → Reads K (field_read K.order f) old (Ok v) mid → ((K.state mid).failed ≡ false
+    → ComesTo K.order K.may (k + 1) fs (K.state mid) rest (K.state new))
     → ComesTo K.order K.may k (f ∷ fs) (K.state old) (behind (value_list v) rest) (K.state new)
 answered_here K k f fs v rest old mid new fine (had_failed x) others = absurd (let failed = x.failed in cc)
-answered_here K k f fs v rest old mid new fine (was_done x) others = ComesTo-later K.order K.may k f fs v rest (K.state old) (K.state mid) (K.state new) x (others x.failed)
+answered_here K k f fs v rest old mid new fine (was_done x) others =
+    ComesTo-later K.order K.may k f fs v rest (K.state old) (K.state mid) (K.state new) x (others x.failed)
 answered_here K k f fs v rest old mid new fine (was_refused x) others = absurd (let a = x.answer in cc)
 answered_here K k f fs v rest old mid new fine (memory_refused grows x) others = absurd (cc)
 
 -- what the calls of fields come to, made by a reader that has not failed
-pub ComesTo-calls : {R : Type 0} (K : BitSource R) (k : ℕ) (fields : List Field) (old : R) (r : Result (List FieldValue) Fault) (new : R) → (K.state old).failed ≡ false → ReadsFields K k fields old r new
+pub ComesTo-calls : {R : Type 0} (K : BitSource R) (k : ℕ) (fields : List Field) (old : R)
+    (r : Result (List FieldValue) Fault) (new : R) → (K.state old).failed ≡ false → ReadsFields K k fields old r new
     → ComesTo K.order K.may k fields (K.state old) r (K.state new)
 unfolding ReadsFields
 ComesTo-calls {R} K k [] old r new fine h =
     subst (λ (x : Result (List FieldValue) Fault). ComesTo K.order K.may k [] (K.state old) x (K.state new)) (sym h.0)
-    (subst (λ (z : R). ComesTo K.order K.may k [] (K.state old) (Ok []) (K.state z)) (sym h.1) (ComesTo-none K.order K.may k (K.state old) fine))
+    (subst (λ (z : R). ComesTo K.order K.may k [] (K.state old) (Ok []) (K.state z)) (sym h.1)
+    (ComesTo-none K.order K.may k (K.state old) fine))
 ComesTo-calls K k (f ∷ fs) old r new fine (inl h) =
-    subst (λ (x : Result (List FieldValue) Fault). ComesTo K.order K.may k (f ∷ fs) (K.state old) x (K.state new)) (sym h.answer) (memory_refused_here K k f fs h.value old new fine h.reads)
+    subst (λ (x : Result (List FieldValue) Fault). ComesTo K.order K.may k (f ∷ fs) (K.state old) x (K.state new))
+    (sym h.answer) (memory_refused_here K k f fs h.value old new fine h.reads)
 ComesTo-calls K k (f ∷ fs) old r new fine (inr (inl h)) =
-    subst (λ (x : Result (List FieldValue) Fault). ComesTo K.order K.may k (f ∷ fs) (K.state old) x (K.state new)) (sym h.answer) (refused_here K k f fs h.error old new fine h.reads)
+    subst (λ (x : Result (List FieldValue) Fault). ComesTo K.order K.may k (f ∷ fs) (K.state old) x (K.state new))
+    (sym h.answer) (refused_here K k f fs h.error old new fine h.reads)
 ComesTo-calls K k (f ∷ fs) old r new fine (inr (inr (v, mid, rest, reads, others, is))) =
-    subst (λ (x : Result (List FieldValue) Fault). ComesTo K.order K.may k (f ∷ fs) (K.state old) x (K.state new)) (sym is)
-    (answered_here K k f fs v rest old mid new fine reads (λ sound. ComesTo-calls K (k + 1) fs mid rest new sound others))
+    subst (λ (x : Result (List FieldValue) Fault). ComesTo K.order K.may k (f ∷ fs) (K.state old) x (K.state new))
+    (sym is)
+    (answered_here K k f fs v rest old mid new fine reads
+    (λ sound. ComesTo-calls K (k + 1) fs mid rest new sound others))

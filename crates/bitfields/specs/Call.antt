@@ -34,7 +34,12 @@ pub record Request : Type 0 where
 
 -- what is asked for, if there is a command and an order
 abbrev pub request_with : Option Command → Option NamedOrder → List ℕ → Option Request
-request_with (Some command) (Some order) layout = Some (record { command = command; order = bit_order order; layout = layout })
+request_with (Some command) (Some order) layout = Some (record {
+  command = command;
+  order = bit_order order;
+  layout =
+      layout;
+})
 request_with (Some command) None layout = None
 request_with None order layout = None
 

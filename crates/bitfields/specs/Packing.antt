@@ -65,14 +65,16 @@ WritesBits K x old (Ok done) new = Appended K old x new
 WritesBits K x old (Err error) new = WriteRefused K old x error new
 
 -- a stream took the bytes whose bits are the packed values
-pub record PackedBytes (o : Order) (fields : List Field) (vs : List FieldValue) (old new : Option (List ℕ)) : Type 0 where
+pub record PackedBytes (o : Order) (fields : List Field) (vs : List FieldValue) (old new : Option (List ℕ)) :
+    Type 0 where
   pub bytes : List ℕ
   pub grows : Appends old new bytes
   pub says : bits o bytes ≡ packed o fields vs 0
 
 -- The stream refused a request to send bytes, as it may refuse, and there were bytes to send. The bytes that it took
 -- before are the first of them, and it is as the refusal left it.
-pub record PackingRefused (may : Refusal → Type 0) (o : Order) (fields : List Field) (vs : List FieldValue) (old : Option (List ℕ)) (f : Fault) (new : Option (List ℕ)) : Type 0 where
+pub record PackingRefused (may : Refusal → Type 0) (o : Order) (fields : List Field) (vs : List FieldValue)
+    (old : Option (List ℕ)) (f : Fault) (new : Option (List ℕ)) : Type 0 where
   pub refusal : Refusal
   pub allowed : may refusal
   pub reason : f ≡ fault 0 (write_reason (refusal_of refusal.kind))
@@ -85,8 +87,10 @@ pub record PackingRefused (may : Refusal → Type 0) (o : Order) (fields : List 
 
 -- The values were packed, or the first fault of the input was answered and the stream is as it was. Else memory was
 -- refused and the stream is as it was, or the stream refused a request.
-abbrev pub Packs : {W : Type 0} → (W → Option (List ℕ)) → (Refusal → Type 0) → Order → List Field → Result (List FieldValue) Fault → W → Result (Unit {0}) Fault → W → Type 0
+abbrev pub Packs : {W : Type 0} → (W → Option (List ℕ)) → (Refusal → Type 0) → Order → List Field
+    → Result (List FieldValue) Fault → W → Result (Unit {0}) Fault → W → Type 0
 Packs contents may o fields (Ok vs) old (Ok done) new = PackedBytes o fields vs (contents old) (contents new)
-Packs contents may o fields (Ok vs) old (Err f) new = ((f ≡ fault 0 OutOfMemory) × (new ≡ old)) ⊎ PackingRefused may o fields vs (contents old) f (contents new)
+Packs contents may o fields (Ok vs) old (Err f) new = ((f ≡ fault 0 OutOfMemory) × (new ≡ old))
+    ⊎ PackingRefused may o fields vs (contents old) f (contents new)
 Packs contents may o fields (Err f) old (Ok done) new = ⊥
 Packs contents may o fields (Err f) old (Err g) new = (new ≡ old) × ((g ≡ f) ⊎ (g ≡ fault 0 OutOfMemory))

@@ -21,13 +21,15 @@ use Rattle.bitfields.specs.Value.{lines, values}
 -- ---- packing
 
 -- the input was read to its end, and what its lines spell for the fields is this
-pub record SpelledInput (fields : List Field) (input : Option (List ℕ)) (spelt : Result (List FieldValue) Fault) (input_after : Option (List ℕ)) : Type 0 where
+pub record SpelledInput (fields : List Field) (input : Option (List ℕ)) (spelt : Result (List FieldValue) Fault)
+    (input_after : Option (List ℕ)) : Type 0 where
   pub bytes : List ℕ
   pub reads : ReadToEnd input bytes input_after
   pub spells : values 1 fields (lines bytes) ≡ spelt
 
 -- the values that the input's lines spell were packed, and the output was flushed behind their bytes
-pub record PackedInput {R W : Type 0} (I : InputStream R) (O : OutputStream W) (o : Order) (fields : List Field) (input : R) (output : W) (input_after : R) (output_after : W) : Type 0 where
+pub record PackedInput {R W : Type 0} (I : InputStream R) (O : OutputStream W) (o : Order)
+    (fields : List Field) (input : R) (output : W) (input_after : R) (output_after : W) : Type 0 where
   pub vs : List FieldValue
   pub reads : SpelledInput fields (I.remaining input) (Ok vs) (I.remaining input_after)
   pub filled : W
@@ -35,29 +37,43 @@ pub record PackedInput {R W : Type 0} (I : InputStream R) (O : OutputStream W) (
   pub flushed : Flushed O filled output_after
 
 -- the values that the input's lines spell were packed, and the flush behind their bytes was refused
-pub record UnflushedBytes {W : Type 0} (O : OutputStream W) (o : Order) (fields : List Field) (vs : List FieldValue) (output : W) (f : Fault) (output_after : W) : Type 0 where
+pub record UnflushedBytes {W : Type 0} (O : OutputStream W) (o : Order) (fields : List Field)
+    (vs : List FieldValue) (output : W) (f : Fault) (output_after : W) : Type 0 where
   pub filled : W
   pub packs : PackedBytes o fields vs (O.contents output) (O.contents filled)
   pub refused : RefusedOutput O filled 0 f output_after
 
--- Why an input was not packed: it refused to be read, its lines have a fault, or memory was refused, and then the output is as it was.
+-- Why an input was not packed: it refused to be read, its lines have a fault, or memory was refused, and then the
+-- output is as it was.
 -- Else all lines had been read, and the output refused a request for the packed bytes, or the flush behind them.
-pub data PackingFault {R W : Type 0} (I : InputStream R) (O : OutputStream W) (o : Order) (fields : List Field) (input : R) (output : W) (f : Fault) (input_after : R) (output_after : W) : Type 0 where
-  refused_input : RefusedInput I input f input_after → output_after ≡ output → PackingFault I O o fields input output f input_after output_after
-  misspelt_input : SpelledInput fields (I.remaining input) (Err f) (I.remaining input_after) → output_after ≡ output → PackingFault I O o fields input output f input_after output_after
-  refused_memory : (bytes : List ℕ) → ReadToEnd (I.remaining input) bytes (I.remaining input_after) → f ≡ fault 0 OutOfMemory → output_after ≡ output → PackingFault I O o fields input output f input_after output_after
-  refused_bytes : (vs : List FieldValue) → SpelledInput fields (I.remaining input) (Ok vs) (I.remaining input_after) → PackingRefused (MayRefuse O.contents O.refuses) o fields vs (O.contents output) f (O.contents output_after) → PackingFault I O o fields input output f input_after output_after
-  unflushed_bytes : (vs : List FieldValue) → SpelledInput fields (I.remaining input) (Ok vs) (I.remaining input_after) → UnflushedBytes O o fields vs output f output_after → PackingFault I O o fields input output f input_after output_after
+pub data PackingFault {R W : Type 0} (I : InputStream R) (O : OutputStream W) (o : Order) (fields : List Field)
+    (input : R) (output : W) (f : Fault) (input_after : R) (output_after : W) : Type 0 where
+  refused_input : RefusedInput I input f input_after → output_after ≡ output
+      → PackingFault I O o fields input output f input_after output_after
+  misspelt_input : SpelledInput fields (I.remaining input) (Err f) (I.remaining input_after) → output_after ≡ output
+      → PackingFault I O o fields input output f input_after output_after
+  refused_memory : (bytes : List ℕ) → ReadToEnd (I.remaining input) bytes (I.remaining input_after) → f
+      ≡ fault 0 OutOfMemory → output_after ≡ output → PackingFault I O o fields input output f input_after output_after
+  refused_bytes : (vs : List FieldValue) → SpelledInput fields (I.remaining input) (Ok vs) (I.remaining input_after)
+      → PackingRefused (MayRefuse O.contents O.refuses) o fields vs (O.contents output) f (O.contents output_after)
+      → PackingFault I O o fields input output f input_after output_after
+  unflushed_bytes : (vs : List FieldValue) → SpelledInput fields (I.remaining input) (Ok vs) (I.remaining input_after)
+      → UnflushedBytes O o fields vs output f output_after
+      → PackingFault I O o fields input output f input_after output_after
 
 -- packing an input
-abbrev pub PacksInput : {R W : Type 0} → InputStream R → OutputStream W → Order → List Field → R → W → Result (Unit {0}) Fault → R → W → Type 0
-PacksInput I O o fields input output (Ok done) input_after output_after = PackedInput I O o fields input output input_after output_after
-PacksInput I O o fields input output (Err f) input_after output_after = PackingFault I O o fields input output f input_after output_after
+abbrev pub PacksInput : {R W : Type 0} → InputStream R → OutputStream W → Order → List Field → R → W
+    → Result (Unit {0}) Fault → R → W → Type 0
+PacksInput I O o fields input output (Ok done) input_after output_after =
+    PackedInput I O o fields input output input_after output_after
+PacksInput I O o fields input output (Err f) input_after output_after =
+    PackingFault I O o fields input output f input_after output_after
 
 -- ---- unpacking
 
 -- the input's bits were unpacked, the lines of their values written, and the output was flushed behind them
-pub record UnpackedInput {R W : Type 0} (I : InputStream R) (O : OutputStream W) (o : Order) (fields : List Field) (input : R) (output : W) (input_after : R) (output_after : W) : Type 0 where
+pub record UnpackedInput {R W : Type 0} (I : InputStream R) (O : OutputStream W) (o : Order)
+    (fields : List Field) (input : R) (output : W) (input_after : R) (output_after : W) : Type 0 where
   pub text : List ℕ
   pub unpacks : UnpackedBytes o fields (I.remaining input) text (I.remaining input_after)
   pub filled : W
@@ -65,44 +81,61 @@ pub record UnpackedInput {R W : Type 0} (I : InputStream R) (O : OutputStream W)
   pub flushed : Flushed O filled output_after
 
 -- the lines were written, and the flush behind them was refused
-pub record UnflushedLines {W : Type 0} (O : OutputStream W) (output : W) (text : List ℕ) (f : Fault) (output_after : W) : Type 0 where
+pub record UnflushedLines {W : Type 0} (O : OutputStream W) (output : W) (text : List ℕ) (f : Fault)
+    (output_after : W) : Type 0 where
   pub filled : W
   pub writes : Appends (O.contents output) (O.contents filled) text
   pub refused : RefusedOutput O filled 0 f output_after
 
--- Why an input was not unpacked: its bits have a fault, or it refused a request, or memory was refused, at a field, and then the
--- output is as it was. Else all fields had been read, and the output refused the one request for all lines, or the flush behind them.
-pub data UnpackingFault {R W : Type 0} (I : InputStream R) (O : OutputStream W) (o : Order) (fields : List Field) (input : R) (output : W) (f : Fault) (input_after : R) (output_after : W) : Type 0 where
-  stopped_input : UnpacksBytes I.remaining (MayRefuse I.remaining I.refuses) o fields input (Err f) input_after → output_after ≡ output → UnpackingFault I O o fields input output f input_after output_after
-  refused_lines : (text : List ℕ) → UnpackedBytes o fields (I.remaining input) text (I.remaining input_after) → RefusedOutput O output (length text) f output_after → UnpackingFault I O o fields input output f input_after output_after
-  unflushed_lines : (text : List ℕ) → UnpackedBytes o fields (I.remaining input) text (I.remaining input_after) → UnflushedLines O output text f output_after → UnpackingFault I O o fields input output f input_after output_after
+-- Why an input was not unpacked: its bits have a fault, or it refused a request, or memory was refused, at a field, and
+-- then the
+-- output is as it was. Else all fields had been read, and the output refused the one request for all lines, or the
+-- flush behind them.
+pub data UnpackingFault {R W : Type 0} (I : InputStream R) (O : OutputStream W) (o : Order)
+    (fields : List Field) (input : R) (output : W) (f : Fault) (input_after : R) (output_after : W) : Type 0 where
+  stopped_input : UnpacksBytes I.remaining (MayRefuse I.remaining I.refuses) o fields input (Err f) input_after
+      → output_after ≡ output → UnpackingFault I O o fields input output f input_after output_after
+  refused_lines : (text : List ℕ) → UnpackedBytes o fields (I.remaining input) text (I.remaining input_after)
+      → RefusedOutput O output (length text) f output_after
+      → UnpackingFault I O o fields input output f input_after output_after
+  unflushed_lines : (text : List ℕ) → UnpackedBytes o fields (I.remaining input) text (I.remaining input_after)
+      → UnflushedLines O output text f output_after → UnpackingFault I O o fields input output f input_after
+      output_after
 
 -- unpacking an input
-abbrev pub UnpacksInput : {R W : Type 0} → InputStream R → OutputStream W → Order → List Field → R → W → Result (Unit {0}) Fault → R → W → Type 0
-UnpacksInput I O o fields input output (Ok done) input_after output_after = UnpackedInput I O o fields input output input_after output_after
-UnpacksInput I O o fields input output (Err f) input_after output_after = UnpackingFault I O o fields input output f input_after output_after
+abbrev pub UnpacksInput : {R W : Type 0} → InputStream R → OutputStream W → Order → List Field → R → W
+    → Result (Unit {0}) Fault → R → W → Type 0
+UnpacksInput I O o fields input output (Ok done) input_after output_after =
+    UnpackedInput I O o fields input output input_after output_after
+UnpacksInput I O o fields input output (Err f) input_after output_after =
+    UnpackingFault I O o fields input output f input_after output_after
 
 -- ---- a call
 
 -- a command's work
-abbrev pub Performs : {R W : Type 0} → InputStream R → OutputStream W → Command → Order → List Field → R → W → Result (Unit {0}) Fault → R → W → Type 0
+abbrev pub Performs : {R W : Type 0} → InputStream R → OutputStream W → Command → Order → List Field → R → W
+    → Result (Unit {0}) Fault → R → W → Type 0
 Performs I O Pack = PacksInput I O
 Performs I O Unpack = UnpacksInput I O
 
 -- memory was refused before a stream was touched
 abbrev pub IsMemoryRefused : {R W : Type 0} → R → W → Result (Unit {0}) Fault → R → W → Type 0
-IsMemoryRefused input output result input_after output_after = (result ≡ Err (fault 0 OutOfMemory)) × (input_after ≡ input) × (output_after ≡ output)
+IsMemoryRefused input output result input_after output_after = (result ≡ Err (fault 0 OutOfMemory))
+    × (input_after ≡ input) × (output_after ≡ output)
 
 -- The fields of a layout are packed or unpacked. Or the layout has a fault, or memory was refused; that is answered,
 -- and no stream is touched.
-abbrev pub Follows : {R W : Type 0} → InputStream R → OutputStream W → Command → Order → Result (List Field) Fault → R → W → Result (Unit {0}) Fault → R → W → Type 0
+abbrev pub Follows : {R W : Type 0} → InputStream R → OutputStream W → Command → Order → Result (List Field) Fault → R
+    → W → Result (Unit {0}) Fault → R → W → Type 0
 Follows I O command o (Ok fields) input output result input_after output_after =
-    IsMemoryRefused input output result input_after output_after ⊎ Performs I O command o fields input output result input_after output_after
+    IsMemoryRefused input output result input_after output_after
+    ⊎ Performs I O command o fields input output result input_after output_after
 Follows I O command o (Err f) input output result input_after output_after =
     IsUnlessMemory (Err f) result × (input_after ≡ input) × (output_after ≡ output)
 
 -- what is asked for is done; if nothing is, that is answered, and no stream is touched
-abbrev pub Calls : {R W : Type 0} → InputStream R → OutputStream W → Option Request → R → W → Result (Unit {0}) Fault → R → W → Type 0
+abbrev pub Calls : {R W : Type 0} → InputStream R → OutputStream W → Option Request → R → W → Result (Unit {0}) Fault
+    → R → W → Type 0
 Calls I O (Some request) input output result input_after output_after =
     Follows I O request.command request.order (layout_of request.layout) input output result input_after output_after
 Calls I O None input output result input_after output_after =
@@ -121,7 +154,8 @@ pub record RefusedLine {X : Type 0} (T : OutputStream X) (f : Fault) (faults fau
 
 -- a fault's line was printed, or its request refused
 abbrev pub Reports : {X : Type 0} → OutputStream X → Fault → X → X → Type 0
-Reports T f faults faults_after = Appends (T.contents faults) (T.contents faults_after) (fault_line f) ⊎ RefusedLine T f faults faults_after
+Reports T f faults faults_after = Appends (T.contents faults) (T.contents faults_after) (fault_line f)
+    ⊎ RefusedLine T f faults faults_after
 
 -- nothing is reported of a success
 abbrev pub ReportsAny : {X : Type 0} → OutputStream X → Result (Unit {0}) Fault → X → X → Type 0
@@ -129,8 +163,10 @@ ReportsAny T (Ok done) faults faults_after = faults_after ≡ faults
 ReportsAny T (Err f) faults faults_after = Reports T f faults faults_after
 
 -- a call ends with the status of what became of it, which is reported
-pub record Runs {R W X : Type 0} (I : InputStream R) (O : OutputStream W) (T : OutputStream X) (request : Option Request)
-    (input : R) (output : W) (faults : X) (status : ℕ) (input_after : R) (output_after : W) (faults_after : X) : Type 0 where
+pub record Runs {R W X : Type 0} (I : InputStream R) (O : OutputStream W) (T : OutputStream X)
+    (request : Option Request)
+    (input : R) (output : W) (faults : X) (status : ℕ) (input_after : R) (output_after : W) (faults_after : X) :
+    Type 0 where
   pub outcome : Result (Unit {0}) Fault
   pub calls : Calls I O request input output outcome input_after output_after
   pub reports : ReportsAny T outcome faults faults_after

@@ -45,7 +45,8 @@ field_read o (Unsigned n) = chain (unsigned_entry o 128 n) (λ v. gives (Some (V
 field_read o (Signed n) = chain (signed_entry o 128 n) (λ x. gives (Some (Value.Signed x)))
 field_read o (Unary stop) = chain (unary_entry stop) (λ v. gives (Some (Value.Unsigned v)))
 field_read o (Variable size) = chain (vbr_entry o (group_bits size) 64 (2 ^ 64)) (λ v. gives (Some (Value.Unsigned v)))
-field_read o (SignedVariable size) = chain (signed_vbr_entry o (group_bits size) 64) (λ x. gives (Some (Value.Signed x)))
+field_read o (SignedVariable size) = chain (signed_vbr_entry o (group_bits size) 64)
+    (λ x. gives (Some (Value.Signed x)))
 field_read o (Padding n) = chain (skip_entry n) (λ _. gives None)
 field_read o Align = chain align_entry (λ _. gives None)
 
@@ -53,7 +54,8 @@ field_read o Align = chain align_entry (λ _. gives None)
 abbrev pub answered : ℕ → List Field → ℕ → List (Result (Option FieldValue) Error × ℕ) → Unpacked
 answered k [] at answers = Unpacks [] at
 answered k (field ∷ fields) at [] = Stops (fault k BitsEnded)
-answered k (field ∷ fields) at ((Ok v, next) ∷ answers) = values_and (value_list v) (answered (k + 1) fields next answers)
+answered k (field ∷ fields) at ((Ok v, next) ∷ answers) =
+    values_and (value_list v) (answered (k + 1) fields next answers)
 answered k (field ∷ fields) at ((Err e, next) ∷ answers) = Stops (fault k (read_reason e))
 
 -- what the bits from a place on say for fields, which are numbered from k on
@@ -68,24 +70,29 @@ behind vs (Ok ws) = Ok (vs ++ ws)
 behind vs (Err f) = Err f
 
 -- A field's value was read, and memory for its line was refused.
-pub record MemoryRefused {R : Type 0} (K : BitSource R) (k : ℕ) (field : Field) (old : R) (result : Result (List FieldValue) Fault) (new : R) : Type 0 where
+pub record MemoryRefused {R : Type 0} (K : BitSource R) (k : ℕ) (field : Field) (old : R)
+    (result : Result (List FieldValue) Fault) (new : R) : Type 0 where
   pub value : FieldValue
   pub reads : Reads K (field_read K.order field) old (Ok (Some value)) new
   pub answer : result ≡ Err (fault k OutOfMemory)
 
 -- a field's read call answered an error
-pub record AnswersError {R : Type 0} (K : BitSource R) (k : ℕ) (field : Field) (old : R) (result : Result (List FieldValue) Fault) (new : R) : Type 0 where
+pub record AnswersError {R : Type 0} (K : BitSource R) (k : ℕ) (field : Field) (old : R)
+    (result : Result (List FieldValue) Fault) (new : R) : Type 0 where
   pub error : Error
   pub reads : Reads K (field_read K.order field) old (Err error) new
   pub answer : result ≡ Err (fault k (read_reason error))
 
 -- The read calls of fields, which are numbered from k on, in order: the values that they answer, up to the first that
 -- answers an error or for whose line memory was refused. Of no fields, nothing at all.
-unfoldable pub ReadsFields : {R : Type 0} → BitSource R → ℕ → List Field → R → Result (List FieldValue) Fault → R → Type 0
+unfoldable pub ReadsFields : {R : Type 0} → BitSource R → ℕ → List Field → R → Result (List FieldValue) Fault → R
+    → Type 0
 ReadsFields K k [] old result new = (result ≡ Ok []) × (new ≡ old)
 ReadsFields {R} K k (field ∷ fields) old result new =
     MemoryRefused K k field old result new ⊎ AnswersError K k field old result new
-    ⊎ ((v : Option FieldValue) × (mid : R) × (rest : Result (List FieldValue) Fault) × Reads K (field_read K.order field) old (Ok v) mid × ReadsFields K (k + 1) fields mid rest new × (result ≡ behind (value_list v) rest))
+    ⊎ ((v : Option FieldValue) × (mid : R) × (rest : Result (List FieldValue) Fault)
+    × Reads K (field_read K.order field) old (Ok v) mid × ReadsFields K (k + 1) fields mid rest new
+    × (result ≡ behind (value_list v) rest))
 
 -- the lines of values, or the fault
 abbrev pub in_lines : Result (List FieldValue) Fault → Result (List ℕ) Fault
@@ -93,7 +100,8 @@ in_lines (Ok vs) = Ok (printed_lines vs)
 in_lines (Err f) = Err f
 
 -- the read calls of fields, and the lines of their values
-pub record ReadsLines {R : Type 0} (K : BitSource R) (fields : List Field) (old : R) (result : Result (List ℕ) Fault) (new : R) : Type 0 where
+pub record ReadsLines {R : Type 0} (K : BitSource R) (fields : List Field) (old : R)
+    (result : Result (List ℕ) Fault) (new : R) : Type 0 where
   pub answer : Result (List FieldValue) Fault
   pub reads : ReadsFields K 1 fields old answer new
   pub prints : result ≡ in_lines answer
@@ -105,8 +113,10 @@ pub record TakesLeastBytes (known : Option (List ℕ)) (gone : List ℕ) (len : 
   pub loses : Consumes known after gone
   pub least : (8 * length gone < len + 8) × (len ≤ 8 * length gone)
 
--- A stream lost as many bytes as the fields' bits reach into; these say the values whose lines are printed, whatever follows them.
-pub record UnpackedBytes (o : Order) (fields : List Field) (old : Option (List ℕ)) (text : List ℕ) (new : Option (List ℕ)) : Type 0 where
+-- A stream lost as many bytes as the fields' bits reach into; these say the values whose lines are printed, whatever
+-- follows them.
+pub record UnpackedBytes (o : Order) (fields : List Field) (old : Option (List ℕ)) (text : List ℕ)
+    (new : Option (List ℕ)) : Type 0 where
   pub gone : List ℕ
   pub len : ℕ
   pub taken : TakesLeastBytes old gone len new
@@ -115,7 +125,8 @@ pub record UnpackedBytes (o : Order) (fields : List Field) (old : Option (List �
   pub prints : text ≡ printed_lines values
 
 -- The bytes taken say the fault.
-pub record ToldBytes (o : Order) (fields : List Field) (old : Option (List ℕ)) (f : Fault) (new : Option (List ℕ)) : Type 0 where
+pub record ToldBytes (o : Order) (fields : List Field) (old : Option (List ℕ)) (f : Fault) (new : Option (List ℕ)) :
+    Type 0 where
   pub gone : List ℕ
   pub len : ℕ
   pub taken : TakesLeastBytes old gone len new
@@ -123,7 +134,8 @@ pub record ToldBytes (o : Order) (fields : List Field) (old : Option (List ℕ))
 
 -- Memory for the line of a field was refused. The bytes taken hold that field's bits and those of the fields before it,
 -- and no more.
-pub record MemoryRefusedBytes (o : Order) (fields : List Field) (old : Option (List ℕ)) (f : Fault) (new : Option (List ℕ)) : Type 0 where
+pub record MemoryRefusedBytes (o : Order) (fields : List Field) (old : Option (List ℕ)) (f : Fault)
+    (new : Option (List ℕ)) : Type 0 where
   pub front : List Field
   pub here : Field
   pub back : List Field
@@ -140,7 +152,8 @@ pub record MemoryRefusedBytes (o : Order) (fields : List Field) (old : Option (L
 
 -- The stream refused a request for a field, as it may refuse. The bytes taken before end within that field, and the
 -- stream is as the refusal left it. If that was a true end, all bytes of the stream end within that field.
-pub record UnpackingRefused (may : Refusal → Type 0) (o : Order) (fields : List Field) (old : Option (List ℕ)) (f : Fault) (new : Option (List ℕ)) : Type 0 where
+pub record UnpackingRefused (may : Refusal → Type 0) (o : Order) (fields : List Field) (old : Option (List ℕ))
+    (f : Fault) (new : Option (List ℕ)) : Type 0 where
   pub field : ℕ
   pub refusal : Refusal
   pub allowed : may refusal
@@ -152,10 +165,12 @@ pub record UnpackingRefused (may : Refusal → Type 0) (o : Order) (fields : Lis
   pub ended : IsTrueEnd refusal → (xs : List ℕ) → old ≡ Some xs → unpacked o 1 fields 0 (bits o xs) ≡ Stops f
 
 -- fields, read from a stream's bytes: the lines of their values, or the fault
-abbrev pub UnpacksBytes : {R : Type 0} → (R → Option (List ℕ)) → (Refusal → Type 0) → Order → List Field → R → Result (List ℕ) Fault → R → Type 0
+abbrev pub UnpacksBytes : {R : Type 0} → (R → Option (List ℕ)) → (Refusal → Type 0) → Order → List Field → R
+    → Result (List ℕ) Fault → R → Type 0
 UnpacksBytes known may o fields old (Ok text) new = UnpackedBytes o fields (known old) text (known new)
 UnpacksBytes known may o fields old (Err f) new =
-    ToldBytes o fields (known old) f (known new) ⊎ MemoryRefusedBytes o fields (known old) f (known new) ⊎ UnpackingRefused may o fields (known old) f (known new)
+    ToldBytes o fields (known old) f (known new) ⊎ MemoryRefusedBytes o fields (known old) f (known new)
+    ⊎ UnpackingRefused may o fields (known old) f (known new)
 
 -- all bytes of a stream say the values whose lines are printed
 pub record SaidBytes (o : Order) (fields : List Field) (xs text : List ℕ) : Type 0 where

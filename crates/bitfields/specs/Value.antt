@@ -73,7 +73,8 @@ value_list None = []
 value_list (Some v) = v ∷ []
 
 -- the value of field number k in front of the others, or its fault
-abbrev pub value_and : ℕ → Result (Option FieldValue) Reason → Result (List FieldValue) Fault → Result (List FieldValue) Fault
+abbrev pub value_and : ℕ → Result (Option FieldValue) Reason → Result (List FieldValue) Fault
+    → Result (List FieldValue) Fault
 value_and k (Err why) others = Err (fault k why)
 value_and k (Ok None) others = others
 value_and k (Ok (Some v)) others = one_more v others

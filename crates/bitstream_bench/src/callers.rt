@@ -1,8 +1,13 @@
-//! The three callers, each once on its happy path.
+//! The callers, each once on its happy path.
+use bitstream_callers::block_header::BlockHeader;
 use bitstream_callers::header::{Header, version};
+use bitstream_callers::padded_port::PaddedPort;
 use bitstream_callers::stream_info::{StreamInfo, sample_rate};
 use bitstream_callers::telemetry::{Sample, heartbeat};
-use bitstream_io::{BE, BitReader, BitWriter, Error};
+use bitstream_io::{
+    BE, BitReadExt, BitReader, BitWriteExt, BitWriter, ByteWriteExt, ByteWriter, Error, LE,
+    ToBitStream, ToByteStreamWith,
+};
 use std::alloc::Global;
 use std::test::Fail;
 
@@ -74,5 +79,35 @@ fn packs_a_sample_and_a_header(rt: HostRuntime) -> Result<(), Fail> {
     )?;
     let back = goes_back(rt.alloc(), header, &[0xbe, 0x02, 0x03])?;
     assert!(rt; packed && back);
+    Ok(())
+}
+
+/// Whether a header is these bytes, comes back from them, and has the given number of bits.
+fn is_block_header(
+    alloc: Global,
+    header: BlockHeader,
+    bytes: &[u8],
+    bits: u8,
+) -> Result<bool, Error> {
+    let mut built = Vec::new(alloc);
+    BitWriter::<_, BE>::new(&mut built).build(&header)?;
+    let parsed: BlockHeader = BitReader::<_, BE>::new(bytes).parse()?;
+    let lengths = (header.bits::<u8>()?, header.bits_len::<u8, LE>()?);
+    Ok(built.as_slice() == bytes && parsed == header && lengths == (bits, bits))
+}
+
+#[test]
+fn builds_and_parses_types_of_its_own(rt: HostRuntime) -> Result<(), Fail> {
+    let header = BlockHeader {
+        last: false,
+        kind: 0,
+        size: 34,
+    };
+    assert!(rt; is_block_header(rt.alloc(), header, &[0, 0, 0, 0x22], 32)?);
+    let port = PaddedPort { number: 1 };
+    let mut written = Vec::new(rt.alloc());
+    ByteWriter::<_, BE>::new(&mut written).build_with(&port, &2)?;
+    assert_eq!(rt; written.as_slice(), [0, 1, 0, 0].as_slice());
+    assert_eq!(rt; port.bytes::<u8>(&2)?, 4);
     Ok(())
 }

@@ -300,106 +300,6 @@ fn example_of_bit_writer(rt: HostRuntime) -> Result<(), Fail> {
 }
 
 #[test]
-fn example_of_to_bit_stream(rt: HostRuntime) -> Result<(), Fail> {
-    use bitstream_io::{BE, BitWrite, BitWriteExt, BitWriter, Bits, Error, LE, ToBitStream};
-
-    struct BlockHeader {
-        last: bool,
-        kind: u8,
-        size: u32,
-    }
-
-    impl ToBitStream for BlockHeader {
-        type Error = Error;
-
-        fn to_writer<W: BitWrite>(&self, writer: &mut W) -> Result<(), Error> {
-            writer.write_bit(self.last)?;
-            writer.write::<Bits<7>, u8>(self.kind)?;
-            writer.write::<Bits<24>, u32>(self.size)
-        }
-    }
-
-    let header = BlockHeader {
-        last: false,
-        kind: 0,
-        size: 34,
-    };
-    let mut bytes = Vec::new(rt.alloc());
-    BitWriter::<_, BE>::new(&mut bytes).build(&header)?;
-    assert_eq!(rt; bytes.as_slice(), [0, 0, 0, 34].as_slice());
-    assert_eq!(rt; header.bits::<u8>()?, 32);
-    assert_eq!(rt; header.bits_len::<u32, LE>()?, 32);
-    Ok(())
-}
-
-#[test]
-fn example_of_to_bit_stream_with(rt: HostRuntime) -> Result<(), Fail> {
-    use bitstream_io::{BE, BitWrite, BitWriteExt, BitWriter, Error, ToBitStreamWith};
-
-    struct Level(u16);
-
-    impl ToBitStreamWith for Level {
-        type Context = u32;
-
-        type Error = Error;
-
-        fn to_writer<W: BitWrite>(&self, writer: &mut W, bits: &u32) -> Result<(), Error> {
-            writer.write_var::<u16>(*bits, self.0)
-        }
-    }
-
-    let mut bytes = Vec::new(rt.alloc());
-    BitWriter::<_, BE>::new(&mut bytes).build_with(&Level(0xb1e), &16)?;
-    assert_eq!(rt; bytes.as_slice(), [0x0b, 0x1e].as_slice());
-    assert_eq!(rt; Level(0xb1e).bits::<u8>(&12)?, 12);
-    Ok(())
-}
-
-#[test]
-fn example_of_to_byte_stream_with(rt: HostRuntime) -> Result<(), Fail> {
-    use bitstream_io::{BE, ByteWrite, ByteWriteExt, ByteWriter, Error, ToByteStreamWith};
-
-    struct Port(u16);
-
-    impl ToByteStreamWith for Port {
-        type Context = u32;
-
-        type Error = Error;
-
-        fn to_writer<W: ByteWrite>(&self, writer: &mut W, padding: &u32) -> Result<(), Error> {
-            writer.write(self.0)?;
-            writer.pad(*padding)
-        }
-    }
-
-    let mut bytes = Vec::new(rt.alloc());
-    ByteWriter::<_, BE>::new(&mut bytes).build_with(&Port(443), &2)?;
-    assert_eq!(rt; bytes.as_slice(), [1, 187, 0, 0].as_slice());
-    assert_eq!(rt; Port(443).bytes::<u8>(&2)?, 4);
-    Ok(())
-}
-
-#[test]
-fn example_of_from_byte_stream(rt: HostRuntime) -> Result<(), Fail> {
-    use bitstream_io::{BE, ByteRead, ByteReadExt, ByteReader, Error, FromByteStream};
-
-    struct Port(u16);
-
-    impl FromByteStream for Port {
-        type Error = Error;
-
-        fn from_reader<R: ByteRead>(reader: &mut R) -> Result<Port, Error> {
-            Ok(Port(reader.read::<u16>()?))
-        }
-    }
-
-    let mut reader = ByteReader::<_, BE>::new([1, 187].as_slice());
-    let port: Port = reader.parse()?;
-    assert_eq!(rt; port.0, 443);
-    Ok(())
-}
-
-#[test]
 fn example_of_checkable(rt: HostRuntime) -> Result<(), Fail> {
     use bitstream_io::{BE, BitCount, BitReadExt, BitReader, BitWriteExt, BitWriter};
     use bitstream_io::{Checkable, CheckedUnsigned};
@@ -433,65 +333,12 @@ fn example_of_huffman_tree(rt: HostRuntime) -> Result<(), Fail> {
     use bitstream_io::huffman::HuffmanTree;
 
     let alloc = rt.alloc();
-    let end = HuffmanTree::node(
-        HuffmanTree::leaf(alloc, 'b')?,
-        HuffmanTree::leaf(alloc, 'c')?,
-    )?;
+    let end = HuffmanTree::node(HuffmanTree::leaf(alloc, 'b')?, HuffmanTree::leaf(alloc, 'c')?)?;
     let tree = HuffmanTree::node(HuffmanTree::leaf(alloc, 'a')?, end)?;
     let mut reader = BitReader::<_, BE>::new([0x98].as_slice());
     assert_eq!(rt; reader.read_huffman(&tree)?, 'b');
     assert_eq!(rt; reader.read_huffman(&tree)?, 'a');
     assert_eq!(rt; reader.read_huffman(&tree)?, 'c');
-    Ok(())
-}
-
-#[test]
-fn example_of_from_bit_stream(rt: HostRuntime) -> Result<(), Fail> {
-    use bitstream_io::{BE, BitRead, BitReadExt, BitReader, Bits, Error, FromBitStream};
-
-    struct BlockHeader {
-        last: bool,
-        kind: u8,
-        size: u32,
-    }
-
-    impl FromBitStream for BlockHeader {
-        type Error = Error;
-
-        fn from_reader<R: BitRead>(reader: &mut R) -> Result<BlockHeader, Error> {
-            Ok(BlockHeader {
-                last: reader.read_bit()?,
-                kind: reader.read::<Bits<7>, u8>()?,
-                size: reader.read::<Bits<24>, u32>()?,
-            })
-        }
-    }
-
-    let mut reader = BitReader::<_, BE>::new([0x84, 0, 0, 34].as_slice());
-    let header: BlockHeader = reader.parse()?;
-    assert_eq!(rt; (header.last, header.kind, header.size), (true, 4, 34));
-    Ok(())
-}
-
-#[test]
-fn example_of_from_bit_stream_with(rt: HostRuntime) -> Result<(), Fail> {
-    use bitstream_io::{BE, BitRead, BitReadExt, BitReader, Error, FromBitStreamWith};
-
-    struct Level(u16);
-
-    impl FromBitStreamWith for Level {
-        type Context = u32;
-
-        type Error = Error;
-
-        fn from_reader<R: BitRead>(reader: &mut R, bits: &u32) -> Result<Level, Error> {
-            Ok(Level(reader.read_var::<u16>(*bits)?))
-        }
-    }
-
-    let mut reader = BitReader::<_, BE>::new([0xb1, 0xed].as_slice());
-    let level: Level = reader.parse_with(&12)?;
-    assert_eq!(rt; level.0, 0xb1e);
     Ok(())
 }
 

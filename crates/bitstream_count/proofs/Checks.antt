@@ -17,13 +17,15 @@ below_of_zero a k e =
     let none : a / 2 ^ k * 2 ^ k ≡ 0 = ap (λ q. q * 2 ^ k) e ∙ zero-mul (2 ^ k) in
     omega arith
 
-pub FitsSignedBits-int_shr : (x r : ℤ) (n : ℕ) → r ≡ int_shr x (n - 1) → (r ≡ pos 0) ⊎ (r ≡ negsuc 0) → FitsSignedBits n x
+pub FitsSignedBits-int_shr : (x r : ℤ) (n : ℕ) → r ≡ int_shr x (n - 1) → (r ≡ pos 0) ⊎ (r ≡ negsuc 0)
+    → FitsSignedBits n x
 FitsSignedBits-int_shr (pos a) r n e (inl z) = below_of_zero a (n - 1) (ap mag (sym e ∙ z))
 FitsSignedBits-int_shr (pos a) r n e (inr z) = absurd (pos-ne-negsuc _ _ (sym e ∙ z))
 FitsSignedBits-int_shr (negsuc a) r n e (inl z) = absurd (pos-ne-negsuc _ _ (sym z ∙ e))
 FitsSignedBits-int_shr (negsuc a) r n e (inr z) = below_of_zero a (n - 1) (ap mag (sym e ∙ z))
 
-pub ExceedsSignedBits-int_shr : (x r : ℤ) (n : ℕ) → r ≡ int_shr x (n - 1) → r ≢ pos 0 → r ≢ negsuc 0 → ExceedsSignedBits n x
+pub ExceedsSignedBits-int_shr : (x r : ℤ) (n : ℕ) → r ≡ int_shr x (n - 1) → r ≢ pos 0 → r ≢ negsuc 0
+    → ExceedsSignedBits n x
 ExceedsSignedBits-int_shr (pos a) r n e some other = elim (cases_lt a (2 ^ (n - 1))) [
   | inl small ↦ absurd (some (e ∙ ap pos (div-eq_of_lt small)))
   | inr large ↦ large

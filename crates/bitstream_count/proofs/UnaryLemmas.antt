@@ -8,14 +8,18 @@ use Rattle.bitstream_count.specs.declared.error.Error.TheVariants.{RunTooLong}
 use Rattle.bitstream_count.specs.Unary.{unary, lead, read_unary}
 
 pub length-unary : (stop : Bool) (k : ℕ) → length (unary stop k) ≡ k + 1
-length-unary stop k = length-append (replicate k (not stop)) (stop ∷ []) ∙ ap (λ n. n + 1) (length-replicate k (not stop))
+length-unary stop k = length-append (replicate k (not stop)) (stop ∷ [])
+    ∙ ap (λ n. n + 1) (length-replicate k (not stop))
 
 -- a run in parts
-pub others-split : (stop : Bool) (a b n : ℕ) → a + b ≡ n → replicate n (not stop) ≡ replicate a (not stop) ++ replicate b (not stop)
-others-split stop a b n sum = ap (λ k. replicate k (not stop)) (sym sum) ∙ sym (replicate-append-replicate a b (not stop))
+pub others-split : (stop : Bool) (a b n : ℕ) → a + b ≡ n → replicate n (not stop) ≡ replicate a (not stop)
+    ++ replicate b (not stop)
+others-split stop a b n sum = ap (λ k. replicate k (not stop)) (sym sum)
+    ∙ sym (replicate-append-replicate a b (not stop))
 
 pub unary-split : (stop : Bool) (a b n : ℕ) → a + b ≡ n → unary stop n ≡ replicate a (not stop) ++ unary stop b
-unary-split stop a b n sum = ap (λ l. l ++ stop ∷ []) (others-split stop a b n sum) ∙ append_assoc (replicate a (not stop)) (replicate b (not stop)) (stop ∷ [])
+unary-split stop a b n sum = ap (λ l. l ++ stop ∷ []) (others-split stop a b n sum)
+    ∙ append_assoc (replicate a (not stop)) (replicate b (not stop)) (stop ∷ [])
 
 -- ---- how long a run is
 
@@ -28,7 +32,8 @@ lead-unary false (suc k) rest = ap suc (lead-unary false k rest)
 pub unary_apart : (stop : Bool) (j k : ℕ) (x y : List Bool) → unary stop j ++ x ≡ unary stop k ++ y → j ≡ k
 unary_apart stop j k x y e = sym (lead-unary stop j x) ∙ ap (lead stop) e ∙ lead-unary stop k y
 
-pub lead-others : (stop : Bool) (k : ℕ) (rest : List Bool) → lead stop (replicate k (not stop) ++ rest) ≡ k + lead stop rest
+pub lead-others : (stop : Bool) (k : ℕ) (rest : List Bool) → lead stop (replicate k (not stop) ++ rest)
+    ≡ k + lead stop rest
 lead-others true zero rest = omega arith
 lead-others true (suc k) rest = omega (arith, lead-others true k rest)
 lead-others false zero rest = omega arith
@@ -42,7 +47,8 @@ lead_le false (true ∷ bits) = omega (arith, lead_le false bits)
 lead_le false (false ∷ bits) = omega arith
 
 -- bits that come before a stop bit
-lead_front : (stop : Bool) (front back : List Bool) → length front ≤ lead stop (front ++ back) → lead stop front ≡ length front
+lead_front : (stop : Bool) (front back : List Bool) → length front ≤ lead stop (front ++ back) → lead stop front
+    ≡ length front
 lead_front stop [] back h = refl
 lead_front true (true ∷ front) back h = absurd (omega arith)
 lead_front true (false ∷ front) back h = ap suc (lead_front true front back (omega arith))
@@ -59,7 +65,8 @@ take_others false (suc n) (true ∷ bits) h = ap (λ l. true ∷ l) (take_others
 take_others false (suc n) (false ∷ bits) h = absurd (omega arith)
 
 -- a run that ends within the bits
-pub front_is_unary : (stop : Bool) (bits : List Bool) → lead stop bits < length bits → take (suc (lead stop bits)) bits ≡ unary stop (lead stop bits)
+pub front_is_unary : (stop : Bool) (bits : List Bool) → lead stop bits < length bits → take (suc (lead stop bits)) bits
+    ≡ unary stop (lead stop bits)
 front_is_unary stop [] h = absurd (omega arith)
 front_is_unary true (true ∷ bits) h = refl
 front_is_unary true (false ∷ bits) h = ap (λ l. false ∷ l) (front_is_unary true bits (omega arith))
@@ -69,46 +76,69 @@ front_is_unary false (false ∷ bits) h = refl
 -- ---- reading
 
 -- digits that come before the stop bit are too few
-pub short_front : (stop : Bool) (front back : List Bool) → length front ≤ lead stop (front ++ back) → length front < 2 ^ 32 → read_unary stop front ≡ TooFew
+pub short_front : (stop : Bool) (front back : List Bool) → length front ≤ lead stop (front ++ back)
+    → length front < 2 ^ 32 → read_unary stop front ≡ TooFew
 short_front stop front back none few =
     let all : lead stop front ≡ length front = lead_front stop front back none in
     rw (all, lt-ltb (length front) (2 ^ 32) few, le-ltb (length front) (length front) (omega arith)) refl
 
 -- the beginnings of a list, by its length
-front_length : (front : List Bool) (b : Bool) (back bits : List Bool) → bits ≡ front ++ b ∷ back → length front < length bits
+front_length : (front : List Bool) (b : Bool) (back bits : List Bool) → bits ≡ front ++ b ∷ back
+    → length front < length bits
 front_length front b back bits is = omega (arith, ap length is ∙ length-append front (b ∷ back))
 
-pub begins_others : (stop : Bool) (n : ℕ) (front : List Bool) (b : Bool) (back : List Bool) → n ≤ 2 ^ 32 → replicate n (not stop) ≡ front ++ b ∷ back → read_unary stop front ≡ TooFew
+pub begins_others : (stop : Bool) (n : ℕ) (front : List Bool) (b : Bool) (back : List Bool) → n ≤ 2 ^ 32
+    → replicate n (not stop) ≡ front ++ b ∷ back → read_unary stop front ≡ TooFew
 begins_others stop n front b back le is =
-    let all : lead stop (front ++ b ∷ back) ≡ n = ap (lead stop) (sym is ∙ sym (append-nil (replicate n (not stop)))) ∙ lead-others stop n [] ∙ omega arith in
-    let less : length front < n = omega (arith, front_length front b back (replicate n (not stop)) is, length-replicate n (not stop)) in
+    let all : lead stop (front ++ b ∷ back) ≡ n = ap (lead stop) (sym is ∙ sym (append-nil (replicate n (not stop))))
+    ∙ lead-others stop n [] ∙ omega arith in
+    let less : length front < n = omega (
+      arith,
+      front_length front b back (replicate n (not stop)) is,
+      length-replicate n (not stop),
+    ) in
     short_front stop front (b ∷ back) (omega (arith, all, less)) (omega (arith, less, le))
 
-pub begins_unary : (stop : Bool) (k : ℕ) (front : List Bool) (b : Bool) (back : List Bool) → k < 2 ^ 32 → unary stop k ≡ front ++ b ∷ back → read_unary stop front ≡ TooFew
+pub begins_unary : (stop : Bool) (k : ℕ) (front : List Bool) (b : Bool) (back : List Bool) → k < 2 ^ 32 → unary stop k
+    ≡ front ++ b ∷ back → read_unary stop front ≡ TooFew
 begins_unary stop k front b back small is =
-    let all : lead stop (front ++ b ∷ back) ≡ k = ap (lead stop) (sym is ∙ sym (append-nil (unary stop k))) ∙ lead-unary stop k [] in
+    let all : lead stop (front ++ b ∷ back) ≡ k = ap (lead stop) (sym is ∙ sym (append-nil (unary stop k)))
+    ∙ lead-unary stop k [] in
     let less : length front < k + 1 = omega (arith, front_length front b back (unary stop k) is, length-unary stop k) in
     short_front stop front (b ∷ back) (omega (arith, all, less)) (omega (arith, less, small))
 
 -- digits that are not the stop bit are too few
 pub others_short : (stop : Bool) (n : ℕ) → n < 2 ^ 32 → read_unary stop (replicate n (not stop)) ≡ TooFew
-others_short stop n few = short_front stop (replicate n (not stop)) [] (omega (arith, length-replicate n (not stop), lead-others stop n [])) (omega (arith, length-replicate n (not stop), few))
+others_short stop n few = short_front stop (replicate n (not stop)) [] (omega (
+  arith,
+  length-replicate n (not stop),
+  lead-others stop n [],
+)) (omega (arith, length-replicate n (not stop), few))
 
 -- as many of them as are too long
-pub others_long : (stop : Bool) (n : ℕ) (rest : List Bool) → n ≡ 2 ^ 32 → read_unary stop (replicate n (not stop) ++ rest) ≡ Takes (length (replicate n (not stop))) (Err RunTooLong)
+pub others_long : (stop : Bool) (n : ℕ) (rest : List Bool) → n ≡ 2 ^ 32
+    → read_unary stop (replicate n (not stop) ++ rest) ≡ Takes (length (replicate n (not stop))) (Err RunTooLong)
 others_long stop n rest long =
     let least : 2 ^ 32 ≤ lead stop (replicate n (not stop) ++ rest) = omega (arith, lead-others stop n rest) in
     rw (le-ltb (lead stop (replicate n (not stop) ++ rest)) (2 ^ 32) least, length-replicate n (not stop), long) refl
 
-pub read_unary-unary : (stop : Bool) (k : ℕ) (rest : List Bool) → k < 2 ^ 32 → read_unary stop (unary stop k ++ rest) ≡ Takes (length (unary stop k)) (Ok k)
+pub read_unary-unary : (stop : Bool) (k : ℕ) (rest : List Bool) → k < 2 ^ 32 → read_unary stop (unary stop k ++ rest)
+    ≡ Takes (length (unary stop k)) (Ok k)
 read_unary-unary stop k rest small =
-    let len : length (unary stop k ++ rest) ≡ (k + 1) + length rest = length-append (unary stop k) rest ∙ ap (λ n. n + length rest) (length-unary stop k) in
+    let len : length (unary stop k ++ rest) ≡ (k + 1) + length rest = length-append (unary stop k) rest
+    ∙ ap (λ n. n + length rest) (length-unary stop k) in
     let within : k < length (unary stop k ++ rest) = omega (arith, len) in
-    rw (lead-unary stop k rest, lt-ltb k (2 ^ 32) small, lt-ltb k (length (unary stop k ++ rest)) within, length-unary stop k) refl
+    rw (
+      lead-unary stop k rest,
+      lt-ltb k (2 ^ 32) small,
+      lt-ltb k (length (unary stop k ++ rest)) within,
+      length-unary stop k,
+    ) refl
 
 -- ---- what was read
 
-pub unary_read : (stop : Bool) (bits : List Bool) (n k : ℕ) → read_unary stop bits ≡ Takes n (Ok k) → (k < 2 ^ 32) × (n ≤ length bits) × (take n bits ≡ unary stop k)
+pub unary_read : (stop : Bool) (bits : List Bool) (n k : ℕ) → read_unary stop bits ≡ Takes n (Ok k) → (k < 2 ^ 32)
+    × (n ≤ length bits) × (take n bits ≡ unary stop k)
 unary_read stop bits n k e =
     let r = lead stop bits in
     elim (cases_lt r (2 ^ 32)) [
@@ -117,14 +147,18 @@ unary_read stop bits n k e =
             let taken = rw (lt-ltb r (2 ^ 32) small, lt-ltb r (length bits) found) at e in
             let size : r + 1 ≡ n = cc taken in
             let same : r ≡ k = cc taken in
-            let next : suc r ≡ n = omega (arith, size) in
-            (omega (arith, same, small), omega (arith, size, found), subst (λ i. take i bits ≡ unary stop k) next (front_is_unary stop bits found ∙ ap (unary stop) same))
+            let next : suc r ≡ n = omega (arith, size) in (
+              omega (arith, same, small),
+              omega (arith, size, found),
+              subst (λ i. take i bits ≡ unary stop k) next (front_is_unary stop bits found ∙ ap (unary stop) same),
+            )
         | inr short ↦ absurd (let none = rw (lt-ltb r (2 ^ 32) small, le-ltb r (length bits) short) at e in cc none)
       ]
       | inr long ↦ absurd (let none = rw (le-ltb r (2 ^ 32) long) at e in cc none)
     ]
 
-pub long_read : (stop : Bool) (bits : List Bool) (n : ℕ) (error : Error) → read_unary stop bits ≡ Takes n (Err error) → (error ≡ RunTooLong) × (n ≡ 2 ^ 32) × (n ≤ length bits) × (take n bits ≡ replicate n (not stop))
+pub long_read : (stop : Bool) (bits : List Bool) (n : ℕ) (error : Error) → read_unary stop bits ≡ Takes n (Err error)
+    → (error ≡ RunTooLong) × (n ≡ 2 ^ 32) × (n ≤ length bits) × (take n bits ≡ replicate n (not stop))
 long_read stop bits n error e =
     let r = lead stop bits in
     elim (cases_lt r (2 ^ 32)) [
@@ -135,6 +169,10 @@ long_read stop bits n error e =
       | inr long ↦
           let taken = rw (le-ltb r (2 ^ 32) long) at e in
           let size : 2 ^ 32 ≡ n = cc taken in
-          let same : RunTooLong ≡ error = cc taken in
-          (sym same, sym size, omega (arith, size, long, lead_le stop bits), take_others stop n bits (omega (arith, size, long)))
+          let same : RunTooLong ≡ error = cc taken in (
+            sym same,
+            sym size,
+            omega (arith, size, long, lead_le stop bits),
+            take_others stop n bits (omega (arith, size, long)),
+          )
     ]

@@ -34,31 +34,43 @@ ok_below false x v e = absurd cc
 
 module _ (o : Order) (field : ℕ) (some : 0 < field) where
   -- the first groups of two lists
-  same_group : (a b : ℕ) (x y : List Bool) → a < 2 ^ field → b < 2 ^ field → word o field a ++ x ≡ word o field b ++ y → (a ≡ b) × (x ≡ y)
+  same_group : (a b : ℕ) (x y : List Bool) → a < 2 ^ field → b < 2 ^ field → word o field a ++ x ≡ word o field b ++ y
+      → (a ≡ b) × (x ≡ y)
   same_group a b x y p q e =
-      let parts = same_parts (word o field a) (word o field b) x y (length-word o field a ∙ sym (length-word o field b)) e in
+      let parts = same_parts (word o field a) (word o field b) x y (length-word o field a ∙ sym (length-word o field b))
+      e in
       (same_from_word o field a b p q parts.0, parts.1)
 
   pub IsGroups-length : (more : ℕ) (w : List Bool) (v : ℕ) → IsGroups o field more w v → length w ≡ field + more * field
   IsGroups-length zero w v g = ap length g.1 ∙ length-word o field v ∙ omega arith
   IsGroups-length (suc more) w v (low, high, rest, p, e, n, g) =
-      ap length e ∙ length-append (word o field (2 ^ (field - 1) + low)) rest ∙ rw (length-word o field (2 ^ (field - 1) + low), IsGroups-length more rest high g) (omega arith)
+      ap length e ∙ length-append (word o field (2 ^ (field - 1) + low)) rest
+      ∙ rw (length-word o field (2 ^ (field - 1) + low), IsGroups-length more rest high g) (omega arith)
 
-  pub groups_apart : (j k : ℕ) (u v : List Bool) (a b : ℕ) (x y : List Bool) → IsGroups o field j u a → IsGroups o field k v b → u ++ x ≡ v ++ y → (u ≡ v) × (a ≡ b)
+  pub groups_apart : (j k : ℕ) (u v : List Bool) (a b : ℕ) (x y : List Bool) → IsGroups o field j u a
+      → IsGroups o field k v b → u ++ x ≡ v ++ y → (u ≡ v) × (a ≡ b)
   groups_apart zero zero u v a b x y p q e =
-      let same = same_group a b x y (omega (arith, half field some, p.0)) (omega (arith, half field some, q.0)) (rw (← p.1, ← q.1) e) in
+      let same = same_group a b x y (omega (arith, half field some, p.0)) (omega (arith, half field some, q.0))
+      (rw (← p.1, ← q.1) e) in
       (p.1 ∙ ap (word o field) same.0 ∙ sym q.1, same.0)
   groups_apart zero (suc k) u v a b x y p (low, high, rest, lt, e', n, g) e =
-      let heads = sym (ap (λ (w : List Bool). w ++ x) p.1) ∙ e ∙ ap (λ (w : List Bool). w ++ y) e' ∙ append_assoc (word o field (2 ^ (field - 1) + low)) rest y in
-      let same = same_group a (2 ^ (field - 1) + low) x (rest ++ y) (omega (arith, half field some, p.0)) (omega (arith, half field some, lt)) heads in
+      let heads = sym (ap (λ (w : List Bool). w ++ x) p.1) ∙ e ∙ ap (λ (w : List Bool). w ++ y) e'
+      ∙ append_assoc (word o field (2 ^ (field - 1) + low)) rest y in
+      let same = same_group a (2 ^ (field - 1) + low) x (rest ++ y) (omega (arith, half field some, p.0))
+      (omega (arith, half field some, lt)) heads in
       absurd (omega (arith, same.0, p.0))
   groups_apart (suc j) zero u v a b x y (low, high, rest, lt, e', n, g) q e =
-      let heads = sym (append_assoc (word o field (2 ^ (field - 1) + low)) rest x) ∙ sym (ap (λ (w : List Bool). w ++ x) e') ∙ e ∙ ap (λ (w : List Bool). w ++ y) q.1 in
-      let same = same_group (2 ^ (field - 1) + low) b (rest ++ x) y (omega (arith, half field some, lt)) (omega (arith, half field some, q.0)) heads in
+      let heads = sym (append_assoc (word o field (2 ^ (field - 1) + low)) rest x)
+      ∙ sym (ap (λ (w : List Bool). w ++ x) e') ∙ e ∙ ap (λ (w : List Bool). w ++ y) q.1 in
+      let same = same_group (2 ^ (field - 1) + low) b (rest ++ x) y (omega (arith, half field some, lt))
+      (omega (arith, half field some, q.0)) heads in
       absurd (omega (arith, same.0, q.0))
   groups_apart (suc j) (suc k) u v a b x y (low, high, rest, lt, e', n, g) (low2, high2, rest2, lt2, e2, n2, g2) e =
-      let heads = sym (append_assoc (word o field (2 ^ (field - 1) + low)) rest x) ∙ sym (ap (λ (w : List Bool). w ++ x) e') ∙ e ∙ ap (λ (w : List Bool). w ++ y) e2 ∙ append_assoc (word o field (2 ^ (field - 1) + low2)) rest2 y in
-      let same = same_group (2 ^ (field - 1) + low) (2 ^ (field - 1) + low2) (rest ++ x) (rest2 ++ y) (omega (arith, half field some, lt)) (omega (arith, half field some, lt2)) heads in
+      let heads = sym (append_assoc (word o field (2 ^ (field - 1) + low)) rest x)
+      ∙ sym (ap (λ (w : List Bool). w ++ x) e') ∙ e ∙ ap (λ (w : List Bool). w ++ y) e2
+      ∙ append_assoc (word o field (2 ^ (field - 1) + low2)) rest2 y in
+      let same = same_group (2 ^ (field - 1) + low) (2 ^ (field - 1) + low2) (rest ++ x) (rest2
+      ++ y) (omega (arith, half field some, lt)) (omega (arith, half field some, lt2)) heads in
       let lows : low ≡ low2 = omega (arith, same.0) in
       let others = groups_apart j k rest rest2 high high2 x y g g2 same.1 in (
         e' ∙ ap₂ (λ (n : ℕ) (w : List Bool). word o field (2 ^ (field - 1) + n) ++ w) lows others.0 ∙ sym e2,
@@ -70,14 +82,19 @@ module _ (o : Order) (field : ℕ) (some : 0 < field) where
   groups_enough : (f g v : ℕ) → 2 ≤ field → v ≤ f → v ≤ g → groups f o field v ≡ groups g o field v
   unfolding groups
   groups_enough zero zero v wide p q = refl
-  groups_enough zero (suc g) v wide p q = let small : v < 2 ^ (field - 1) = omega (arith, pow_pos (field - 1)) in rw (lt-ltb v (2 ^ (field - 1)) small) refl
-  groups_enough (suc f) zero v wide p q = let small : v < 2 ^ (field - 1) = omega (arith, pow_pos (field - 1)) in rw (lt-ltb v (2 ^ (field - 1)) small) refl
+  groups_enough zero (suc g) v wide p q = let small : v < 2 ^ (field - 1) = omega (arith, pow_pos (field - 1)) in
+      rw (lt-ltb v (2 ^ (field - 1)) small) refl
+  groups_enough (suc f) zero v wide p q = let small : v < 2 ^ (field - 1) = omega (arith, pow_pos (field - 1)) in
+      rw (lt-ltb v (2 ^ (field - 1)) small) refl
   groups_enough (suc f) (suc g) v wide p q =
       elim (cases_lt v (2 ^ (field - 1))) [
         | inl small ↦ rw (lt-ltb v (2 ^ (field - 1)) small) refl
         | inr large ↦
-            let less : v / 2 ^ (field - 1) < v = div-lt_self (omega (arith, pow_pos (field - 1))) (pow_below 0 (field - 1) (omega arith)) in
-            ap (λ (w : List Bool). cond (ltb v (2 ^ (field - 1))) (word o field v) (word o field (2 ^ (field - 1) + v % 2 ^ (field - 1)) ++ w)) (groups_enough f g (v / 2 ^ (field - 1)) wide (omega arith) (omega arith))
+            let less : v / 2 ^ (field - 1) < v = div-lt_self (omega (arith, pow_pos (field - 1)))
+            (pow_below 0 (field - 1) (omega arith)) in
+            ap (λ (w : List Bool). cond (ltb v (2 ^ (field - 1))) (word o field v)
+            (word o field (2 ^ (field - 1) + v % 2 ^ (field - 1)) ++ w))
+            (groups_enough f g (v / 2 ^ (field - 1)) wide (omega arith) (omega arith))
       ]
 
   pub vbr_word_small : (v : ℕ) → v < 2 ^ (field - 1) → vbr_word o field v ≡ word o field v
@@ -85,15 +102,19 @@ module _ (o : Order) (field : ℕ) (some : 0 < field) where
   vbr_word_small zero small = refl
   vbr_word_small (suc v) small = rw (lt-ltb (suc v) (2 ^ (field - 1)) small) refl
 
-  pub vbr_word_large : (v : ℕ) → 2 ≤ field → 2 ^ (field - 1) ≤ v → vbr_word o field v ≡ word o field (2 ^ (field - 1) + v % 2 ^ (field - 1)) ++ vbr_word o field (v / 2 ^ (field - 1))
+  pub vbr_word_large : (v : ℕ) → 2 ≤ field → 2 ^ (field - 1) ≤ v → vbr_word o field v
+      ≡ word o field (2 ^ (field - 1) + v % 2 ^ (field - 1)) ++ vbr_word o field (v / 2 ^ (field - 1))
   unfolding groups
   vbr_word_large zero wide large = absurd (omega (arith, pow_pos (field - 1)))
   vbr_word_large (suc v) wide large =
       let less : suc v / 2 ^ (field - 1) < suc v = div-lt_self (omega arith) (pow_below 0 (field - 1) (omega arith)) in
-      rw (le-ltb (suc v) (2 ^ (field - 1)) large) (ap (λ (w : List Bool). word o field (2 ^ (field - 1) + suc v % 2 ^ (field - 1)) ++ w) (groups_enough v (suc v / 2 ^ (field - 1)) (suc v / 2 ^ (field - 1)) wide (omega arith) (omega arith)))
+      rw (le-ltb (suc v) (2 ^ (field - 1)) large) (ap (λ (w : List Bool). word o field
+      (2 ^ (field - 1) + suc v % 2 ^ (field - 1)) ++ w)
+      (groups_enough v (suc v / 2 ^ (field - 1)) (suc v / 2 ^ (field - 1)) wide (omega arith) (omega arith)))
 
   -- it spells v, in no more groups than v asks for
-  pub vbr_word_spells : (fuel v : ℕ) → 2 ≤ field → v ≤ fuel → (more : ℕ) × IsGroups o field more (vbr_word o field v) v × (2 ^ (more * (field - 1)) ≤ max 1 v)
+  pub vbr_word_spells : (fuel v : ℕ) → 2 ≤ field → v ≤ fuel → (more : ℕ) × IsGroups o field more (vbr_word o field v) v
+      × (2 ^ (more * (field - 1)) ≤ max 1 v)
   vbr_word_spells zero v wide le =
       let small : v < 2 ^ (field - 1) = omega (arith, pow_pos (field - 1)) in
       (0, (small, vbr_word_small v small), rw (zero-mul (field - 1)) (omega arith))
@@ -101,18 +122,29 @@ module _ (o : Order) (field : ℕ) (some : 0 < field) where
       elim (cases_lt v (2 ^ (field - 1))) [
         | inl small ↦ (0, (small, vbr_word_small v small), rw (zero-mul (field - 1)) (omega arith))
         | inr large ↦
-            let less : v / 2 ^ (field - 1) < v = div-lt_self (omega (arith, pow_pos (field - 1))) (pow_below 0 (field - 1) (omega arith)) in
+            let less : v / 2 ^ (field - 1) < v = div-lt_self (omega (arith, pow_pos (field - 1)))
+            (pow_below 0 (field - 1) (omega arith)) in
             let high : 1 ≤ v / 2 ^ (field - 1) = le-div 1 v (2 ^ (field - 1)) (pow_pos (field - 1)) (omega arith) in
             let others = vbr_word_spells fuel (v / 2 ^ (field - 1)) wide (omega arith) in
-            let power : 2 ^ (suc others.0 * (field - 1)) ≡ 2 ^ (field - 1) * 2 ^ (others.0 * (field - 1)) = ap (λ n. 2 ^ n) (omega arith) ∙ pow-add 2 (field - 1) (others.0 * (field - 1)) in
+            let power : 2 ^ (suc others.0 * (field - 1)) ≡ 2 ^ (field - 1) * 2 ^ (others.0 * (field - 1)) =
+            ap (λ n. 2 ^ n) (omega arith) ∙ pow-add 2 (field - 1) (others.0 * (field - 1)) in
             let bound : 2 ^ (others.0 * (field - 1)) ≤ v / 2 ^ (field - 1) = omega (arith, others.2) in (
               suc others.0,
-              (v % 2 ^ (field - 1), v / 2 ^ (field - 1), vbr_word o field (v / 2 ^ (field - 1)), mod-lt v (pow_pos (field - 1)), vbr_word_large v wide large, omega (arith, pow_pos (field - 1)), others.1),
+              (
+                v % 2 ^ (field - 1),
+                v / 2 ^ (field - 1),
+                vbr_word o field (v / 2 ^ (field - 1)),
+                mod-lt v (pow_pos (field - 1)),
+                vbr_word_large v wide large,
+                omega (arith, pow_pos (field - 1)),
+                others.1,
+              ),
               omega (arith, power, mul-le-mul_left (2 ^ (field - 1)) bound, pow_pos (field - 1)),
             )
       ]
 
-  pub vbr_word_accepted : (width limit v : ℕ) → 2 ≤ field → 0 < width → limit ≤ 2 ^ width → v < limit → IsAccepted o field width limit (vbr_word o field v) v
+  pub vbr_word_accepted : (width limit v : ℕ) → 2 ≤ field → 0 < width → limit ≤ 2 ^ width → v < limit
+      → IsAccepted o field width limit (vbr_word o field v) v
   vbr_word_accepted width limit v wide bits most small =
       let spells = vbr_word_spells v v wide (omega arith) in (
         spells.0,
@@ -125,50 +157,83 @@ module _ (o : Order) (field : ℕ) (some : 0 < field) where
       )
 
   -- the same, by the parts of v
-  vbr_word_of : (low high v : ℕ) → 2 ≤ field → low < 2 ^ (field - 1) → v ≡ low + 2 ^ (field - 1) * high → 2 ^ (field - 1) ≤ v → vbr_word o field v ≡ word o field (2 ^ (field - 1) + low) ++ vbr_word o field high
+  vbr_word_of : (low high v : ℕ) → 2 ≤ field → low < 2 ^ (field - 1) → v ≡ low + 2 ^ (field - 1) * high
+      → 2 ^ (field - 1) ≤ v → vbr_word o field v ≡ word o field (2 ^ (field - 1) + low) ++ vbr_word o field high
   vbr_word_of low high v wide lt n large =
       let n' : v ≡ high * 2 ^ (field - 1) + low = omega (arith, n) in
       let lows : v % 2 ^ (field - 1) ≡ low = ap (λ k. k % 2 ^ (field - 1)) n' ∙ mod_low high (field - 1) low lt in
       let highs : v / 2 ^ (field - 1) ≡ high = ap (λ k. k / 2 ^ (field - 1)) n' ∙ shr_high high (field - 1) low lt in
-      vbr_word_large v wide large ∙ ap₂ (λ (i j : ℕ). word o field (2 ^ (field - 1) + i) ++ vbr_word o field j) lows highs
+      vbr_word_large v wide large ∙ ap₂ (λ (i j : ℕ). word o field (2 ^ (field - 1) + i)
+      ++ vbr_word o field j) lows highs
 
   -- ---- the shortest
 
-  pub vbr_word_shortest : (more : ℕ) (w : List Bool) (v : ℕ) → 2 ≤ field → IsGroups o field more w v → (w ≡ vbr_word o field v) ⊎ (length (vbr_word o field v) < length w)
+  pub vbr_word_shortest : (more : ℕ) (w : List Bool) (v : ℕ) → 2 ≤ field → IsGroups o field more w v
+      → (w ≡ vbr_word o field v) ⊎ (length (vbr_word o field v) < length w)
   vbr_word_shortest zero w v wide g = inl (g.1 ∙ sym (vbr_word_small v g.0))
   vbr_word_shortest (suc more) w v wide (low, high, rest, lt, e, n, g) =
-      let len : length w ≡ field + length rest = ap length e ∙ length-append (word o field (2 ^ (field - 1) + low)) rest ∙ ap (λ k. k + length rest) (length-word o field (2 ^ (field - 1) + low)) in
+      let len : length w ≡ field + length rest = ap length e ∙ length-append (word o field (2 ^ (field - 1) + low)) rest
+      ∙ ap (λ k. k + length rest) (length-word o field (2 ^ (field - 1) + low)) in
       elim (cases_lt v (2 ^ (field - 1))) [
-        | inl small ↦ inr (omega (arith, ap length (vbr_word_small v small), length-word o field v, len, IsGroups-length more rest high g))
+        | inl small ↦ inr (omega (
+          arith,
+          ap length (vbr_word_small v small),
+          length-word o field v,
+          len,
+          IsGroups-length more rest high g,
+        ))
         | inr large ↦
             let written = vbr_word_of low high v wide lt n large in
             elim (vbr_word_shortest more rest high wide g) [
-              | inl same ↦ inl (e ∙ ap (λ (u : List Bool). word o field (2 ^ (field - 1) + low) ++ u) same ∙ sym written)
-              | inr longer ↦ inr (omega (arith, ap length written, length-append (word o field (2 ^ (field - 1) + low)) (vbr_word o field high), length-word o field (2 ^ (field - 1) + low), len, longer))
+              | inl same ↦ inl (e ∙ ap (λ (u : List Bool). word o field (2 ^ (field - 1) + low) ++ u) same
+                  ∙ sym written)
+              | inr longer ↦ inr (omega (
+                arith,
+                ap length written,
+                length-append (word o field (2 ^ (field - 1) + low)) (vbr_word o field high),
+                length-word o field (2 ^ (field - 1) + low),
+                len,
+                longer,
+              ))
             ]
       ]
 
   -- ---- what is read
 
   first_number : (x : ℕ) (rest : List Bool) → x < 2 ^ field → number o (take field (word o field x ++ rest)) ≡ x
-  first_number x rest p = ap (number o) (take_at (word o field x) rest field (length-word o field x)) ∙ number-word o field x ∙ mod-eq_of_lt p
+  first_number x rest p = ap (number o) (take_at (word o field x) rest field (length-word o field x))
+      ∙ number-word o field x ∙ mod-eq_of_lt p
 
   long_enough : (x : ℕ) (rest : List Bool) → ltb (length (word o field x ++ rest)) field ≡ false
-  long_enough x rest = le-ltb (length (word o field x ++ rest)) field (omega (arith, length-append (word o field x) rest, length-word o field x))
+  long_enough x rest = le-ltb (length (word o field x ++ rest)) field
+      (omega (arith, length-append (word o field x) rest, length-word o field x))
 
-  groups_at-IsGroups : (room more : ℕ) (w : List Bool) (v : ℕ) (rest : List Bool) → IsGroups o field more w v → more < room → groups_at room o field (w ++ rest) ≡ found (length w) v
+  groups_at-IsGroups : (room more : ℕ) (w : List Bool) (v : ℕ) (rest : List Bool) → IsGroups o field more w v
+      → more < room → groups_at room o field (w ++ rest) ≡ found (length w) v
   unfolding groups_at
   groups_at-IsGroups zero more w v rest g p = absurd (omega arith)
   groups_at-IsGroups (suc room) zero w v rest g p =
       ap (λ (u : List Bool). groups_at (suc room) o field (u ++ rest)) g.1
-      ∙ rw (long_enough v rest, first_number v rest (omega (arith, half field some, g.0)), lt-ltb v (2 ^ (field - 1)) g.0) (ap (λ n. found n v) (sym (length-word o field v) ∙ sym (ap length g.1)))
+      ∙ rw (
+        long_enough v rest,
+        first_number v rest (omega (arith, half field some, g.0)),
+        lt-ltb v (2 ^ (field - 1)) g.0,
+      ) (ap (λ n. found n v) (sym (length-word o field v) ∙ sym (ap length g.1)))
   groups_at-IsGroups (suc room) (suc more) w v rest (low, high, others, lt, e, n, g) p =
       let x = 2 ^ (field - 1) + low in
-      let regrouped : w ++ rest ≡ word o field x ++ (others ++ rest) = ap (λ (u : List Bool). u ++ rest) e ∙ append_assoc (word o field x) others rest in
-      let next = ap (groups_at room o field) (drop_at (word o field x) (others ++ rest) field (length-word o field x)) ∙ groups_at-IsGroups room more others high rest g (omega arith) in
-      let len : field + length others ≡ length w = sym (ap length e ∙ length-append (word o field x) others ∙ ap (λ k. k + length others) (length-word o field x)) in
+      let regrouped : w ++ rest ≡ word o field x ++ (others ++ rest) = ap (λ (u : List Bool). u ++ rest) e
+      ∙ append_assoc (word o field x) others rest in
+      let next = ap (groups_at room o field) (drop_at (word o field x) (others ++ rest) field (length-word o field x))
+      ∙ groups_at-IsGroups room more others high rest g (omega arith) in
+      let len : field + length others ≡ length w = sym (ap length e ∙ length-append (word o field x) others
+      ∙ ap (λ k. k + length others) (length-word o field x)) in
       ap (groups_at (suc room) o field) regrouped
-      ∙ rw (long_enough x (others ++ rest), first_number x (others ++ rest) (omega (arith, half field some, lt)), le-ltb x (2 ^ (field - 1)) (omega arith), next) (ap₂ found len (omega (arith, n)))
+      ∙ rw (
+        long_enough x (others ++ rest),
+        first_number x (others ++ rest) (omega (arith, half field some, lt)),
+        le-ltb x (2 ^ (field - 1)) (omega arith),
+        next,
+      ) (ap₂ found len (omega (arith, n)))
 
   -- how many groups the width allows
   room_for : (width more : ℕ) → 2 ≤ field → more * (field - 1) < width → more < div_ceil width (field - 1)
@@ -182,9 +247,13 @@ module _ (o : Order) (field : ℕ) (some : 0 < field) where
             omega (arith, parts, same, ap (λ n. n * (field - 1)) same)
       ]
 
-  pub read_vbr-IsAccepted : (width limit : ℕ) (w : List Bool) (v : ℕ) (rest : List Bool) → 2 ≤ field → IsAccepted o field width limit w v → read_vbr o field width limit (w ++ rest) ≡ found (length w) v
+  pub read_vbr-IsAccepted : (width limit : ℕ) (w : List Bool) (v : ℕ) (rest : List Bool) → 2 ≤ field
+      → IsAccepted o field width limit w v → read_vbr o field width limit (w ++ rest) ≡ found (length w) v
   read_vbr-IsAccepted width limit w v rest wide (more, g, begins, small) =
-      rw (groups_at-IsGroups (div_ceil width (field - 1)) more w v rest g (room_for width more wide begins), lt-ltb v limit small) refl
+      rw (
+        groups_at-IsGroups (div_ceil width (field - 1)) more w v rest g (room_for width more wide begins),
+        lt-ltb v limit small,
+      ) refl
 
   -- ---- only accepted words are read
 
@@ -192,7 +261,12 @@ module _ (o : Order) (field : ℕ) (some : 0 < field) where
   within_room width more wide begins =
       let parts = div-add-mod' width (field - 1) in
       elim (cases_lt more (width / (field - 1))) [
-        | inl less ↦ omega (arith, parts, mul-le (suc more) (field - 1) (width / (field - 1)) (field - 1) less (omega arith))
+        | inl less ↦ omega (
+          arith,
+          parts,
+          mul-le (suc more) (field - 1) (width / (field - 1)) (field - 1) less
+              (omega arith),
+        )
         | inr large ↦
             let same : more ≡ width / (field - 1) = omega arith in
             omega (arith, parts, ap (λ n. n * (field - 1)) same)
@@ -208,7 +282,8 @@ module _ (o : Order) (field : ℕ) (some : 0 < field) where
   before_found low (Takes k (Ok high)) n v e = (k, high, refl, cc, cc)
   before_found low (Takes k (Err d)) n v e = absurd cc
 
-  pub groups_at_found : (room : ℕ) (bits : List Bool) (n v : ℕ) → groups_at room o field bits ≡ found n v → (more : ℕ) × (more < room) × (n ≤ length bits) × IsGroups o field more (take n bits) v
+  pub groups_at_found : (room : ℕ) (bits : List Bool) (n v : ℕ) → groups_at room o field bits ≡ found n v → (more : ℕ)
+      × (more < room) × (n ≤ length bits) × IsGroups o field more (take n bits) v
   unfolding groups_at
   groups_at_found zero bits n v e = absurd cc
   groups_at_found (suc room) bits n v e =
@@ -216,16 +291,26 @@ module _ (o : Order) (field : ℕ) (some : 0 < field) where
       let first = number o (take field bits) in
       let enough : field ≤ length bits = ltb-false _ _ long.0 in
       let len : length (take field bits) ≡ field = length-take-le field bits enough in
-      let spelled : take field bits ≡ word o field first = sym (word-number o (take field bits)) ∙ ap (λ k. word o k first) len in
+      let spelled : take field bits ≡ word o field first = sym (word-number o (take field bits))
+      ∙ ap (λ k. word o k first) len in
       let small : first < 2 ^ field = subst (λ k. first < 2 ^ k) len (number-lt o (take field bits)) in
       elim (cases_lt first (2 ^ (field - 1))) [
         | inl last ↦
             let same = rw (lt-ltb first (2 ^ (field - 1)) last) at long.1 in
             let size : field ≡ n = cc same in
-            let value : first ≡ v = cc same in
-            (0, omega arith, omega (arith, size), (omega (arith, value), ap (λ k. take k bits) (sym size) ∙ spelled ∙ ap (word o field) value))
+            let value : first ≡ v = cc same in (
+              0,
+              omega arith,
+              omega (arith, size),
+              (
+                omega (arith, value),
+                ap (λ k. take k bits) (sym size) ∙ spelled
+                    ∙ ap (word o field) value,
+              ),
+            )
         | inr goes_on ↦
-            let others = before_found (first - 2 ^ (field - 1)) (groups_at room o field (drop field bits)) n v (rw (le-ltb first (2 ^ (field - 1)) goes_on) at long.1) in
+            let others = before_found (first - 2 ^ (field - 1)) (groups_at room o field (drop field bits)) n v
+            (rw (le-ltb first (2 ^ (field - 1)) goes_on) at long.1) in
             let k = others.0 in
             let rest = take k (drop field bits) in
             let deeper = groups_at_found room (drop field bits) k others.1 others.2 in
@@ -238,14 +323,16 @@ module _ (o : Order) (field : ℕ) (some : 0 < field) where
                 others.1,
                 rest,
                 omega (arith, small, half field some),
-                ap (λ i. take i bits) others.3 ∙ take-add field k bits ∙ ap (λ (u : List Bool). u ++ rest) (spelled ∙ ap (word o field) whole),
+                ap (λ i. take i bits) others.3 ∙ take-add field k bits
+                    ∙ ap (λ (u : List Bool). u ++ rest) (spelled ∙ ap (word o field) whole),
                 others.4,
                 deeper.3,
               ),
             )
       ]
 
-  below_found : (limit : ℕ) (front : Front ℕ) (n v : ℕ) → below limit front ≡ found n v → (front ≡ found n v) × (v < limit)
+  below_found : (limit : ℕ) (front : Front ℕ) (n v : ℕ) → below limit front ≡ found n v → (front ≡ found n v)
+      × (v < limit)
   below_found limit TooFew n v e = absurd cc
   below_found limit (Takes k (Err d)) n v e = absurd cc
   below_found limit (Takes k (Ok x)) n v e =
@@ -254,7 +341,8 @@ module _ (o : Order) (field : ℕ) (some : 0 < field) where
       (ap₂ found size fits.1, omega (arith, ltb-true x limit fits.0, fits.1))
 
   -- a number is answered only if the bits begin with its word
-  pub read_vbr_only : (width limit : ℕ) (bits : List Bool) (n v : ℕ) → 2 ≤ field → read_vbr o field width limit bits ≡ found n v → IsAccepted o field width limit (take n bits) v × (n ≤ length bits)
+  pub read_vbr_only : (width limit : ℕ) (bits : List Bool) (n v : ℕ) → 2 ≤ field → read_vbr o field width limit bits
+      ≡ found n v → IsAccepted o field width limit (take n bits) v × (n ≤ length bits)
   read_vbr_only width limit bits n v wide e =
       let parts = below_found limit (groups_at (div_ceil width (field - 1)) o field bits) n v e in
       let spelled = groups_at_found (div_ceil width (field - 1)) bits n v parts.0 in
@@ -262,9 +350,15 @@ module _ (o : Order) (field : ℕ) (some : 0 < field) where
 
   -- ---- one group, and what is read behind it
 
-  pub groups_at_step : (room : ℕ) (x y : List Bool) → length x ≡ field → groups_at (suc room) o field (x ++ y) ≡ cond (ltb (number o x) (2 ^ (field - 1))) (Takes field (Ok (number o x))) (before field (number o x - 2 ^ (field - 1)) (groups_at room o field y))
+  pub groups_at_step : (room : ℕ) (x y : List Bool) → length x ≡ field → groups_at (suc room) o field (x ++ y)
+      ≡ cond (ltb (number o x) (2 ^ (field - 1))) (Takes field (Ok (number o x)))
+      (before field (number o x - 2 ^ (field - 1)) (groups_at room o field y))
   unfolding groups_at
-  groups_at_step room x y len = rw (le-ltb (length (x ++ y)) field (omega (arith, length-append x y)), take_at x y field len, drop_at x y field len) refl
+  groups_at_step room x y len = rw (
+    le-ltb (length (x ++ y)) field (omega (arith, length-append x y)),
+    take_at x y field len,
+    drop_at x y field len,
+  ) refl
 
 -- ---- the order of the bits shows in no length
 
@@ -277,7 +371,14 @@ length-groups o p (suc more) field v =
     elim (cases_lt v (2 ^ (field - 1))) [
       | inl small ↦ rw (lt-ltb v (2 ^ (field - 1)) small) one
       | inr large ↦
-          rw (le-ltb v (2 ^ (field - 1)) large, length-append (word o field x) (groups more o field (v / 2 ^ (field - 1))), length-append (word p field x) (groups more p field (v / 2 ^ (field - 1))), length-word o field x, length-word p field x)
+          rw (
+            le-ltb v (2 ^ (field - 1)) large,
+            length-append (word o field x)
+                (groups more o field (v / 2 ^ (field - 1))),
+            length-append (word p field x) (groups more p field (v / 2 ^ (field - 1))),
+            length-word o field x,
+            length-word p field x,
+          )
           (ap (λ n. field + n) (length-groups o p more field (v / 2 ^ (field - 1))))
     ]
 
@@ -290,7 +391,10 @@ pub zig-lt : (n : ℕ) (x : ℤ) → 0 < n → FitsSignedBits n x → zig x < 2 
 zig-lt n (pos k) some fits = omega (arith, half n some, fits)
 zig-lt n (negsuc k) some fits = omega (arith, half n some, fits)
 
-pub signed_word_shortest : (o : Order) (field : ℕ) → 0 < field → (width limit : ℕ) (x : ℤ) (w : List Bool) (v : ℕ) → 2 ≤ field → IsAccepted o field width limit w v → zag v ≡ x → (w ≡ vbr_word o field (zig x)) ⊎ (length (vbr_word o field (zig x)) < length w)
+pub signed_word_shortest : (o : Order) (field : ℕ) → 0 < field → (width limit : ℕ) (x : ℤ) (w : List Bool) (v : ℕ)
+    → 2 ≤ field → IsAccepted o field width limit w v → zag v ≡ x → (w ≡ vbr_word o field (zig x))
+    ⊎ (length (vbr_word o field (zig x)) < length w)
 signed_word_shortest o field some width limit x w v wide accepted is =
     let same : v ≡ zig x = sym (zig-zag v) ∙ ap zig is in
-    subst (λ (k : ℕ). (w ≡ vbr_word o field k) ⊎ (length (vbr_word o field k) < length w)) same (vbr_word_shortest o field some accepted.0 w v wide accepted.1)
+    subst (λ (k : ℕ). (w ≡ vbr_word o field k) ⊎ (length (vbr_word o field k) < length w)) same
+    (vbr_word_shortest o field some accepted.0 w v wide accepted.1)

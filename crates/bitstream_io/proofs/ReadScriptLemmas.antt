@@ -23,18 +23,24 @@ use Rattle.bitstream_io.specs.declared.script.read_call.ReadCall.TheVariants.{By
 -- ---- read runs
 
 -- what a call's front makes of the run
-front-few : (front : Front Answer) (p : ℕ) (others : ℕ → List (Result Answer Error × ℕ)) → front ≡ TooFew → answer_and front p others ≡ []
+front-few : (front : Front Answer) (p : ℕ) (others : ℕ → List (Result Answer Error × ℕ)) → front ≡ TooFew
+    → answer_and front p others ≡ []
 front-few front p others h = ap (λ (f : Front Answer). answer_and f p others) h
 
-front-long : (front : Front Answer) (n p : ℕ) (others : ℕ → List (Result Answer Error × ℕ)) → front ≡ Takes n (Err RunTooLong) → answer_and front p others ≡ (Err RunTooLong, p + n) ∷ []
+front-long : (front : Front Answer) (n p : ℕ) (others : ℕ → List (Result Answer Error × ℕ)) → front
+    ≡ Takes n (Err RunTooLong) → answer_and front p others ≡ (Err RunTooLong, p + n) ∷ []
 front-long front n p others h = ap (λ (f : Front Answer). answer_and f p others) h
 
-goes_on : (n p : ℕ) (answer : Result Answer Error) (others : ℕ → List (Result Answer Error × ℕ)) → is_run_too_long answer ≡ false → answer_and (Takes n answer) p others ≡ (answer, p + n) ∷ others n
+goes_on : (n p : ℕ) (answer : Result Answer Error) (others : ℕ → List (Result Answer Error × ℕ))
+    → is_run_too_long answer ≡ false → answer_and (Takes n answer) p others ≡ (answer, p + n) ∷ others n
 goes_on n p (Err RunTooLong) others h = cc
 goes_on n p _ others h = refl
 
-front-done : (front : Front Answer) (n p : ℕ) (answer : Result Answer Error) (others : ℕ → List (Result Answer Error × ℕ)) → front ≡ Takes n answer → is_run_too_long answer ≡ false → answer_and front p others ≡ (answer, p + n) ∷ others n
-front-done front n p answer others h sound = ap (λ (f : Front Answer). answer_and f p others) h ∙ goes_on n p answer others sound
+front-done : (front : Front Answer) (n p : ℕ) (answer : Result Answer Error) (others : ℕ
+    → List (Result Answer Error × ℕ)) → front ≡ Takes n answer → is_run_too_long answer ≡ false
+    → answer_and front p others ≡ (answer, p + n) ∷ others n
+front-done front n p answer others h sound = ap (λ (f : Front Answer). answer_and f p others) h
+    ∙ goes_on n p answer others sound
 
 too_long-is : (answer : Result Answer Error) → is_run_too_long answer ≡ true → answer ≡ Err RunTooLong
 too_long-is (Err RunTooLong) h = refl
@@ -45,7 +51,8 @@ failed_or_not true = inl refl
 failed_or_not false = inr refl
 
 -- a call of those that ask for no memory
-pub free_call : (call : ReadCall) (calls : List ReadCall) → AsksNoMemory (call ∷ calls) → (asks_memory call ≡ false) × AsksNoMemory calls
+pub free_call : (call : ReadCall) (calls : List ReadCall) → AsksNoMemory (call ∷ calls) → (asks_memory call ≡ false)
+    × AsksNoMemory calls
 free_call (Bytes n) calls h = absurd h
 free_call _ calls h = (refl, h)
 
@@ -55,13 +62,17 @@ module _ {R A : Type 0} {K : BitSource R} {grows : Bool} (make : A → Answer) {
   pub answered_ok : {a : A} → ReadOutcome K grows e s (Ok a) t → ReadOutcome K grows (answered make e) s (Ok (make a)) t
   answered_ok {a = a} h = Reads-chain-ok e (λ (v : A). gives (make v)) h (Reads-gives (make a) t)
 
-  pub answered_stops : {x : Error} (r : Result Answer Error) → IsErrAnd r (λ y. y ≡ x) → ReadOutcome K grows e s (Err x) t → ReadOutcome K grows (answered make e) s r t
+  pub answered_stops : {x : Error} (r : Result Answer Error) → IsErrAnd r (λ y. y ≡ x)
+      → ReadOutcome K grows e s (Err x) t → ReadOutcome K grows (answered make e) s r t
   answered_stops r h k = exit (λ (v : A). gives (make v)) r h k
 
 -- a number of a signed type, which stands in the answer as what its bits say
-pub answered_signed : {R : Type 0} {K : BitSource R} {grows : Bool} (make : ℤ → Answer) {e : ReadEntry ℤ} {s t : R} (w : Width) {x : ℤ} → ReadOutcome K grows e s (Ok x) t → SFits w x → ReadOutcome K grows (answered make e) s (Ok (make (to_z w (of_z w x)))) t
+pub answered_signed : {R : Type 0} {K : BitSource R} {grows : Bool} (make : ℤ → Answer) {e : ReadEntry ℤ} {s t : R}
+    (w : Width) {x : ℤ} → ReadOutcome K grows e s (Ok x) t → SFits w x
+    → ReadOutcome K grows (answered make e) s (Ok (make (to_z w (of_z w x)))) t
 answered_signed {K = K} {grows = grows} make {e = e} {s = s} {t = t} w {x = x} h fits =
-    subst (λ (y : ℤ). ReadOutcome K grows (answered make e) s (Ok (make y)) t) (sym (to_z-of_z w x fits)) (answered_ok make h)
+    subst (λ (y : ℤ). ReadOutcome K grows (answered make e) s (Ok (make y)) t) (sym (to_z-of_z w x fits))
+    (answered_ok make h)
 
 module _ {R : Type 0} (K : BitSource R) where
   pub each_none : (s : R) → ReadsEach K [] s [] s
@@ -69,44 +80,62 @@ module _ {R : Type 0} (K : BitSource R) where
   each_none s = refl
 
   -- a call from a state that tells the same
-  same_start : {grows : Bool} {e : ReadEntry Answer} {s t : R} {r : Result Answer Error} {u : R} → ReadOutcome K grows e s r u → K.state s ≡ K.state t → ReadOutcome K grows e t r u
-  same_start {e = e} {r = r} {u = u} (had_failed h) q = had_failed (subst (λ (z : ReaderState). HadFailed e z r (K.state u)) q h)
-  same_start {e = e} {r = r} {u = u} (was_done h) q = was_done (subst (λ (z : ReaderState). ReadDone K.order e z r (K.state u)) q h)
-  same_start {e = e} {r = r} {u = u} (was_refused h) q = was_refused (subst (λ (z : ReaderState). ReadRefused K.order K.may e z r (K.state u)) q h)
-  same_start {e = e} {r = r} {u = u} (memory_refused g h) q = memory_refused g (subst (λ (z : ReaderState). MemoryRefused K.order e z r (K.state u)) q h)
+  same_start : {grows : Bool} {e : ReadEntry Answer} {s t : R} {r : Result Answer Error} {u : R}
+      → ReadOutcome K grows e s r u → K.state s ≡ K.state t → ReadOutcome K grows e t r u
+  same_start {e = e} {r = r} {u = u} (had_failed h) q =
+      had_failed (subst (λ (z : ReaderState). HadFailed e z r (K.state u)) q h)
+  same_start {e = e} {r = r} {u = u} (was_done h) q = was_done
+      (subst (λ (z : ReaderState). ReadDone K.order e z r (K.state u)) q h)
+  same_start {e = e} {r = r} {u = u} (was_refused h) q =
+      was_refused (subst (λ (z : ReaderState). ReadRefused K.order K.may e z r (K.state u)) q h)
+  same_start {e = e} {r = r} {u = u} (memory_refused g h) q =
+      memory_refused g (subst (λ (z : ReaderState). MemoryRefused K.order e z r (K.state u)) q h)
 
   -- one call more
-  pub each_more : (calls : List ReadCall) (places : List (Option (Result Answer Error))) (old mid : R) (call : ReadCall) (answer : Result Answer Error) (place : Option (Result Answer Error)) (new : R)
-      → ReadsEach K calls old places mid → place ≡ Some answer → ReadOutcome K (asks_memory call) (read_entry K.order call) mid answer new → ReadsEach K (calls ++ call ∷ []) old (places ++ place ∷ []) new
+  pub each_more : (calls : List ReadCall) (places : List (Option (Result Answer Error))) (old mid : R)
+      (call : ReadCall) (answer : Result Answer Error) (place : Option (Result Answer Error)) (new : R)
+      → ReadsEach K calls old places mid → place ≡ Some answer
+      → ReadOutcome K (asks_memory call) (read_entry K.order call) mid answer new
+      → ReadsEach K (calls ++ call ∷ []) old (places ++ place ∷ []) new
   unfolding ReadsEach
   each_more [] [] old mid call answer place new h is k = (answer, new, is, same_start k h, refl)
   each_more [] (q ∷ places) old mid call answer place new h is k = absurd h
   each_more (c ∷ calls) [] old mid call answer place new h is k = absurd h
-  each_more (c ∷ calls) (q ∷ places) old mid call answer place new h is k = (h.0, h.1, h.2, h.3, each_more calls places h.1 mid call answer place new h.4 is k)
+  each_more (c ∷ calls) (q ∷ places) old mid call answer place new h is k =
+      (h.0, h.1, h.2, h.3, each_more calls places h.1 mid call answer place new h.4 is k)
 
   -- a call on a reader that has failed
-  call_failed : {grows : Bool} {e : ReadEntry Answer} {s : R} {r : Result Answer Error} {t : R} → ReadOutcome K grows e s r t → (K.state s).failed ≡ true → (r ≡ e.on_failed) × (K.state t ≡ K.state s)
+  call_failed : {grows : Bool} {e : ReadEntry Answer} {s : R} {r : Result Answer Error} {t : R}
+      → ReadOutcome K grows e s r t → (K.state s).failed ≡ true → (r ≡ e.on_failed) × (K.state t ≡ K.state s)
   call_failed (had_failed h) f = (h.answer, h.same)
   call_failed (was_done h) f = let z = h.fine in cc
   call_failed (was_refused h) f = let z = h.fine in cc
   call_failed (memory_refused g h) f = let z = h.fine in cc
 
   -- calls on a reader that has failed
-  all_failed : (calls : List ReadCall) (old : R) (places : List (Option (Result Answer Error))) (new : R) → ReadsEach K calls old places new → (K.state old).failed ≡ true → (places ≡ failed_answers K.order calls) × (K.state new ≡ K.state old)
+  all_failed : (calls : List ReadCall) (old : R) (places : List (Option (Result Answer Error))) (new : R)
+      → ReadsEach K calls old places new → (K.state old).failed ≡ true → (places ≡ failed_answers K.order calls)
+      × (K.state new ≡ K.state old)
   unfolding ReadsEach
   all_failed [] old [] new h f = (refl, h)
   all_failed [] old (q ∷ places) new h f = absurd h
   all_failed (c ∷ calls) old [] new h f = absurd h
   all_failed (c ∷ calls) old (q ∷ places) new h f =
       let one = call_failed h.3 f in
-      let others = all_failed calls h.1 places new h.4 (ap (λ (s : ReaderState). s.failed) one.1 ∙ f) in
-      (ap₂ (λ (x : Option (Result Answer Error)) (xs : List (Option (Result Answer Error))). x ∷ xs) (h.2 ∙ ap Some one.0) others.0, others.1 ∙ one.1)
+      let others = all_failed calls h.1 places new h.4 (ap (λ (s : ReaderState). s.failed) one.1 ∙ f) in (
+        ap₂ (λ (x : Option (Result Answer Error)) (xs : List (Option (Result Answer Error))). x ∷ xs) (h.2
+            ∙ ap Some one.0) others.0,
+        others.1 ∙ one.1,
+      )
 
   -- ---- known bits
 
   -- the bits left behind a call that was answered
-  module _ {e : ReadEntry Answer} {answer : Result Answer Error} {old mid : R} (h : ReadDone K.order e (K.state old) answer (K.state mid)) (sound : is_run_too_long answer ≡ false) (xs : List ℕ) (known : (K.state old).bytes ≡ Some xs) where
-    left : (ys : List ℕ) × ((K.state mid).bytes ≡ Some ys) × ((K.state old).queue ++ bits K.order xs ≡ h.word ++ ((K.state mid).queue ++ bits K.order ys))
+  module _ {e : ReadEntry Answer} {answer : Result Answer Error} {old mid : R}
+      (h : ReadDone K.order e (K.state old) answer (K.state mid)) (sound : is_run_too_long answer ≡ false)
+      (xs : List ℕ) (known : (K.state old).bytes ≡ Some xs) where
+    left : (ys : List ℕ) × ((K.state mid).bytes ≡ Some ys)
+        × ((K.state old).queue ++ bits K.order xs ≡ h.word ++ ((K.state mid).queue ++ bits K.order ys))
     left =
         let k = Consumes-known (K.state old).bytes (K.state mid).bytes h.gone xs h.loses known in
         let ys = k.0 in
@@ -122,7 +151,8 @@ module _ {R : Type 0} (K : BitSource R) where
         )
 
   -- the front of a call that was answered, on the bits left
-  front_is : {e : ReadEntry Answer} {answer : Result Answer Error} {old mid : R} (h : ReadDone K.order e (K.state old) answer (K.state mid)) (xs : List ℕ) → (K.state old).bytes ≡ Some xs
+  front_is : {e : ReadEntry Answer} {answer : Result Answer Error} {old mid : R}
+      (h : ReadDone K.order e (K.state old) answer (K.state mid)) (xs : List ℕ) → (K.state old).bytes ≡ Some xs
       → e.reads (K.state old).taken ((K.state old).queue ++ bits K.order xs) ≡ Takes (length h.word) answer
   front_is {e = e} {old = old} {mid = mid} h xs known =
       let k = Consumes-known (K.state old).bytes (K.state mid).bytes h.gone xs h.loses known in
@@ -134,28 +164,47 @@ module _ {R : Type 0} (K : BitSource R) where
       ∙ append_assoc h.word h.rest (bits K.order k.0) in
       ap (e.reads (K.state old).taken) whole ∙ h.decides (h.rest ++ bits K.order k.0)
 
-  module _ (call : ReadCall) (calls : List ReadCall) (bits_old bits_mid : List Bool) (old mid new : R) (answer : Result Answer Error) (places : List (Option (Result Answer Error)))
-      (fine : (K.state old).failed ≡ false) (still : (K.state mid).failed ≡ false) (refusals : (K.state mid).refusals ≡ (K.state old).refusals)
-      (step : read_run (read_entries K.order (call ∷ calls)) (K.state old).taken bits_old ≡ (answer, (K.state mid).taken) ∷ read_run (read_entries K.order calls) (K.state mid).taken bits_mid) where
+  module _ (call : ReadCall) (calls : List ReadCall) (bits_old bits_mid : List Bool) (old mid new : R)
+      (answer : Result Answer Error) (places : List (Option (Result Answer Error)))
+      (fine : (K.state old).failed ≡ false) (still : (K.state mid).failed ≡ false) (refusals : (K.state mid).refusals
+      ≡ (K.state old).refusals)
+      (step : read_run (read_entries K.order (call ∷ calls)) (K.state old).taken bits_old
+      ≡ (answer, (K.state mid).taken) ∷ read_run (read_entries K.order calls) (K.state mid).taken bits_mid) where
     -- behind a call that was answered, what the others do
-    behind_one : ReadsRun K calls bits_mid mid places new → ReadsRun K (call ∷ calls) bits_old old (Some answer ∷ places) new
+    behind_one : ReadsRun K calls bits_mid mid places new
+        → ReadsRun K (call ∷ calls) bits_old old (Some answer ∷ places) new
     behind_one (lists.had_failed f same state) = cc
     behind_one (lists.was_done f g all same taken) =
-        lists.was_done fine g (ap length step ∙ ap suc all) (ap (λ (l : List (Option (Result Answer Error))). Some answer ∷ l) same ∙ ap run_answers (sym step)) (taken ∙ ap (place_behind (K.state old).taken) (sym step))
+        lists.was_done fine g (ap length step ∙ ap suc all)
+        (ap (λ (l : List (Option (Result Answer Error))). Some answer ∷ l) same ∙ ap run_answers (sym step)) (taken
+        ∙ ap (place_behind (K.state old).taken) (sym step))
     behind_one (lists.too_long before behind first place f g parts size run same taken) =
-        lists.too_long (call ∷ before) behind ((answer, (K.state mid).taken) ∷ first) place fine g (ap (λ (l : List ReadCall). call ∷ l) parts) (omega (arith, size)) (step ∙ ap (λ (l : List (Result Answer Error × ℕ)). (answer, (K.state mid).taken) ∷ l) run) (ap (λ (l : List (Option (Result Answer Error))). Some answer ∷ l) same) taken
+        lists.too_long (call ∷ before) behind ((answer, (K.state mid).taken) ∷ first) place fine g
+        (ap (λ (l : List ReadCall). call ∷ l) parts) (omega (arith, size)) (step
+        ∙ ap (λ (l : List (Result Answer Error × ℕ)). (answer, (K.state mid).taken) ∷ l) run)
+        (ap (λ (l : List (Option (Result Answer Error))). Some answer ∷ l) same) taken
     behind_one (lists.was_refused before one behind first others refusal f g parts size run may more ended same) =
-        lists.was_refused (call ∷ before) one behind ((answer, (K.state mid).taken) ∷ first) others refusal fine g (ap (λ (l : List ReadCall). call ∷ l) parts) (omega (arith, size)) (step ∙ ap (λ (l : List (Result Answer Error × ℕ)). (answer, (K.state mid).taken) ∷ l) run) may (more ∙ ap (λ (l : List Refusal). refusal ∷ l) refusals) ended (ap (λ (l : List (Option (Result Answer Error))). Some answer ∷ l) same)
+        lists.was_refused (call ∷ before) one behind ((answer, (K.state mid).taken) ∷ first) others refusal fine g
+        (ap (λ (l : List ReadCall). call ∷ l) parts) (omega (arith, size)) (step
+        ∙ ap (λ (l : List (Result Answer Error × ℕ)). (answer, (K.state mid).taken) ∷ l) run) may (more
+        ∙ ap (λ (l : List Refusal). refusal ∷ l) refusals) ended
+        (ap (λ (l : List (Option (Result Answer Error))). Some answer ∷ l) same)
     behind_one (lists.memory_refused before one behind first others f g parts size grows run more same) =
-        lists.memory_refused (call ∷ before) one behind ((answer, (K.state mid).taken) ∷ first) others fine g (ap (λ (l : List ReadCall). call ∷ l) parts) (omega (arith, size)) grows (step ∙ ap (λ (l : List (Result Answer Error × ℕ)). (answer, (K.state mid).taken) ∷ l) run) (more ∙ refusals) (ap (λ (l : List (Option (Result Answer Error))). Some answer ∷ l) same)
+        lists.memory_refused (call ∷ before) one behind ((answer, (K.state mid).taken) ∷ first) others fine g
+        (ap (λ (l : List ReadCall). call ∷ l) parts) (omega (arith, size)) grows (step
+        ∙ ap (λ (l : List (Result Answer Error × ℕ)). (answer, (K.state mid).taken) ∷ l) run) (more
+        ∙ refusals) (ap (λ (l : List (Option (Result Answer Error))). Some answer ∷ l) same)
 
-  one_and : (call : ReadCall) (calls : List ReadCall) (old mid new : R) (answer : Result Answer Error) (places : List (Option (Result Answer Error))) (xs : List ℕ) → (K.state old).bytes ≡ Some xs
+  one_and : (call : ReadCall) (calls : List ReadCall) (old mid new : R) (answer : Result Answer Error)
+      (places : List (Option (Result Answer Error))) (xs : List ℕ) → (K.state old).bytes ≡ Some xs
       → ReadOutcome K (asks_memory call) (read_entry K.order call) old answer mid → ReadsEach K calls mid places new
-      → ((ys : List ℕ) → (K.state mid).bytes ≡ Some ys → ReadsRun K calls ((K.state mid).queue ++ bits K.order ys) mid places new)
+      → ((ys : List ℕ) → (K.state mid).bytes ≡ Some ys
+      → ReadsRun K calls ((K.state mid).queue ++ bits K.order ys) mid places new)
       → ReadsRun K (call ∷ calls) ((K.state old).queue ++ bits K.order xs) old (Some answer ∷ places) new
   one_and call calls old mid new answer places xs known (had_failed h) others ih =
       let z = all_failed calls mid places new others (ap (λ (s : ReaderState). s.failed) h.same ∙ h.failed) in
-      lists.had_failed h.failed (ap₂ (λ (x : Option (Result Answer Error)) (l : List (Option (Result Answer Error))). x ∷ l) (ap Some h.answer) z.0) (z.1 ∙ h.same)
+      lists.had_failed h.failed (ap₂ (λ (x : Option (Result Answer Error)) (l : List (Option (Result Answer Error))). x
+      ∷ l) (ap Some h.answer) z.0) (z.1 ∙ h.same)
   one_and call calls old mid new answer places xs known (was_done h) others ih =
       let o = K.order in
       let p = (K.state old).taken in
@@ -165,15 +214,21 @@ module _ {R : Type 0} (K : BitSource R) where
         | inl long ↦
             let z = all_failed calls mid places new others (h.failed ∙ long) in
             let is = too_long-is answer long in
-            lists.too_long (call ∷ []) calls [] (p + length h.word) h.fine (ap (λ (s : ReaderState). s.failed) z.1 ∙ h.failed ∙ long) refl refl
-            (front-long ((read_entry o call).reads p b) (length h.word) p (λ n. read_run (read_entries o calls) (p + n) (drop n b)) (front ∙ ap (Takes (length h.word)) is))
-            (ap₂ (λ (x : Result Answer Error) (l : List (Option (Result Answer Error))). Some x ∷ l) is z.0) (ap (λ (s : ReaderState). s.taken) z.1 ∙ h.taken)
+            lists.too_long (call ∷ []) calls [] (p + length h.word) h.fine (ap (λ (s : ReaderState). s.failed) z.1
+            ∙ h.failed ∙ long) refl refl
+            (front-long ((read_entry o call).reads p b) (length h.word) p
+            (λ n. read_run (read_entries o calls) (p + n) (drop n b)) (front ∙ ap (Takes (length h.word)) is))
+            (ap₂ (λ (x : Result Answer Error) (l : List (Option (Result Answer Error))). Some x ∷ l) is z.0)
+            (ap (λ (s : ReaderState). s.taken) z.1 ∙ h.taken)
         | inr sound ↦
             let k = left {old = old} {mid = mid} h sound xs known in
-            let behind : drop (length h.word) b ≡ (K.state mid).queue ++ bits o k.0 = ap (drop (length h.word)) k.2 ∙ drop-append_seam h.word ((K.state mid).queue ++ bits o k.0) in
-            let step = front-done ((read_entry o call).reads p b) (length h.word) p answer (λ n. read_run (read_entries o calls) (p + n) (drop n b)) front sound in
+            let behind : drop (length h.word) b ≡ (K.state mid).queue ++ bits o k.0 = ap (drop (length h.word)) k.2
+            ∙ drop-append_seam h.word ((K.state mid).queue ++ bits o k.0) in
+            let step = front-done ((read_entry o call).reads p b) (length h.word) p answer
+            (λ n. read_run (read_entries o calls) (p + n) (drop n b)) front sound in
             let at : p + length h.word ≡ (K.state mid).taken = sym h.taken in
-            behind_one call calls b ((K.state mid).queue ++ bits o k.0) old mid new answer places h.fine (h.failed ∙ sound) h.refusals
+            behind_one call calls b ((K.state mid).queue ++ bits o k.0) old mid new answer places h.fine (h.failed
+            ∙ sound) h.refusals
             (step ∙ ap₂ (λ (n : ℕ) (l : List Bool). (answer, n) ∷ read_run (read_entries o calls) n l) at behind)
             (ih k.0 k.1)
       ]
@@ -182,38 +237,52 @@ module _ {R : Type 0} (K : BitSource R) where
       let p = (K.state old).taken in
       let b = (K.state old).queue ++ bits o xs in
       let z = all_failed calls mid places new others h.failed in
-      lists.was_refused [] call calls [] (read_run (read_entries o (call ∷ calls)) p b) h.refusal h.fine (ap (λ (s : ReaderState). s.failed) z.1 ∙ h.failed) refl refl refl h.allowed
+      lists.was_refused [] call calls [] (read_run (read_entries o (call ∷ calls)) p b) h.refusal h.fine
+      (ap (λ (s : ReaderState). s.failed) z.1 ∙ h.failed) refl refl refl h.allowed
       (ap (λ (s : ReaderState). s.refusals) z.1 ∙ h.refusals)
-      (λ true_end. front-few ((read_entry o call).reads p b) p (λ n. read_run (read_entries o calls) (p + n) (drop n b)) (h.ended true_end xs known))
+      (λ true_end. front-few ((read_entry o call).reads p b) p (λ n. read_run (read_entries o calls) (p + n) (drop n b))
+      (h.ended true_end xs known))
       (ap₂ (λ (x : Result Answer Error) (l : List (Option (Result Answer Error))). Some x ∷ l) h.answer z.0)
   one_and call calls old mid new answer places xs known (memory_refused g h) others ih =
       let o = K.order in
       let z = all_failed calls mid places new others h.failed in
-      lists.memory_refused [] call calls [] (read_run (read_entries o (call ∷ calls)) (K.state old).taken ((K.state old).queue ++ bits o xs)) h.fine (ap (λ (s : ReaderState). s.failed) z.1 ∙ h.failed) refl refl g refl
+      lists.memory_refused [] call calls [] (read_run (read_entries o (call ∷ calls)) (K.state old).taken
+      ((K.state old).queue ++ bits o xs)) h.fine (ap (λ (s : ReaderState). s.failed) z.1
+      ∙ h.failed) refl refl g refl
       (ap (λ (s : ReaderState). s.refusals) z.1 ∙ h.refusals)
       (ap₂ (λ (x : Result Answer Error) (l : List (Option (Result Answer Error))). Some x ∷ l) h.answer z.0)
 
   -- the answers on the bits left
-  pub run_of : (calls : List ReadCall) (old : R) (places : List (Option (Result Answer Error))) (new : R) → ReadsEach K calls old places new → (xs : List ℕ) → (K.state old).bytes ≡ Some xs
+  pub run_of : (calls : List ReadCall) (old : R) (places : List (Option (Result Answer Error))) (new : R)
+      → ReadsEach K calls old places new → (xs : List ℕ) → (K.state old).bytes ≡ Some xs
       → ReadsRun K calls ((K.state old).queue ++ bits K.order xs) old places new
   unfolding ReadsEach
   run_of [] old [] new h xs known = elim (failed_or_not (K.state old).failed) [
     | inl f ↦ lists.had_failed f refl h
-    | inr f ↦ lists.was_done f (ap (λ (s : ReaderState). s.failed) h ∙ f) refl refl (ap (λ (s : ReaderState). s.taken) h)
+    | inr f ↦ lists.was_done f (ap (λ (s : ReaderState). s.failed) h
+        ∙ f) refl refl (ap (λ (s : ReaderState). s.taken) h)
   ]
   run_of [] old (q ∷ places) new h xs known = absurd h
   run_of (c ∷ calls) old [] new h xs known = absurd h
   run_of (c ∷ calls) old (q ∷ places) new h xs known =
-      subst (λ (place : Option (Result Answer Error)). ReadsRun K (c ∷ calls) ((K.state old).queue ++ bits K.order xs) old (place ∷ places) new) (sym h.2)
+      subst (λ (place : Option (Result Answer Error)). ReadsRun K (c ∷ calls) ((K.state old).queue
+      ++ bits K.order xs) old (place ∷ places) new) (sym h.2)
       (one_and c calls old h.1 new h.0 places xs known h.3 h.4 (λ ys is. run_of calls h.1 places new h.4 ys is))
 
   -- ---- all bits known
 
   module _ (ends : TrueEnds K.may) where
-    one_sure : (call : ReadCall) (calls : List ReadCall) (old mid new : R) (answer : Result Answer Error) (places : List (Option (Result Answer Error))) (xs : List ℕ) → (K.state old).failed ≡ false → (K.state old).bytes ≡ Some xs
-        → asks_memory call ≡ false → ReadOutcome K (asks_memory call) (read_entry K.order call) old answer mid → ReadsEach K calls mid places new
-        → ((ys : List ℕ) → (K.state mid).failed ≡ false → (K.state mid).bytes ≡ Some ys → places ≡ sure_answers K.order calls (read_run (read_entries K.order calls) (K.state mid).taken ((K.state mid).queue ++ bits K.order ys)))
-        → Some answer ∷ places ≡ sure_answers K.order (call ∷ calls) (read_run (read_entries K.order (call ∷ calls)) (K.state old).taken ((K.state old).queue ++ bits K.order xs))
+    one_sure : (call : ReadCall) (calls : List ReadCall) (old mid new : R) (answer : Result Answer Error) (places :
+        List (Option (Result Answer Error))) (xs : List ℕ) → (K.state old).failed ≡ false → (K.state old).bytes
+        ≡ Some xs
+        → asks_memory call ≡ false → ReadOutcome K (asks_memory call) (read_entry K.order call) old answer mid
+        → ReadsEach K calls mid places new
+        → ((ys : List ℕ) → (K.state mid).failed ≡ false → (K.state mid).bytes ≡ Some ys → places
+        ≡ sure_answers K.order calls (read_run (read_entries K.order calls) (K.state mid).taken ((K.state mid).queue
+        ++ bits K.order ys)))
+        → Some answer ∷ places ≡ sure_answers K.order (call ∷ calls)
+        (read_run (read_entries K.order (call ∷ calls)) (K.state old).taken ((K.state old).queue
+        ++ bits K.order xs))
     one_sure call calls old mid new answer places xs fine known free (had_failed h) others ih = let z = h.failed in cc
     one_sure call calls old mid new answer places xs fine known free (was_done h) others ih =
         let o = K.order in
@@ -225,15 +294,20 @@ module _ {R : Type 0} (K : BitSource R) where
               let z = all_failed calls mid places new others (h.failed ∙ long) in
               let is = too_long-is answer long in
               ap₂ (λ (x : Result Answer Error) (l : List (Option (Result Answer Error))). Some x ∷ l) is z.0
-              ∙ ap (sure_answers o (call ∷ calls)) (sym (front-long ((read_entry o call).reads p b) (length h.word) p (λ n. read_run (read_entries o calls) (p + n) (drop n b)) (front ∙ ap (Takes (length h.word)) is)))
+              ∙ ap (sure_answers o (call ∷ calls)) (sym (front-long ((read_entry o call).reads p b) (length h.word) p
+              (λ n. read_run (read_entries o calls) (p + n) (drop n b)) (front ∙ ap (Takes (length h.word)) is)))
           | inr sound ↦
               let k = left {old = old} {mid = mid} h sound xs known in
-              let behind : drop (length h.word) b ≡ (K.state mid).queue ++ bits o k.0 = ap (drop (length h.word)) k.2 ∙ drop-append_seam h.word ((K.state mid).queue ++ bits o k.0) in
-              let step = front-done ((read_entry o call).reads p b) (length h.word) p answer (λ n. read_run (read_entries o calls) (p + n) (drop n b)) front sound in
+              let behind : drop (length h.word) b ≡ (K.state mid).queue ++ bits o k.0 = ap (drop (length h.word)) k.2
+              ∙ drop-append_seam h.word ((K.state mid).queue ++ bits o k.0) in
+              let step = front-done ((read_entry o call).reads p b) (length h.word) p answer
+              (λ n. read_run (read_entries o calls) (p + n) (drop n b)) front sound in
               let at : p + length h.word ≡ (K.state mid).taken = sym h.taken in
               let rest = read_run (read_entries o calls) (K.state mid).taken ((K.state mid).queue ++ bits o k.0) in
-              ap (λ (l : List (Option (Result Answer Error))). Some answer ∷ l) (ih k.0 (h.failed ∙ sound) k.1 ∙ ap (λ (c : Bool). cond c (failed_answers o calls) (sure_answers o calls rest)) (sym sound))
-              ∙ ap (sure_answers o (call ∷ calls)) (sym (step ∙ ap₂ (λ (n : ℕ) (l : List Bool). (answer, n) ∷ read_run (read_entries o calls) n l) at behind))
+              ap (λ (l : List (Option (Result Answer Error))). Some answer ∷ l) (ih k.0 (h.failed ∙ sound) k.1
+              ∙ ap (λ (c : Bool). cond c (failed_answers o calls) (sure_answers o calls rest)) (sym sound))
+              ∙ ap (sure_answers o (call ∷ calls)) (sym (step
+              ∙ ap₂ (λ (n : ℕ) (l : List Bool). (answer, n) ∷ read_run (read_entries o calls) n l) at behind))
         ]
     one_sure call calls old mid new answer places xs fine known free (was_refused h) others ih =
         let o = K.order in
@@ -241,12 +315,17 @@ module _ {R : Type 0} (K : BitSource R) where
         let b = (K.state old).queue ++ bits o xs in
         let z = all_failed calls mid places new others h.failed in
         let end = ends h.refusal h.allowed in
-        ap₂ (λ (x : Result Answer Error) (l : List (Option (Result Answer Error))). Some x ∷ l) (h.answer ∙ ap (λ k. Err (read_refusal_of k)) end.kind) z.0
-        ∙ ap (sure_answers o (call ∷ calls)) (sym (front-few ((read_entry o call).reads p b) p (λ n. read_run (read_entries o calls) (p + n) (drop n b)) (h.ended end xs known)))
+        ap₂ (λ (x : Result Answer Error) (l : List (Option (Result Answer Error))). Some x ∷ l) (h.answer
+        ∙ ap (λ k. Err (read_refusal_of k)) end.kind) z.0
+        ∙ ap (sure_answers o (call ∷ calls)) (sym (front-few ((read_entry o call).reads p b) p
+        (λ n. read_run (read_entries o calls) (p + n) (drop n b)) (h.ended end xs known)))
     one_sure call calls old mid new answer places xs fine known free (memory_refused g h) others ih = cc
 
-    pub sure_of : (calls : List ReadCall) (old : R) (places : List (Option (Result Answer Error))) (new : R) → ReadsEach K calls old places new → (xs : List ℕ) → (K.state old).failed ≡ false → (K.state old).bytes ≡ Some xs → AsksNoMemory calls
-        → places ≡ sure_answers K.order calls (read_run (read_entries K.order calls) (K.state old).taken ((K.state old).queue ++ bits K.order xs))
+    pub sure_of : (calls : List ReadCall) (old : R) (places : List (Option (Result Answer Error))) (new : R)
+        → ReadsEach K calls old places new → (xs : List ℕ) → (K.state old).failed ≡ false → (K.state old).bytes
+        ≡ Some xs → AsksNoMemory calls
+        → places ≡ sure_answers K.order calls (read_run (read_entries K.order calls) (K.state old).taken
+        ((K.state old).queue ++ bits K.order xs))
     unfolding ReadsEach
     sure_of [] old [] new h xs fine known free = refl
     sure_of [] old (q ∷ places) new h xs fine known free = absurd h
@@ -254,4 +333,5 @@ module _ {R : Type 0} (K : BitSource R) where
     sure_of (c ∷ calls) old (q ∷ places) new h xs fine known free =
         let one = free_call c calls free in
         ap (λ (place : Option (Result Answer Error)). place ∷ places) h.2
-        ∙ one_sure c calls old h.1 new h.0 places xs fine known one.0 h.3 h.4 (λ ys sound is. sure_of calls h.1 places new h.4 ys sound is one.1)
+        ∙ one_sure c calls old h.1 new h.0 places xs fine known one.0 h.3 h.4
+        (λ ys sound is. sure_of calls h.1 places new h.4 ys sound is one.1)

@@ -21,13 +21,15 @@ use Rattle.bitstream_io.specs.declared.script.write_call.WriteCall.TheVariants.{
 -- ---- signed numbers
 
 -- a call for a number that is within its type
-pub of_value : {S T : Type 0} (K : Sink S) (e : ℤ → WriteEntry) (s : S) (r : Result T Error) (t : S) (w : Width) (x : ℤ) → Writes K (e (to_z w (of_z w x))) s r t → SFits w x → Writes K (e x) s r t
+pub of_value : {S T : Type 0} (K : Sink S) (e : ℤ → WriteEntry) (s : S) (r : Result T Error) (t : S) (w : Width) (x : ℤ)
+    → Writes K (e (to_z w (of_z w x))) s r t → SFits w x → Writes K (e x) s r t
 of_value K e s r t w x h fits = subst (λ (y : ℤ). Writes K (e y) s r t) (to_z-of_z w x fits) h
 
 -- ---- one length in both orders
 
 -- a choice has one size if both sides have
-size-choice : (b : Bool) (x y u v : Result (List Bool) Error) → word_size x ≡ word_size u → word_size y ≡ word_size v → word_size (cond b x y) ≡ word_size (cond b u v)
+size-choice : (b : Bool) (x y u v : Result (List Bool) Error) → word_size x ≡ word_size u → word_size y ≡ word_size v
+    → word_size (cond b x y) ≡ word_size (cond b u v)
 size-choice true x y u v p q = p
 size-choice false x y u v p q = q
 
@@ -37,11 +39,14 @@ module _ (o p : Order) (len : ℕ) where
 
   size-unsigned : (size n v : ℕ) → word_size (unsigned o size n v len) ≡ word_size (unsigned p size n v len)
   unfolding unsigned
-  size-unsigned size n v = size-choice (nat_lt size n) _ _ _ _ refl (size-choice ((n == 0) || nat_lt v (2 ^ n)) _ _ _ _ (size-word n v) refl)
+  size-unsigned size n v = size-choice (nat_lt size n) _ _ _ _ refl
+      (size-choice ((n == 0) || nat_lt v (2 ^ n)) _ _ _ _ (size-word n v) refl)
 
   size-signed : (size n : ℕ) (x : ℤ) → word_size (signed o size n x len) ≡ word_size (signed p size n x len)
   unfolding signed
-  size-signed size n x = size-choice (n == 0) _ _ _ _ refl (size-choice (nat_lt size n) _ _ _ _ refl (size-choice (fits_signed n x) _ _ _ _ (size-word n (residue n x)) refl))
+  size-signed size n x = size-choice (n == 0) _ _ _ _ refl
+      (size-choice (nat_lt size n) _ _ _ _ refl (size-choice (fits_signed n x) _ _ _ _ (size-word n (residue n x))
+      refl))
 
   size-vbr : (field v : ℕ) → word_size (Ok (vbr_word o field v)) ≡ word_size (Ok (vbr_word p field v))
   size-vbr field v = ap Ok (length-vbr_word o p field v)
@@ -69,7 +74,8 @@ module _ (o p : Order) (len : ℕ) where
   size-call Align = refl
 
 -- what is made of a result's size alone
-length-accepted : (x y : Result (List Bool) Error) → word_size x ≡ word_size y → length (accepted x) ≡ length (accepted y)
+length-accepted : (x y : Result (List Bool) Error) → word_size x ≡ word_size y → length (accepted x)
+    ≡ length (accepted y)
 length-accepted (Ok u) (Ok v) h = cc
 length-accepted (Ok u) (Err d) h = cc
 length-accepted (Err d) (Ok v) h = cc
@@ -83,13 +89,15 @@ same_refusal (Err d) (Err e) h = cc
 
 -- ---- a limit that holds the sum
 
-within-none : (limit : Option ℕ) (len : ℕ) (x : Result (List Bool) Error) → IsWithin limit (len + length (accepted x)) → within_limit limit len x ≡ x
+within-none : (limit : Option ℕ) (len : ℕ) (x : Result (List Bool) Error) → IsWithin limit (len + length (accepted x))
+    → within_limit limit len x ≡ x
 within-none None len x h = refl
 within-none (Some most) len (Err d) h = refl
 within-none (Some most) len (Ok w) h = grind (arith, nat_tests)
 
 module _ (limit : Option ℕ) (o p : Order) where
-  run-size : (calls : List WriteCall) (len : ℕ) → IsWithin limit (len + length (write_run (write_entries None o calls) len))
+  run-size : (calls : List WriteCall) (len : ℕ) → IsWithin limit
+      (len + length (write_run (write_entries None o calls) len))
       → (write_refusals (write_entries limit p calls) len ≡ write_refusals (write_entries None o calls) len)
       × (length (write_run (write_entries limit p calls) len) ≡ length (write_run (write_entries None o calls) len))
   run-size [] len h = (refl, refl)
@@ -99,23 +107,36 @@ module _ (limit : Option ℕ) (o p : Order) where
       let one : word_size y ≡ word_size x = size-call p o len c in
       let near : length (accepted y) ≡ length (accepted x) = length-accepted y x one in
       let rest = write_run (write_entries None o calls) (len + length (accepted x)) in
-      let sum : len + length (accepted x) + length rest ≡ len + length (accepted x ++ rest) = omega (arith, length-append (accepted x) rest) in
-      let room : within_limit limit len y ≡ y = within-none limit len y (within_less limit (len + length (accepted y)) (len + length (accepted x ++ rest)) (omega (arith, near, length-append (accepted x) rest)) h) in
+      let sum : len + length (accepted x) + length rest ≡ len + length (accepted x ++ rest) =
+      omega (arith, length-append (accepted x) rest) in
+      let room : within_limit limit len y ≡ y = within-none limit len y
+      (within_less limit (len + length (accepted y)) (len + length (accepted x ++ rest))
+      (omega (arith, near, length-append (accepted x) rest)) h) in
       let others = run-size calls (len + length (accepted x)) (subst (IsWithin limit) (sym sum) h) in
-      let at : len + length (accepted (within_limit limit len y)) ≡ len + length (accepted x) = ap (λ (r : Result (List Bool) Error). len + length (accepted r)) room ∙ ap (λ (n : ℕ). len + n) near in (
-        ap₂ (λ (a : Option Error) (others : List (Option Error)). a ∷ others) (ap refusal_if_any room ∙ same_refusal y x one) (ap (write_refusals (write_entries limit p calls)) at ∙ others.0),
-        length-append (accepted (within_limit limit len y)) (write_run (write_entries limit p calls) (len + length (accepted (within_limit limit len y))))
-            ∙ ap₂ (λ (m n : ℕ). m + n) (ap (λ (r : Result (List Bool) Error). length (accepted r)) room ∙ near) (ap (λ (n : ℕ). length (write_run (write_entries limit p calls) n)) at ∙ others.1)
+      let at : len + length (accepted (within_limit limit len y)) ≡ len + length (accepted x) =
+      ap (λ (r : Result (List Bool) Error). len + length (accepted r)) room ∙ ap (λ (n : ℕ). len + n) near in (
+        ap₂ (λ (a : Option Error) (others : List (Option Error)). a ∷ others) (ap refusal_if_any room
+            ∙ same_refusal y x one) (ap (write_refusals (write_entries limit p calls)) at ∙ others.0),
+        length-append (accepted (within_limit limit len y))
+            (write_run (write_entries limit p calls) (len + length (accepted (within_limit limit len y))))
+            ∙ ap₂ (λ (m n : ℕ). m + n) (ap (λ (r : Result (List Bool) Error). length (accepted r)) room
+            ∙ near) (ap (λ (n : ℕ). length (write_run (write_entries limit p calls) n)) at ∙ others.1)
             ∙ sym (length-append (accepted x) rest),
       )
 
-module _ {S : Type 0} (K : Sink S) (o : Order) (calls : List WriteCall) (old : S) (answers : List (Option Error)) (new : S) where
-  pub counts : WritesRun K (write_entries K.limit K.order calls) old answers new → Counts K (write_entries None o calls) old answers new
+module _ {S : Type 0} (K : Sink S) (o : Order) (calls : List WriteCall) (old : S) (answers : List (Option Error))
+    (new : S) where
+  pub counts : WritesRun K (write_entries K.limit K.order calls) old answers new
+      → Counts K (write_entries None o calls) old answers new
   counts (had_failed f all k) sound still room = cc
-  counts (was_refused before entry behind mid stopped word error f parts a en k l all) sound still room = let z : K.failed new ≡ true = l.failed ∙ k.failed in cc
+  counts (was_refused before entry behind mid stopped word error f parts a en k l all) sound still room = let z :
+      K.failed new ≡ true = l.failed ∙ k.failed in cc
   counts (was_done f same a) sound still room =
-      let one = run-size K.limit o K.order calls (K.len old) room in
-      (same ∙ one.0, K.appends_len old new (write_run (write_entries K.limit K.order calls) (K.len old)) a.grown ∙ ap (λ (n : ℕ). K.len old + n) one.1)
+      let one = run-size K.limit o K.order calls (K.len old) room in (
+        same ∙ one.0,
+        K.appends_len old new (write_run (write_entries K.limit K.order calls) (K.len old)) a.grown
+            ∙ ap (λ (n : ℕ). K.len old + n) one.1,
+      )
 
 -- ---- behind other bits
 
@@ -128,37 +149,45 @@ meets : (c : WriteCall) (m n : ℕ) → m % 8 ≡ n % 8 → Meets c m n
 meets Align m n h = h
 meets _ m n h = tt
 
-meets_nowhere : (c : WriteCall) (calls : List WriteCall) (m n : ℕ) → AlignsNowhere (c ∷ calls) → Meets c m n × AlignsNowhere calls
+meets_nowhere : (c : WriteCall) (calls : List WriteCall) (m n : ℕ) → AlignsNowhere (c ∷ calls) → Meets c m n
+    × AlignsNowhere calls
 meets_nowhere Align calls m n h = absurd h
 meets_nowhere _ calls m n h = (tt, h)
 
 module _ (o : Order) where
   same_entry : (c : WriteCall) (m n : ℕ) → Meets c m n → write_entry o c m ≡ write_entry o c n
   unfolding unsigned signed
-  same_entry Align m n h = ap (λ (k : ℕ). Ok (replicate k false)) (let e : to_boundary m ≡ to_boundary n = omega arith in e)
+  same_entry Align m n h = ap (λ (k : ℕ). Ok (replicate k false)) (let e : to_boundary m ≡ to_boundary n =
+      omega arith in e)
   same_entry _ m n h = refl
 
   -- a call, and others behind it
   one_more : (c : WriteCall) (calls : List WriteCall) (m n : ℕ) → write_entry o c m ≡ write_entry o c n
-      → (let k = length (accepted (write_entry o c n)) in write_run (write_entries None o calls) (m + k) ≡ write_run (write_entries None o calls) (n + k))
+      → (let k = length (accepted (write_entry o c n)) in write_run (write_entries None o calls) (m + k)
+      ≡ write_run (write_entries None o calls) (n + k))
       → write_run (write_entries None o (c ∷ calls)) m ≡ write_run (write_entries None o (c ∷ calls)) n
   one_more c calls m n same more =
-      ap (λ (r : Result (List Bool) Error). accepted r ++ write_run (write_entries None o calls) (m + length (accepted r))) same
+      ap (λ (r : Result (List Bool) Error). accepted r
+      ++ write_run (write_entries None o calls) (m + length (accepted r))) same
       ∙ ap (λ (u : List Bool). accepted (write_entry o c n) ++ u) more
 
-  pub run_at_same_place : (calls : List WriteCall) (m n : ℕ) → m % 8 ≡ n % 8 → write_run (write_entries None o calls) m ≡ write_run (write_entries None o calls) n
+  pub run_at_same_place : (calls : List WriteCall) (m n : ℕ) → m % 8 ≡ n % 8 → write_run (write_entries None o calls) m
+      ≡ write_run (write_entries None o calls) n
   run_at_same_place [] m n h = refl
   run_at_same_place (c ∷ calls) m n h =
       let k = length (accepted (write_entry o c n)) in
       one_more c calls m n (same_entry c m n (meets c m n h)) (run_at_same_place calls (m + k) (n + k) (omega arith))
 
-  pub run_anywhere : (calls : List WriteCall) (m n : ℕ) → AlignsNowhere calls → write_run (write_entries None o calls) m ≡ write_run (write_entries None o calls) n
+  pub run_anywhere : (calls : List WriteCall) (m n : ℕ) → AlignsNowhere calls → write_run (write_entries None o calls) m
+      ≡ write_run (write_entries None o calls) n
   run_anywhere [] m n h = refl
   run_anywhere (c ∷ calls) m n h =
       let k = length (accepted (write_entry o c n)) in
       let free = meets_nowhere c calls m n h in
       one_more c calls m n (same_entry c m n free.0) (run_anywhere calls (m + k) (n + k) free.1)
 
-pub entries-append : (limit : Option ℕ) (o : Order) (first second : List WriteCall) → write_entries limit o (first ++ second) ≡ write_entries limit o first ++ write_entries limit o second
+pub entries-append : (limit : Option ℕ) (o : Order) (first second : List WriteCall)
+    → write_entries limit o (first ++ second) ≡ write_entries limit o first ++ write_entries limit o second
 entries-append limit o [] second = refl
-entries-append limit o (c ∷ first) second = ap (λ (es : List WriteEntry). limited limit (write_entry o c) ∷ es) (entries-append limit o first second)
+entries-append limit o (c ∷ first) second = ap (λ (es : List WriteEntry). limited limit (write_entry o c) ∷ es)
+    (entries-append limit o first second)

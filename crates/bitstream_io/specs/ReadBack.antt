@@ -18,7 +18,8 @@ use Rattle.bitstream_io.specs.declared.script.write_call.WriteCall.TheVariants.{
 use Rattle.bitstream_io.specs.ReadScript.{asks_memory, failed_answers}
 use Rattle.bitstream_io.specs.Script.{write_entry, write_entries}
 
--- The values of a call are values of their types. Of a number in a given number of bits nothing is asked: if it is accepted, it
+-- The values of a call are values of their types. Of a number in a given number of bits nothing is asked: if it is
+-- accepted, it
 -- fits them.
 abbrev pub IsCall : WriteCall → Type 0
 IsCall (Unary0 k) = k < 2 ^ 32

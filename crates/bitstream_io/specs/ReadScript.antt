@@ -51,7 +51,8 @@ abbrev pub read_entries : Order → List ReadCall → List (ReadEntry Answer)
 read_entries o calls = map (read_entry o) calls
 
 -- the calls were made in order, each as a read of its entry, and each place has the answer of its call
-unfoldable pub ReadsEach : {R : Type 0} → BitSource R → List ReadCall → R → List (Option (Result Answer Error)) → R → Type 0
+unfoldable pub ReadsEach : {R : Type 0} → BitSource R → List ReadCall → R → List (Option (Result Answer Error)) → R
+    → Type 0
 ReadsEach K [] old [] new = K.state new ≡ K.state old
 ReadsEach K [] old (place ∷ places) new = ⊥
 ReadsEach K (call ∷ calls) old [] new = ⊥
@@ -76,13 +77,15 @@ failed_answers o calls = map (λ call. Some (read_entry o call).on_failed) calls
 -- What read calls answer, if the bits left are these. A reader that had failed is as it was. Else each call answers
 -- as the read run; or up to one that finds a run too long; or up to one of which a request was refused, or memory.
 -- Behind these each call answers as on a failed reader. A call is refused at a true end only if it has no front.
-pub data ReadsRun {R : Type 0} (K : BitSource R) (calls : List ReadCall) (bits : List Bool) (old : R) (answers : List (Option (Result Answer Error))) (new : R) : Type 0 where
+pub data ReadsRun {R : Type 0} (K : BitSource R) (calls : List ReadCall) (bits : List Bool) (old : R)
+    (answers : List (Option (Result Answer Error))) (new : R) : Type 0 where
   had_failed : (K.state old).failed ≡ true → answers ≡ failed_answers K.order calls → K.state new ≡ K.state old
       → ReadsRun K calls bits old answers new
   was_done : (K.state old).failed ≡ false → (K.state new).failed ≡ false
       → length (read_run (read_entries K.order calls) (K.state old).taken bits) ≡ length calls
       → answers ≡ run_answers (read_run (read_entries K.order calls) (K.state old).taken bits)
-      → (K.state new).taken ≡ place_behind (K.state old).taken (read_run (read_entries K.order calls) (K.state old).taken bits)
+      → (K.state new).taken ≡ place_behind (K.state old).taken
+      (read_run (read_entries K.order calls) (K.state old).taken bits)
       → ReadsRun K calls bits old answers new
   too_long : (before behind : List ReadCall) (first : List (Result Answer Error × ℕ)) (place : ℕ)
       → (K.state old).failed ≡ false → (K.state new).failed ≡ true
@@ -91,7 +94,8 @@ pub data ReadsRun {R : Type 0} (K : BitSource R) (calls : List ReadCall) (bits :
       → answers ≡ run_answers first ++ Some (Err RunTooLong) ∷ failed_answers K.order behind
       → (K.state new).taken ≡ place
       → ReadsRun K calls bits old answers new
-  was_refused : (before : List ReadCall) (call : ReadCall) (behind : List ReadCall) (first others : List (Result Answer Error × ℕ)) (refusal : Refusal)
+  was_refused : (before : List ReadCall) (call : ReadCall) (behind : List ReadCall)
+      (first others : List (Result Answer Error × ℕ)) (refusal : Refusal)
       → (K.state old).failed ≡ false → (K.state new).failed ≡ true
       → calls ≡ before ++ call ∷ behind → length before ≡ length first
       → read_run (read_entries K.order calls) (K.state old).taken bits ≡ first ++ others
@@ -99,7 +103,8 @@ pub data ReadsRun {R : Type 0} (K : BitSource R) (calls : List ReadCall) (bits :
       → (IsTrueEnd refusal → others ≡ [])
       → answers ≡ run_answers first ++ Some (Err (read_refusal_of refusal.kind)) ∷ failed_answers K.order behind
       → ReadsRun K calls bits old answers new
-  memory_refused : (before : List ReadCall) (call : ReadCall) (behind : List ReadCall) (first others : List (Result Answer Error × ℕ))
+  memory_refused : (before : List ReadCall) (call : ReadCall) (behind : List ReadCall)
+      (first others : List (Result Answer Error × ℕ))
       → (K.state old).failed ≡ false → (K.state new).failed ≡ true
       → calls ≡ before ++ call ∷ behind → length before ≡ length first → asks_memory call ≡ true
       → read_run (read_entries K.order calls) (K.state old).taken bits ≡ first ++ others
@@ -107,7 +112,8 @@ pub data ReadsRun {R : Type 0} (K : BitSource R) (calls : List ReadCall) (bits :
       → answers ≡ run_answers first ++ Some (Err OutOfMemory) ∷ failed_answers K.order behind
       → ReadsRun K calls bits old answers new
 
--- what calls answer if all bits left are known: as their read run, then the end of the input, and then as on a failed reader
+-- what calls answer if all bits left are known: as their read run, then the end of the input, and then as on a failed
+-- reader
 abbrev pub sure_answers : Order → List ReadCall → List (Result Answer Error × ℕ) → List (Option (Result Answer Error))
 sure_answers o [] run = []
 sure_answers o (call ∷ calls) [] = Some (Err EndOfInput) ∷ failed_answers o calls

@@ -61,19 +61,23 @@ write_entries limit o calls = map (λ c. limited limit (write_entry o c)) calls
 -- What write calls do to a sink, all made in their order, by what they mean. A sink that had failed is as it was.
 -- Else the write run is appended, and each call answers as its entry; or this holds up to a call one of whose
 -- requests was refused, which answers the error of the refusal, and each call behind it answers `Failed`.
-pub data WritesRun {S : Type 0} (K : Sink S) (entries : List WriteEntry) (old : S) (answers : List (Option Error)) (new : S) : Type 0 where
+pub data WritesRun {S : Type 0} (K : Sink S) (entries : List WriteEntry) (old : S)
+    (answers : List (Option Error)) (new : S) : Type 0 where
   had_failed : K.failed old ≡ true → answers ≡ replicate (length entries) (Some Failed) → Kept K old new
       → WritesRun K entries old answers new
-  was_refused : (before : List WriteEntry) (entry : WriteEntry) (behind : List WriteEntry) (mid stopped : S) (word : List Bool) (error : Error)
+  was_refused : (before : List WriteEntry) (entry : WriteEntry) (behind : List WriteEntry) (mid stopped : S)
+      (word : List Bool) (error : Error)
       → K.failed old ≡ false → entries ≡ before ++ entry ∷ behind
       → Appended K old (write_run before (K.len old)) mid
       → entry (K.len mid) ≡ Ok word → WriteRefused K mid word error stopped → Kept K stopped new
       → answers ≡ write_refusals before (K.len old) ++ Some error ∷ replicate (length behind) (Some Failed)
       → WritesRun K entries old answers new
-  was_done : K.failed old ≡ false → answers ≡ write_refusals entries (K.len old) → Appended K old (write_run entries (K.len old)) new
+  was_done : K.failed old ≡ false → answers ≡ write_refusals entries (K.len old)
+      → Appended K old (write_run entries (K.len old)) new
       → WritesRun K entries old answers new
 
--- write calls on a sound sink that stays sound answer as these entries, and their words' lengths are what it grows by, if its limit holds the sum
+-- write calls on a sound sink that stays sound answer as these entries, and their words' lengths are what it grows by,
+-- if its limit holds the sum
 abbrev pub Counts : {S : Type 0} → Sink S → List WriteEntry → S → List (Option Error) → S → Type 0
 Counts K entries old answers new =
     K.failed old ≡ false → K.failed new ≡ false → IsWithin K.limit (K.len old + length (write_run entries (K.len old)))

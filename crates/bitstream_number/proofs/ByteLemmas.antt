@@ -29,7 +29,8 @@ length-bytes_of o (suc n) w = ap suc (length-bytes_of o n (drop 8 w))
 pub bytes_of-bits : (o : Order) (bs : List ℕ) → AreBytes bs → bytes_of o (length bs) (bits o bs) ≡ bs
 unfolding bytes_of
 bytes_of-bits o [] h = refl
-bytes_of-bits o (b ∷ bs) h = ap₂ (λ x xs. x ∷ xs) (first_byte o b (bits o bs) h.0) (ap (bytes_of o (length bs)) (behind o b (bits o bs)) ∙ bytes_of-bits o bs h.1)
+bytes_of-bits o (b ∷ bs) h = ap₂ (λ x xs. x ∷ xs) (first_byte o b (bits o bs) h.0)
+    (ap (bytes_of o (length bs)) (behind o b (bits o bs)) ∙ bytes_of-bits o bs h.1)
 
 pub bits-bytes_of : (o : Order) (n : ℕ) (w : List Bool) → length w ≡ 8 * n → bits o (bytes_of o n w) ≡ w
 unfolding bytes_of
@@ -37,15 +38,22 @@ bits-bytes_of o zero w e = sym (nil_from_length w e)
 bits-bytes_of o (suc n) w e =
     let size : length (take 8 w) ≡ 8 = length-take-le 8 w (omega arith) in
     let less : length (drop 8 w) ≡ 8 * n = omega (arith, length-drop 8 w) in
-    let first : word o 8 (number o (take 8 w)) ≡ take 8 w = ap (λ k. word o k (number o (take 8 w))) (sym size) ∙ word-number o (take 8 w) in
+    let first : word o 8 (number o (take 8 w)) ≡ take 8 w = ap (λ k. word o k (number o (take 8 w))) (sym size)
+    ∙ word-number o (take 8 w) in
     ap₂ (λ x y. x ++ y) first (bits-bytes_of o n (drop 8 w) less) ∙ take-append-drop 8 w
 
-pub bytes_of-append : (o : Order) (a b : ℕ) (u v : List Bool) → length u ≡ 8 * a → bytes_of o (a + b) (u ++ v) ≡ bytes_of o a u ++ bytes_of o b v
+pub bytes_of-append : (o : Order) (a b : ℕ) (u v : List Bool) → length u ≡ 8 * a → bytes_of o (a + b) (u ++ v)
+    ≡ bytes_of o a u ++ bytes_of o b v
 unfolding bytes_of
 bytes_of-append o zero b u v e = rw (zero-add b, nil_from_length u e) refl
 bytes_of-append o (suc a) b u v e =
     let less : length (drop 8 u) ≡ 8 * a = omega (arith, length-drop 8 u) in
-    rw (suc-add a b, take-append-le 8 u v (omega arith), drop-append-le 8 u v (omega arith), bytes_of-append o a b (drop 8 u) v less) refl
+    rw (
+      suc-add a b,
+      take-append-le 8 u v (omega arith),
+      drop-append-le 8 u v (omega arith),
+      bytes_of-append o a b (drop 8 u) v less,
+    ) refl
 
 pub bytes_of-one : (o : Order) (w : List Bool) → length w ≡ 8 → bytes_of o 1 w ≡ number o w ∷ []
 unfolding bytes_of
@@ -78,7 +86,8 @@ pub bytes_of-number : (o : Order) (n : ℕ) (w : List Bool) → length w ≡ 8 *
 bytes_of-number o n w e =
     let v = number o w in
     let all : bits o (bytes o n v) ≡ w = bits-bytes o n v ∙ ap (λ k. word o k v) (sym e) ∙ word-number o w in
-    ap (bytes_of o n) (sym all) ∙ ap (λ k. bytes_of o k (bits o (bytes o n v))) (sym (length-bytes o n v)) ∙ bytes_of-bits o (bytes o n v) (AreBytes-bytes o n v)
+    ap (bytes_of o n) (sym all) ∙ ap (λ k. bytes_of o k (bits o (bytes o n v))) (sym (length-bytes o n v))
+    ∙ bytes_of-bits o (bytes o n v) (AreBytes-bytes o n v)
 
 -- worked: A3 41 2B, of which 16 bits behind the first 4
 row_high : bytes_of High 2 (drop 4 (bits High (163 ∷ 65 ∷ 43 ∷ []))) ≡ 52 ∷ 18 ∷ []

@@ -16,7 +16,8 @@ next-half w32 = refl
 next-half w64 = refl
 next-half w128 = refl
 
-half-le : (w : Width) (k : ℕ) → 1 ≤ k → k ≤ bit_len w → (1 * 2 ^ (k - 1) % 2 ^ bit_len w ≡ 2 ^ (k - 1)) × (2 ^ (k - 1) ≤ 2 ^ hbits w)
+half-le : (w : Width) (k : ℕ) → 1 ≤ k → k ≤ bit_len w → (1 * 2 ^ (k - 1) % 2 ^ bit_len w ≡ 2 ^ (k - 1))
+    × (2 ^ (k - 1) ≤ 2 ^ hbits w)
 half-le w k some h =
     let n = next-half w in
     let below : k - 1 < bit_len w = omega arith in
@@ -27,7 +28,8 @@ fits_step : (q t v : ℕ) → q ≤ t → 0 < t → q - 1 - v < t
 fits_step q t v h p = omega arith
 
 -- 2 ^ (k - 1) - 1 - v as the code computes it
-pub negative_fits : (w : Width) (v k : ℕ) → 1 ≤ k → k ≤ bit_len w → SFits w (pos (1 * 2 ^ (k - 1) % 2 ^ bit_len w - 1 - v))
+pub negative_fits : (w : Width) (v k : ℕ) → 1 ≤ k → k ≤ bit_len w
+    → SFits w (pos (1 * 2 ^ (k - 1) % 2 ^ bit_len w - 1 - v))
 negative_fits w v k some h =
     let p = half-le w k some h in
     let top = pow_pos (hbits w) in
@@ -48,12 +50,16 @@ negative_step : (v q : ℕ) → v < q → negsuc (q - 1 - v) ≡ pos v -ℤ pos 
 negative_step v q h = omega (arith, ints)
 
 -- the complement of that
-pub negative-is : (w : Width) (v k : ℕ) → 1 ≤ k → k ≤ bit_len w → v < 2 ^ (k - 1) → to_z w (2 ^ bit_len w - 1 - (1 * 2 ^ (k - 1) % 2 ^ bit_len w - 1 - v)) ≡ pos v -ℤ pos (2 ^ (k - 1))
+pub negative-is : (w : Width) (v k : ℕ) → 1 ≤ k → k ≤ bit_len w → v < 2 ^ (k - 1)
+    → to_z w (2 ^ bit_len w - 1 - (1 * 2 ^ (k - 1) % 2 ^ bit_len w - 1 - v)) ≡ pos v -ℤ pos (2 ^ (k - 1))
 negative-is w v k some h below =
     let p = half-le w k some h in
     let top = pow_pos (hbits w) in
-    rw p.0 (not-is w (2 ^ (k - 1) - 1 - v) (fits_step (2 ^ (k - 1)) (2 ^ hbits w) v p.1 top) ∙ negative_step v (2 ^ (k - 1)) below)
+    rw p.0 (not-is w (2 ^ (k - 1) - 1 - v) (fits_step (2 ^ (k - 1)) (2 ^ hbits w) v p.1 top)
+    ∙ negative_step v (2 ^ (k - 1)) below)
 
 -- the bits that were read, if r was made of them
-pub cast_back : (w : Width) (n : ℕ) (r : ℤ) → n < 2 ^ bit_len w → r ≡ cast_signed w n → cast_unsigned w (cast_signed w (cast_unsigned w r)) ≡ n
-cast_back w n r h e = ap (λ z. cast_unsigned w (cast_signed w (cast_unsigned w z))) e ∙ ap (λ m. cast_unsigned w (cast_signed w m)) (of_z-to_z w n h) ∙ of_z-to_z w n h
+pub cast_back : (w : Width) (n : ℕ) (r : ℤ) → n < 2 ^ bit_len w → r ≡ cast_signed w n
+    → cast_unsigned w (cast_signed w (cast_unsigned w r)) ≡ n
+cast_back w n r h e = ap (λ z. cast_unsigned w (cast_signed w (cast_unsigned w z))) e
+    ∙ ap (λ m. cast_unsigned w (cast_signed w m)) (of_z-to_z w n h) ∙ of_z-to_z w n h

@@ -20,14 +20,18 @@ signed_from-residue n (negsuc k) some fits =
     let large : 2 ^ (n - 1) ≤ 2 ^ n - 1 - k = omega (arith, half n some, fits) in
     rw (mod-eq_of_lt small, le-ltb (2 ^ n - 1 - k) (2 ^ (n - 1)) large) (ap negsuc (omega arith))
 
-pub signed_number-signed_word : (o : Order) (n : ℕ) (x : ℤ) → 0 < n → FitsSignedBits n x → signed_number o (signed_word o n x) ≡ x
+pub signed_number-signed_word : (o : Order) (n : ℕ) (x : ℤ) → 0 < n → FitsSignedBits n x
+    → signed_number o (signed_word o n x) ≡ x
 signed_number-signed_word o n x some fits =
-    rw (length-word o n (residue n x), number-word o n (residue n x), mod-eq_of_lt (residue-lt n x)) (signed_from-residue n x some fits)
+    rw (length-word o n (residue n x), number-word o n (residue n x), mod-eq_of_lt (residue-lt n x))
+    (signed_from-residue n x some fits)
 
 -- the bytes of a number of a type are no other's
-pub same_from_residue : (n k : ℕ) (o : Order) (x y : ℤ) → n ≡ 8 * k → 0 < n → FitsSignedBits n x → FitsSignedBits n y → bytes o k (residue n x) ≡ bytes o k (residue n y) → x ≡ y
+pub same_from_residue : (n k : ℕ) (o : Order) (x y : ℤ) → n ≡ 8 * k → 0 < n → FitsSignedBits n x → FitsSignedBits n y
+    → bytes o k (residue n x) ≡ bytes o k (residue n y) → x ≡ y
 same_from_residue n k o x y size some p q e =
-    let r : residue n x ≡ residue n y = same_from_bytes o n k (residue n x) (residue n y) size (residue-lt n x) (residue-lt n y) e in
+    let r : residue n x ≡ residue n y = same_from_bytes o n k (residue n x) (residue n y) size (residue-lt n x)
+    (residue-lt n y) e in
     sym (signed_from-residue n x some p) ∙ ap (signed_from n) r ∙ signed_from-residue n y some q
 
 pub zag-zig : (x : ℤ) → zag (zig x) ≡ x

@@ -58,7 +58,8 @@ digit_value_of x = elim (cases_two (x % 2) (mod-lt x (omega arith))) [ inl e ↦
 pub number-digits : (n v : ℕ) → digits_number (digits n v) ≡ v % 2 ^ n
 unfolding digits digits_number
 number-digits zero v = sym (mod-one v)
-number-digits (suc n) v = rw (length-digits n v, number-digits n v, digit_value_of (v / 2 ^ n)) (sym (mod-pow-add v 1 n) ∙ ap (λ k. v % 2 ^ k) (one-add n))
+number-digits (suc n) v = rw (length-digits n v, number-digits n v, digit_value_of (v / 2 ^ n)) (sym (mod-pow-add v 1 n)
+    ∙ ap (λ k. v % 2 ^ k) (one-add n))
 
 pub number_below : (w : List Bool) → digits_number w < 2 ^ length w
 unfolding digits_number
@@ -74,7 +75,8 @@ pub number-append : (u w : List Bool) → digits_number (u ++ w) ≡ digits_numb
 unfolding digits_number
 number-append [] w = rw (zero-mul, zero-add) refl
 number-append (b ∷ u) w =
-    let len : 2 ^ length (u ++ w) ≡ 2 ^ length u * 2 ^ length w = ap (λ k. 2 ^ k) (length-append u w) ∙ pow-add 2 (length u) (length w) in
+    let len : 2 ^ length (u ++ w) ≡ 2 ^ length u * 2 ^ length w = ap (λ k. 2 ^ k) (length-append u w)
+    ∙ pow-add 2 (length u) (length w) in
     rw (len, number-append u w) (omega arith)
 
 pub digits-number : (w : List Bool) → digits (length w) (digits_number w) ≡ w
@@ -95,7 +97,8 @@ pub length-in_order : {A : Type 0} (o : Order) (xs : List A) → length (in_orde
 length-in_order High xs = refl
 length-in_order Low xs = length-reverse xs
 
-pub in_order-append : {A : Type 0} (o : Order) (xs ys : List A) → in_order o (xs ++ ys) ≡ joined o (in_order o xs) (in_order o ys)
+pub in_order-append : {A : Type 0} (o : Order) (xs ys : List A) → in_order o (xs ++ ys)
+    ≡ joined o (in_order o xs) (in_order o ys)
 in_order-append High xs ys = refl
 in_order-append Low xs ys = reverse-append xs ys
 
@@ -108,7 +111,8 @@ pub word-add : (o : Order) (a b v : ℕ) → word o (a + b) v ≡ joined o (word
 word-add o a b v = ap (in_order o) (digits-add a b v) ∙ in_order-append o (digits a (v / 2 ^ b)) (digits b v)
 
 -- the word of a number that is put together from two
-pub word_cat : (o : Order) (a b u v : ℕ) → v < 2 ^ b → word o (a + b) (u * 2 ^ b + v) ≡ joined o (word o a u) (word o b v)
+pub word_cat : (o : Order) (a b u v : ℕ) → v < 2 ^ b → word o (a + b) (u * 2 ^ b + v)
+    ≡ joined o (word o a u) (word o b v)
 word_cat o a b u v small =
     word-add o a b (u * 2 ^ b + v)
     ∙ ap₂ (joined o) (ap (word o a) (shr_high u b v small)) (ap (in_order o) (digits_low b b u v (omega arith)))
@@ -119,9 +123,14 @@ word-mod o n v = ap (in_order o) (digits-mod n v)
 pub number-word : (o : Order) (n v : ℕ) → number o (word o n v) ≡ v % 2 ^ n
 number-word o n v = ap digits_number (in_order-twice o (digits n v)) ∙ number-digits n v
 
-pub number-joined : (o : Order) (high low : List Bool) → number o (joined o high low) ≡ number o high * 2 ^ length low + number o low
+pub number-joined : (o : Order) (high low : List Bool) → number o (joined o high low)
+    ≡ number o high * 2 ^ length low + number o low
 number-joined High high low = number-append high low
-number-joined Low high low = rw (reverse-append low high, number-append (reverse high) (reverse low), length-reverse low) refl
+number-joined Low high low = rw (
+  reverse-append low high,
+  number-append (reverse high) (reverse low),
+  length-reverse low,
+) refl
 
 pub word-number : (o : Order) (w : List Bool) → word o (length w) (number o w) ≡ w
 word-number o w = rw (← length-in_order o w, digits-number (in_order o w)) (in_order-twice o w)
@@ -135,10 +144,17 @@ same_from_word o n u v p q e =
 
 -- ---- bits of bytes
 
-flat_map-reverse : {X A : Type 0} (f : X → List A) (xs : List X) → flat_map (λ x. reverse (f x)) (reverse xs) ≡ reverse (flat_map f xs)
+flat_map-reverse : {X A : Type 0} (f : X → List A) (xs : List X) → flat_map (λ x. reverse (f x)) (reverse xs)
+    ≡ reverse (flat_map f xs)
 flat_map-reverse f [] = refl
 flat_map-reverse f (x ∷ xs) =
-    rw (reverse-cons x xs, flat_map-append (λ y. reverse (f y)) (reverse xs) (x ∷ []), flat_map-reverse f xs, append-nil (reverse (f x)), ← reverse-append (f x) (flat_map f xs)) refl
+    rw (
+      reverse-cons x xs,
+      flat_map-append (λ y. reverse (f y)) (reverse xs) (x ∷ []),
+      flat_map-reverse f xs,
+      append-nil (reverse (f x)),
+      ← reverse-append (f x) (flat_map f xs),
+    ) refl
 
 pub bits-append : (o : Order) (xs ys : List ℕ) → bits o (xs ++ ys) ≡ bits o xs ++ bits o ys
 bits-append o xs ys = flat_map-append (word o 8) xs ys
@@ -178,7 +194,8 @@ row_2 = refl
 -- ---- counts
 
 pub count_fits : (max : ℕ) → max < 2 ^ count_width max
-count_fits max = subst (λ n. n < 2 ^ count_width max) (number_digits_of 2 max (omega arith)) (number_lt 2 (digits_of 2 max) (all_below_base_digits_of 2 max (omega arith)))
+count_fits max = subst (λ n. n < 2 ^ count_width max) (number_digits_of 2 max (omega arith))
+    (number_lt 2 (digits_of 2 max) (all_below_base_digits_of 2 max (omega arith)))
 
 pub count_width_least : (max n : ℕ) → max < 2 ^ n → count_width max ≤ n
 count_width_least max n below = length-digits_of-le 2 n max (omega arith) below

@@ -111,19 +111,29 @@ abs-neg : (n : ℕ) → unsigned_abs (neg_ℤ (pos n)) ≡ n
 abs-neg zero = refl
 abs-neg (suc n) = refl
 
-pub signed-can_rem : (w : Width) (a b : ℤ) → FitsSignedBits (bit_len w) a → FitsSignedBits (bit_len w) b → b ≢ pos 0 → b ≢ negsuc 0 → CanDivide w a b
+pub signed-can_rem : (w : Width) (a b : ℤ) → FitsSignedBits (bit_len w) a → FitsSignedBits (bit_len w) b → b ≢ pos 0
+    → b ≢ negsuc 0 → CanDivide w a b
 signed-can_rem w a (pos zero) f g nonzero other = absurd (nonzero refl)
-signed-can_rem w a (pos (suc m)) f g nonzero other = (omega arith, quot_fits w a (pos (suc m)) (signed-can_sub w a f) (omega (arith, ints)))
+signed-can_rem w a (pos (suc m)) f g nonzero other = (
+  omega arith,
+  quot_fits w a (pos (suc m)) (signed-can_sub w a f) (omega (arith, ints)),
+)
 signed-can_rem w a (negsuc zero) f g nonzero other = absurd (other refl)
 signed-can_rem w (pos a) (negsuc (suc m)) f g nonzero other =
     let t = pow_pos (hbits w) in
     let x = below-half w a f in
     let y = below-half w (suc m) g in
-    let two = half-one w in
-    (omega arith, fits_signed_from_abs w (int_div (pos a) (negsuc (suc m))) (rw abs-neg (quotient_below a m (2 ^ hbits w) (omega arith) t)))
+    let two = half-one w in (
+      omega arith,
+      fits_signed_from_abs w (int_div (pos a) (negsuc (suc m)))
+          (rw abs-neg (quotient_below a m (2 ^ hbits w) (omega arith) t)),
+    )
 signed-can_rem w (negsuc a) (negsuc (suc m)) f g nonzero other =
     let t = pow_pos (hbits w) in
     let x = below-half w a f in
     let y = below-half w (suc m) g in
-    let two = half-one w in
-    (omega arith, fits_signed_from_abs w (int_div (negsuc a) (negsuc (suc m))) (quotient_below (suc a) m (2 ^ hbits w) (omega arith) t))
+    let two = half-one w in (
+      omega arith,
+      fits_signed_from_abs w (int_div (negsuc a) (negsuc (suc m)))
+          (quotient_below (suc a) m (2 ^ hbits w) (omega arith) t),
+    )

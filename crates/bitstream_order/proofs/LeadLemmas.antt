@@ -85,7 +85,8 @@ between_none o x p = record {
   word = append-nil x;
 }
 
-between_as : (o : Order) (x w y v z : List Bool) (old new : PortState) → w ++ y ≡ v ++ z → TakesBetween o x old w y new → TakesBetween o x old v z new
+between_as : (o : Order) (x w y v z : List Bool) (old new : PortState) → w ++ y ≡ v ++ z → TakesBetween o x old w y new
+    → TakesBetween o x old v z new
 between_as o x w y v z old new same h = record {
   bytes = h.bytes;
   loses = h.loses;
@@ -96,7 +97,8 @@ between_as o x w y v z old new same h = record {
 }
 
 -- a byte more
-between_more : (o : Order) (x w : List Bool) (b : ℕ) (old mid new : PortState) → TakesBetween o x old w [] mid → Fetched mid (b ∷ []) new → TakesBetween o x old w (word o 8 b) new
+between_more : (o : Order) (x w : List Bool) (b : ℕ) (old mid new : PortState) → TakesBetween o x old w [] mid
+    → Fetched mid (b ∷ []) new → TakesBetween o x old w (word o 8 b) new
 between_more o x w b old mid new h k = record {
   bytes = h.bytes ++ b ∷ [];
   loses = Consumes-trans old.bytes mid.bytes new.bytes h.bytes (b ∷ []) h.loses k.loses;
@@ -104,7 +106,8 @@ between_more o x w b old mid new h k = record {
   refusals = k.refusals ∙ h.refusals;
   reference_names = k.reference_names ∙ h.reference_names;
   word =
-      ap (λ l. x ++ l) (bits-append o h.bytes (b ∷ [])) ∙ sym (append_assoc x (bits o h.bytes) (bits o (b ∷ []))) ∙ ap (λ l. l ++ bits o (b ∷ [])) (h.word ∙ append-nil w)
+      ap (λ l. x ++ l) (bits-append o h.bytes (b ∷ [])) ∙ sym (append_assoc x (bits o h.bytes) (bits o (b ∷ [])))
+      ∙ ap (λ l. l ++ bits o (b ∷ [])) (h.word ∙ append-nil w)
       ∙ ap (λ l. w ++ l) (append-nil (word o 8 b));
 }
 
@@ -116,73 +119,103 @@ held_bits o byte left le = sym (first_bits o byte 8 left le)
 
 -- all of them
 held_byte : (o : Order) (byte : ℕ) → word o 8 byte ≡ word o 8 (first_part o byte 8 8)
-held_byte o byte = sym (take_all 8 (word o 8 byte) (omega (arith, length-word o 8 byte))) ∙ first_bits o byte 8 8 (omega arith)
+held_byte o byte = sym (take_all 8 (word o 8 byte) (omega (arith, length-word o 8 byte)))
+    ∙ first_bits o byte 8 8 (omega arith)
 
 -- a byte more, all of whose bits wait
-pub byte_waits : (o : Order) (x w : List Bool) (b : ℕ) (old mid new : PortState) → TakesBetween o x old w [] mid → Fetched mid (b ∷ []) new → TakesBetween o x old w (word o 8 (first_part o b 8 8)) new
-byte_waits o x w b old mid new h k = subst (λ y. TakesBetween o x old w y new) (held_byte o b) (between_more o x w b old mid new h k)
+pub byte_waits : (o : Order) (x w : List Bool) (b : ℕ) (old mid new : PortState) → TakesBetween o x old w [] mid
+    → Fetched mid (b ∷ []) new → TakesBetween o x old w (word o 8 (first_part o b 8 8)) new
+byte_waits o x w b old mid new h k = subst (λ y. TakesBetween o x old w y new) (held_byte o b)
+    (between_more o x w b old mid new h k)
 
 pub lead_of_byte : (o : Order) (stop : Bool) (b r : ℕ) → r ≡ lead stop (word o 8 b) → r ≤ 8
 lead_of_byte o stop b r is = omega (arith, is, lead_le stop (word o 8 b), length-word o 8 b)
 
 -- those behind the first n
-rest_bits : (o : Order) (byte n r : ℕ) → ((k : ℕ) → n + k ≤ 8 → first_part o r 8 k ≡ piece o 8 byte n k) → (k : ℕ) → n + k ≤ 8 → take (n + k) (word o 8 byte) ≡ take n (word o 8 byte) ++ take k (word o 8 r)
+rest_bits : (o : Order) (byte n r : ℕ) → ((k : ℕ) → n + k ≤ 8 → first_part o r 8 k ≡ piece o 8 byte n k) → (k : ℕ)
+    → n + k ≤ 8 → take (n + k) (word o 8 byte) ≡ take n (word o 8 byte) ++ take k (word o 8 r)
 rest_bits o byte n r rest k le =
-    piece_more o 8 byte n k le ∙ ap (λ w. take n (word o 8 byte) ++ w) (ap (word o k) (sym (rest k le)) ∙ sym (first_bits o r 8 k (omega arith)))
+    piece_more o 8 byte n k le ∙ ap (λ w. take n (word o 8 byte) ++ w) (ap (word o k) (sym (rest k le))
+    ∙ sym (first_bits o r 8 k (omega arith)))
 
 -- those behind a run and the bit that ends it
-rest_twice : (o : Order) (byte n q r : ℕ) → ((k : ℕ) → n + k ≤ 8 → first_part o q 8 k ≡ piece o 8 byte n k) → ((k : ℕ) → 1 + k ≤ 8 → first_part o r 8 k ≡ piece o 8 q 1 k)
-    → (k : ℕ) → n + (1 + k) ≤ 8 → take (n + (1 + k)) (word o 8 byte) ≡ take (n + 1) (word o 8 byte) ++ word o k (first_part o r 8 k)
+rest_twice : (o : Order) (byte n q r : ℕ) → ((k : ℕ) → n + k ≤ 8 → first_part o q 8 k ≡ piece o 8 byte n k)
+    → ((k : ℕ) → 1 + k ≤ 8 → first_part o r 8 k ≡ piece o 8 q 1 k)
+    → (k : ℕ) → n + (1 + k) ≤ 8 → take (n + (1 + k)) (word o 8 byte) ≡ take (n + 1) (word o 8 byte)
+    ++ word o k (first_part o r 8 k)
 rest_twice o byte n q r first then k le =
-    rest_bits o byte n q first (1 + k) le ∙ ap (λ w. take n (word o 8 byte) ++ w) (rest_bits o q 1 r then k (omega arith)) ∙ sym (append_assoc (take n (word o 8 byte)) (take 1 (word o 8 q)) (take k (word o 8 r)))
-    ∙ ap (λ w. w ++ take k (word o 8 r)) (sym (rest_bits o byte n q first 1 (omega arith))) ∙ ap (λ w. take (n + 1) (word o 8 byte) ++ w) (first_bits o r 8 k (omega arith))
+    rest_bits o byte n q first (1 + k) le ∙ ap (λ w. take n (word o 8 byte)
+    ++ w) (rest_bits o q 1 r then k (omega arith))
+    ∙ sym (append_assoc (take n (word o 8 byte)) (take 1 (word o 8 q)) (take k (word o 8 r)))
+    ∙ ap (λ w. w ++ take k (word o 8 r)) (sym (rest_bits o byte n q first 1 (omega arith)))
+    ∙ ap (λ w. take (n + 1) (word o 8 byte) ++ w) (first_bits o r 8 k (omega arith))
 
 -- ---- turns
 
 module _ (o : Order) (stop : Bool) (x : List Bool) (old : PortState) where
   -- no stop bit among the bits that wait
-  pub all_others : (count byte left more : ℕ) (p : PortState) → left ≤ 8 → left ≤ lead stop (word o 8 byte) → more ≡ count + left
-      → TakesBetween o x old (replicate count (not stop)) (word o left (first_part o byte 8 left)) p → TakesBetween o x old (replicate more (not stop)) [] p
+  pub all_others : (count byte left more : ℕ) (p : PortState) → left ≤ 8 → left ≤ lead stop (word o 8 byte) → more
+      ≡ count + left
+      → TakesBetween o x old (replicate count (not stop)) (word o left (first_part o byte 8 left)) p
+      → TakesBetween o x old (replicate more (not stop)) [] p
   all_others count byte left more p le none sum h =
-      between_as o x (replicate count (not stop)) (word o left (first_part o byte 8 left)) (replicate more (not stop)) [] old p
-      (ap (λ w. replicate count (not stop) ++ w) (held_bits o byte left le ∙ take_others stop left (word o 8 byte) none) ∙ sym (others-split stop count left more (sym sum)) ∙ sym (append-nil (replicate more (not stop)))) h
+      between_as o x (replicate count (not stop)) (word o left (first_part o byte 8 left)) (replicate more (not stop))
+      [] old p
+      (ap (λ w. replicate count (not stop) ++ w) (held_bits o byte left le ∙ take_others stop left (word o 8 byte) none)
+      ∙ sym (others-split stop count left more (sym sum)) ∙ sym (append-nil (replicate more (not stop)))) h
 
   -- the stop bit is among them
-  pub lead_ends : (count byte left r more k q z : ℕ) (p : PortState) → left ≤ 8 → r ≡ lead stop (word o 8 byte) → r < left → k ≡ left - r - 1 → more ≡ count + r
-      → ((k : ℕ) → r + k ≤ 8 → first_part o q 8 k ≡ piece o 8 byte r k) → ((k : ℕ) → 1 + k ≤ 8 → first_part o z 8 k ≡ piece o 8 q 1 k)
-      → TakesBetween o x old (replicate count (not stop)) (word o left (first_part o byte 8 left)) p → TakesBetween o x old (unary stop more) (word o k (first_part o z 8 k)) p
+  pub lead_ends : (count byte left r more k q z : ℕ) (p : PortState) → left ≤ 8 → r ≡ lead stop (word o 8 byte)
+      → r < left → k ≡ left - r - 1 → more ≡ count + r
+      → ((k : ℕ) → r + k ≤ 8 → first_part o q 8 k ≡ piece o 8 byte r k)
+      → ((k : ℕ) → 1 + k ≤ 8 → first_part o z 8 k ≡ piece o 8 q 1 k)
+      → TakesBetween o x old (replicate count (not stop)) (word o left (first_part o byte 8 left)) p
+      → TakesBetween o x old (unary stop more) (word o k (first_part o z 8 k)) p
   lead_ends count byte left r more k q z p le is less rest sum first then h =
       let w = word o 8 byte in
       let behind = word o k (first_part o z 8 k) in
       let parts : left ≡ r + (1 + k) = omega arith in
       let found : lead stop w < length w = omega (arith, is, length-word o 8 byte) in
       let next : r + 1 ≡ suc (lead stop w) = omega (arith, is) in
-      let front : take (r + 1) w ≡ unary stop r = ap (λ n. take n w) next ∙ front_is_unary stop w found ∙ ap (unary stop) (sym is) in
+      let front : take (r + 1) w ≡ unary stop r = ap (λ n. take n w) next ∙ front_is_unary stop w found
+      ∙ ap (unary stop) (sym is) in
       let held : word o left (first_part o byte 8 left) ≡ unary stop r ++ behind =
-      held_bits o byte left le ∙ ap (λ n. take n w) parts ∙ rest_twice o byte r q z first then k (omega arith) ∙ ap (λ l. l ++ behind) front in
-      between_as o x (replicate count (not stop)) (word o left (first_part o byte 8 left)) (unary stop more) behind old p
-      (ap (λ l. replicate count (not stop) ++ l) held ∙ sym (append_assoc (replicate count (not stop)) (unary stop r) behind) ∙ ap (λ l. l ++ behind) (sym (unary-split stop count r more (sym sum)))) h
+      held_bits o byte left le ∙ ap (λ n. take n w) parts ∙ rest_twice o byte r q z first then k (omega arith)
+      ∙ ap (λ l. l ++ behind) front in
+      between_as o x (replicate count (not stop)) (word o left (first_part o byte 8 left)) (unary stop more) behind old
+      p
+      (ap (λ l. replicate count (not stop) ++ l) held ∙ sym
+      (append_assoc (replicate count (not stop)) (unary stop r) behind)
+      ∙ ap (λ l. l ++ behind) (sym (unary-split stop count r more (sym sum)))) h
 
   -- enough other bits that the lead is too long
-  pub lead_long : (count byte left r : ℕ) (p : PortState) → left ≤ 8 → r ≤ left → r ≤ lead stop (word o 8 byte) → count < 2 ^ 32 → 2 ^ 32 ≤ count + r
-      → TakesBetween o x old (replicate count (not stop)) (word o left (first_part o byte 8 left)) p → TakesLongUnary o stop x old p
+  pub lead_long : (count byte left r : ℕ) (p : PortState) → left ≤ 8 → r ≤ left → r ≤ lead stop (word o 8 byte)
+      → count < 2 ^ 32 → 2 ^ 32 ≤ count + r
+      → TakesBetween o x old (replicate count (not stop)) (word o left (first_part o byte 8 left)) p
+      → TakesLongUnary o stop x old p
   lead_long count byte left r p le within others small long h =
       let w = word o 8 byte in
       let m = 2 ^ 32 - count in
       let held = take left w in
       let size : length held ≡ left = length-take-le left w (omega (arith, length-word o 8 byte)) in
-      let front : take m held ≡ replicate m (not stop) = take_less m left w (omega (arith, size)) ∙ take_others stop m w (omega arith) in
+      let front : take m held ≡ replicate m (not stop) = take_less m left w (omega (arith, size))
+      ∙ take_others stop m w (omega arith) in
       record {
         count = count + m;
         long = omega arith;
         left = drop m held;
         few = omega (arith, size, length-drop m held);
-        takes = between_as o x (replicate count (not stop)) (word o left (first_part o byte 8 left)) (replicate (count + m) (not stop)) (drop m held) old p
-            (ap (λ l. replicate count (not stop) ++ l) (held_bits o byte left le ∙ sym (take-append-drop m held) ∙ ap (λ l. l ++ drop m held) front)
-            ∙ sym (append_assoc (replicate count (not stop)) (replicate m (not stop)) (drop m held)) ∙ ap (λ l. l ++ drop m held) (sym (others-split stop count m (count + m) refl))) h;
+        takes = between_as o x (replicate count (not stop)) (word o left (first_part o byte 8 left))
+            (replicate (count + m) (not stop)) (drop m held) old p
+            (ap (λ l. replicate count (not stop) ++ l) (held_bits o byte left le ∙ sym (take-append-drop m held)
+            ∙ ap (λ l. l ++ drop m held) front)
+            ∙ sym (append_assoc (replicate count (not stop)) (replicate m (not stop)) (drop m held))
+            ∙ ap (λ l. l ++ drop m held) (sym (others-split stop count m (count + m) refl))) h;
       }
 
 -- what the exit of a `?` returns
-pub lead_refused : (may : Refusal → Type 0) (o : Order) (stop : Bool) (x : List Bool) (old new : PortState) (error : Error) (r : Result (Option TakenUnary) Error) → IsErrAnd r (λ y. y ≡ error) → RefusesUnary may o stop x old error new → TakesUnary may o stop x old r new
+pub lead_refused : (may : Refusal → Type 0) (o : Order) (stop : Bool) (x : List Bool) (old new : PortState)
+    (error : Error) (r : Result (Option TakenUnary) Error) → IsErrAnd r (λ y. y ≡ error)
+    → RefusesUnary may o stop x old error new → TakesUnary may o stop x old r new
 lead_refused may o stop x old new error (Ok a) is h = absurd is
 lead_refused may o stop x old new error (Err y) is h = subst (λ z. RefusesUnary may o stop x old z new) (sym is) h

@@ -14,7 +14,8 @@ pub tail_part : (n : ℕ) (bytes all back : List ℕ) → IsTail bytes all → b
 tail_part n bytes all back tail cut =
     let front = take (length all - length bytes) all in
     let parts : (front ++ take n bytes) ++ back ≡ all =
-    ap (λ xs. (front ++ take n bytes) ++ xs) cut ∙ append_assoc front (take n bytes) (drop n bytes) ∙ ap (λ xs. front ++ xs) (take-append-drop n bytes) ∙ sym tail in
+    ap (λ xs. (front ++ take n bytes) ++ xs) cut ∙ append_assoc front (take n bytes) (drop n bytes)
+    ∙ ap (λ xs. front ++ xs) (take-append-drop n bytes) ∙ sym tail in
     subst (λ xs. IsTail back xs) parts (behind (front ++ take n bytes) back)
 
 pub none_left : (n : ℕ) (bytes back : List ℕ) → bytes ≡ [] → back ≡ drop n bytes → back ≡ []
@@ -28,8 +29,10 @@ none_past (suc k) bytes ended =
     let none = ended (omega arith) in
     ap (λ xs. drop (suc k) xs) none ∙ drop-nil (suc k) ∙ sym none
 
-pub behind_place : (past : ℕ) (bytes all : List ℕ) → IsTail bytes all → (0 < past → bytes ≡ []) → drop ((length all - length bytes) + past) all ≡ bytes
+pub behind_place : (past : ℕ) (bytes all : List ℕ) → IsTail bytes all → (0 < past → bytes ≡ [])
+    → drop ((length all - length bytes) + past) all ≡ bytes
 behind_place past bytes all tail ended =
     let front = take (length all - length bytes) all in
-    let size : length front ≡ length all - length bytes = length-take-le (length all - length bytes) all (omega arith) in
+    let size : length front ≡ length all - length bytes =
+    length-take-le (length all - length bytes) all (omega arith) in
     ap₂ (λ n xs. drop (n + past) xs) (sym size) tail ∙ drop-append-add front bytes past ∙ none_past past bytes ended

@@ -20,7 +20,8 @@ growing_capacity g = vec_capacity g.bytes
 
 -- A request to write some bytes is refused only if the vector has no memory left for them, as `OutOfMemory`, and writes
 -- nothing.
-pub record GrowthRefused {A : Type 0} (before : Growing A) (wanted : ℕ) (kind : ErrorKind) (after : Growing A) : Type 0 where
+pub record GrowthRefused {A : Type 0} (before : Growing A) (wanted : ℕ) (kind : ErrorKind) (after : Growing A) :
+    Type 0 where
   pub memory : kind ≡ OutOfMemory
   pub some : 0 < wanted
   pub full : growing_capacity before < length (growing_bytes before) + wanted

@@ -32,7 +32,8 @@ pub record TakesLongUnary (o : Order) (stop : Bool) (x : List Bool) (old new : P
   pub takes : TakesBetween o x old (replicate count (not stop)) left new
 
 -- a byte was refused behind bits that are not the stop bit
-pub record RefusesUnary (may : Refusal → Type 0) (o : Order) (stop : Bool) (x : List Bool) (old : PortState) (error : Error) (new : PortState) : Type 0 where
+pub record RefusesUnary (may : Refusal → Type 0) (o : Order) (stop : Bool) (x : List Bool) (old : PortState)
+    (error : Error) (new : PortState) : Type 0 where
   pub count : ℕ
   pub few : count < 2 ^ 32
   pub mid : PortState
@@ -41,7 +42,8 @@ pub record RefusesUnary (may : Refusal → Type 0) (o : Order) (stop : Bool) (x 
 
 -- A unary read with the bits x in front: its word was taken, and the bits behind it are left; or the run was too long;
 -- or a byte was refused.
-abbrev pub TakesUnary : (Refusal → Type 0) → Order → Bool → List Bool → PortState → Result (Option TakenUnary) Error → PortState → Type 0
+abbrev pub TakesUnary : (Refusal → Type 0) → Order → Bool → List Bool → PortState → Result (Option TakenUnary) Error
+    → PortState → Type 0
 TakesUnary may o stop x old (Ok (Some r)) new =
     TakesBetween o x old (unary stop r.count) (word o r.waiting (first_part o r.left 8 r.waiting)) new
 TakesUnary may o stop x old (Ok None) new = TakesLongUnary o stop x old new

@@ -7,15 +7,30 @@ use Rattle.bitstream_count.specs.declared.error.Error.TheVariants.{CounterOverfl
 use Rattle.bitstream_stream.specs.Sink.{Writes, IsFullLimit, past_limit, was_done}
 use Rattle.bitstream_sink.specs.Counting.{counter_sink}
 
-module _ {S : Type 0} (o : Order) (count : S → ℕ) (greatest : ℕ) (full : IsFullLimit (Some greatest)) (within : (s : S) → count s ≤ greatest) where
+module _ {S : Type 0} (o : Order) (count : S → ℕ) (greatest : ℕ) (full : IsFullLimit (Some greatest)) (within : (s : S)
+    → count s ≤ greatest) where
   -- a word of n bits was counted
-  pub counted : {T : Type 0} (entry : WriteEntry) (old : S) (result : Result T Error) (new : S) (x : List Bool) (n : ℕ) (done : T)
-      → entry (count old) ≡ Ok x → length x ≡ n → result ≡ Ok done → count new ≡ count old + n → Writes (counter_sink o count greatest full within) entry old result new
+  pub counted : {T : Type 0} (entry : WriteEntry) (old : S) (result : Result T Error) (new : S) (x : List Bool)
+      (n : ℕ) (done : T)
+      → entry (count old) ≡ Ok x → length x ≡ n → result ≡ Ok done → count new ≡ count old + n
+      → Writes (counter_sink o count greatest full within) entry old result new
   counted entry old result new x n done is len answer sum =
-      was_done x done refl is (omega (arith, len, sum, within new)) answer (record { grown = omega (arith, len, sum); sound = refl; refusals = refl; reference_names = refl })
+      was_done x done refl is (omega (arith, len, sum, within new)) answer (record {
+        grown = omega (arith, len, sum);
+        sound = refl;
+        refusals = refl;
+        reference_names = refl;
+      })
 
   -- its length passes the greatest number
-  pub overflowed : {T : Type 0} (entry : WriteEntry) (old : S) (result : Result T Error) (new : S) (x : List Bool) (n : ℕ)
-      → entry (count old) ≡ Ok x → length x ≡ n → result ≡ Err CounterOverflow → greatest < count old + n → count new ≡ count old → Writes (counter_sink o count greatest full within) entry old result new
+  pub overflowed : {T : Type 0} (entry : WriteEntry) (old : S) (result : Result T Error) (new : S) (x : List Bool)
+      (n : ℕ)
+      → entry (count old) ≡ Ok x → length x ≡ n → result ≡ Err CounterOverflow → greatest < count old + n → count new
+      ≡ count old → Writes (counter_sink o count greatest full within) entry old result new
   overflowed entry old result new x n is len answer past same =
-      past_limit x refl is (omega (arith, len, past)) answer (record { grown = omega (arith, same); failed = refl; refusals = refl; reference_names = refl })
+      past_limit x refl is (omega (arith, len, past)) answer (record {
+        grown = omega (arith, same);
+        failed = refl;
+        refusals = refl;
+        reference_names = refl;
+      })

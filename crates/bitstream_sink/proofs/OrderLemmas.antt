@@ -16,7 +16,8 @@ SameLength (Ok x) (Err d) = ⊥
 SameLength (Err d) (Ok y) = ⊥
 SameLength (Err d) (Err e) = e ≡ d
 
-same_word : (r s : Result (List Bool) Error) (x : List Bool) → SameLength r s → r ≡ Ok x → (y : List Bool) × (s ≡ Ok y) × (length y ≡ length x)
+same_word : (r s : Result (List Bool) Error) (x : List Bool) → SameLength r s → r ≡ Ok x → (y : List Bool) × (s ≡ Ok y)
+    × (length y ≡ length x)
 same_word (Ok z) (Ok y) x same is = let one : z ≡ x = cc in (y, refl, same ∙ ap length one)
 same_word (Ok z) (Err d) x same is = absurd same
 same_word (Err d) s x same is = cc
@@ -26,36 +27,67 @@ same_error (Ok x) s d same is = cc
 same_error (Err c) (Ok y) d same is = absurd same
 same_error (Err c) (Err e) d same is = ap Err same ∙ is
 
-module _ {R S : Type 0} (o p : Order) (f : R → S) (count : S → ℕ) (greatest : ℕ) (full : IsFullLimit (Some greatest)) (within : (s : S) → count s ≤ greatest) where
+module _ {R S : Type 0} (o p : Order) (f : R → S) (count : S → ℕ) (greatest : ℕ)
+    (full : IsFullLimit (Some greatest)) (within : (s : S) → count s ≤ greatest) where
   -- a call on a counter of another order, inside a state
   pub reordered : {T : Type 0} (entry other : WriteEntry) (old : R) (result : Result T Error) (new : R)
-      → SameLength (entry (count (f old))) (other (count (f old))) → Writes (counter_sink o count greatest full within) entry (f old) result (f new)
+      → SameLength (entry (count (f old))) (other (count (f old)))
+      → Writes (counter_sink o count greatest full within) entry (f old) result (f new)
       → Writes (counter_sink p (λ a. count (f a)) greatest full (λ a. within (f a))) other old result new
-  reordered entry other old result new same (had_failed broken re k) = had_failed broken re (record { grown = k.grown; failed = k.failed; refusals = k.refusals; reference_names = k.reference_names })
+  reordered entry other old result new same (had_failed broken re k) =
+      had_failed broken re (record {
+        grown = k.grown;
+        failed = k.failed;
+        refusals = k.refusals;
+        reference_names =
+            k.reference_names;
+      })
   reordered entry other old result new same (was_rejected d sound en re k) =
-      was_rejected d sound (same_error _ _ d same en) re (record { grown = k.grown; failed = k.failed; refusals = k.refusals; reference_names = k.reference_names })
+      was_rejected d sound (same_error _ _ d same en) re (record {
+        grown = k.grown;
+        failed = k.failed;
+        refusals =
+            k.refusals;
+        reference_names = k.reference_names;
+      })
   reordered entry other old result new same (past_limit x sound en past re k) =
       let w = same_word _ _ x same en in
-      past_limit w.0 sound w.1 (omega (arith, past, w.2)) re (record { grown = k.grown; failed = k.failed; refusals = k.refusals; reference_names = k.reference_names })
+      past_limit w.0 sound w.1 (omega (arith, past, w.2)) re (record {
+        grown = k.grown;
+        failed = k.failed;
+        refusals =
+            k.refusals;
+        reference_names = k.reference_names;
+      })
   reordered entry other old result new same (was_refused x d sound en wi re k) = absurd k.allowed
   reordered entry other old result new same (was_done x t sound en wi re k) =
       let w = same_word _ _ x same en in
-      was_done w.0 t sound w.1 (omega (arith, wi, w.2)) re (record { grown = omega (arith, k.grown, w.2); sound = k.sound; refusals = k.refusals; reference_names = k.reference_names })
+      was_done w.0 t sound w.1 (omega (arith, wi, w.2)) re (record {
+        grown = omega (arith, k.grown, w.2);
+        sound =
+            k.sound;
+        refusals = k.refusals;
+        reference_names = k.reference_names;
+      })
 
-same_choice : (b : Bool) (r s r' s' : Result (List Bool) Error) → SameLength r r' → SameLength s s' → SameLength (if b then r else s) (if b then r' else s')
+same_choice : (b : Bool) (r s r' s' : Result (List Bool) Error) → SameLength r r' → SameLength s s'
+    → SameLength (if b then r else s) (if b then r' else s')
 same_choice true r s r' s' x y = x
 same_choice false r s r' s' x y = y
 
 pub same-unsigned : (o p : Order) (size n v len : ℕ) → SameLength (unsigned o size n v len) (unsigned p size n v len)
 unfolding unsigned
 same-unsigned o p size n v len =
-    same_choice (nat_lt size n) _ _ _ _ refl (same_choice ((n == 0) || nat_lt v (2 ^ n)) _ _ _ _ (length-word p n v ∙ sym (length-word o n v)) refl)
+    same_choice (nat_lt size n) _ _ _ _ refl (same_choice ((n == 0) || nat_lt v (2 ^ n)) _ _ _ _ (length-word p n v
+    ∙ sym (length-word o n v)) refl)
 
-pub same-signed : (o p : Order) (size n : ℕ) (x : ℤ) (len : ℕ) → SameLength (signed o size n x len) (signed p size n x len)
+pub same-signed : (o p : Order) (size n : ℕ) (x : ℤ) (len : ℕ)
+    → SameLength (signed o size n x len) (signed p size n x len)
 unfolding signed
 same-signed o p size n x len =
     let words = length-word p n (residue n x) ∙ sym (length-word o n (residue n x)) in
-    same_choice (n == 0) _ _ _ _ refl (same_choice (nat_lt size n) _ _ _ _ refl (same_choice (fits_signed n x) _ _ _ _ words refl))
+    same_choice (n == 0) _ _ _ _ refl (same_choice (nat_lt size n) _ _ _ _ refl
+    (same_choice (fits_signed n x) _ _ _ _ words refl))
 
 pub same-bits : (o p : Order) (bytes others : List ℕ) → others ≡ bytes → length (bits p others) ≡ length (bits o bytes)
 same-bits o p bytes others same = length-bits p others ∙ ap (λ xs. 8 * length xs) same ∙ sym (length-bits o bytes)

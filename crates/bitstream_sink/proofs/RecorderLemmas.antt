@@ -22,31 +22,49 @@ use Rattle.bitstream_sink.specs.GrowingWriter.{HoldsAll, growing_sink, growing_s
 use Rattle.bitstream_sink.specs.declared.recorder.BitRecorder.{BitRecorder}
 
 -- bytes were added, and counted as sent
-added : (xs ys bytes : List ℕ) (old new : ℕ) → Appends (Some xs) (Some ys) bytes → old ≡ length xs → new ≡ old + length bytes → new ≡ length ys
+added : (xs ys bytes : List ℕ) (old new : ℕ) → Appends (Some xs) (Some ys) bytes → old ≡ length xs → new
+    ≡ old + length bytes → new ≡ length ys
 added xs ys bytes old new grows is more = omega (arith, is, more, ap length grows, length-append xs bytes)
 
 -- all that was sent before a refusal
-sent_before : (old new queued waiting front bytes rest : ℕ) → (8 * new + waiting) % 8 ≡ 0 → waiting < 8 → 8 * old + queued + front < 8 * new + waiting + 8 → 8 * new + waiting ≤ 8 * old + queued + front → queued + front ≡ 8 * bytes + rest → rest < 8
+sent_before : (old new queued waiting front bytes rest : ℕ) → (8 * new + waiting) % 8 ≡ 0 → waiting < 8
+    → 8 * old + queued + front < 8 * new + waiting + 8 → 8 * new + waiting ≤ 8 * old + queued + front → queued + front
+    ≡ 8 * bytes + rest → rest < 8
     → new ≡ old + bytes
 sent_before old new queued waiting front bytes rest whole few least most sum small = omega arith
 
 module _ {A E : Type 0} (o : Order) where
-  holds_more : (a b : BitWriter (Growing A) E) (x : List Bool) → HoldsAll a → (growing_sink o).appends a x b → HoldsAll b
+  holds_more : (a b : BitWriter (Growing A) E) (x : List Bool) → HoldsAll a → (growing_sink o).appends a x b
+      → HoldsAll b
   holds_more a b x h p = added (written_bytes a) (written_bytes b) p.bytes _ _ p.grows h p.sent
 
-  holds_refused : (a b : BitWriter (Growing A) E) (x : List Bool) (error : Error) → HoldsAll a → WriteRefused (growing_sink o) a x error b → HoldsAll b
+  holds_refused : (a b : BitWriter (Growing A) E) (x : List Bool) (error : Error) → HoldsAll a
+      → WriteRefused (growing_sink o) a x error b → HoldsAll b
   holds_refused a b x error h k =
       let may = k.allowed in
       let fill = k.before in
-      let same : Some (written_bytes b) ≡ k.refusal.before = k.after ∙ may.after ∙ ap Some may.refused.same ∙ sym may.before in
-      let grows : Appends (Some (written_bytes a)) (Some (written_bytes b)) fill.bytes = subst (λ (known : Option (List ℕ)). Appends (Some (written_bytes a)) known fill.bytes) (sym same) fill.grows in
+      let same : Some (written_bytes b) ≡ k.refusal.before = k.after ∙ may.after ∙ ap Some may.refused.same
+      ∙ sym may.before in
+      let grows : Appends (Some (written_bytes a)) (Some (written_bytes b)) fill.bytes =
+      subst (λ (known : Option (List ℕ)). Appends (Some (written_bytes a)) known fill.bytes) (sym same) fill.grows
+      in
       let q = word o (queued_bits a) (queue_number a) in
-      let sum : queued_bits a + length k.front ≡ 8 * length fill.bytes + length fill.rest = omega (arith, ap length fill.word, length-append q k.front, length-append (bits o fill.bytes) fill.rest, length-word o (queued_bits a) (queue_number a), length-bits o fill.bytes) in
+      let sum : queued_bits a + length k.front ≡ 8 * length fill.bytes + length fill.rest =
+      omega (
+        arith,
+        ap length fill.word,
+        length-append q k.front,
+        length-append (bits o fill.bytes) fill.rest,
+        length-word o (queued_bits a) (queue_number a),
+        length-bits o fill.bytes,
+      ) in
       added (written_bytes a) (written_bytes b) fill.bytes _ _ grows h
-      (sent_before (growing_state a).port.sent (growing_state b).port.sent (queued_bits a) (queued_bits b) (length k.front) (length fill.bytes) (length fill.rest) k.whole b.few k.least k.most sum fill.few)
+      (sent_before (growing_state a).port.sent (growing_state b).port.sent (queued_bits a) (queued_bits b)
+      (length k.front) (length fill.bytes) (length fill.rest) k.whole b.few k.least k.most sum fill.few)
 
   -- a write call keeps in the vector all bytes that were sent
-  pub holds_all : {T : Type 0} (e : WriteEntry) (a b : BitWriter (Growing A) E) (r : Result T Error) → HoldsAll a → Writes (growing_sink o) e a r b → HoldsAll b
+  pub holds_all : {T : Type 0} (e : WriteEntry) (a b : BitWriter (Growing A) E) (r : Result T Error) → HoldsAll a
+      → Writes (growing_sink o) e a r b → HoldsAll b
   holds_all e a b r h (had_failed p re k) = holds_more a b [] h k.grown
   holds_all e a b r h (was_rejected d p en re k) = holds_more a b [] h k.grown
   holds_all e a b r h (past_limit x p en wi re k) = holds_more a b [] h k.grown
@@ -55,52 +73,71 @@ module _ {A E : Type 0} (o : Order) where
 
 module _ {N E A : Type 0} (o : Order) where
   -- a call of the writer is the recorder's
-  pub forwarded : {T : Type 0} (e : WriteEntry) (a b : BitRecorder N E A) (r : Result T Error) → Writes (growing_sink o) e a.writer r b.writer → Writes (recorder_sink o) e a r b
+  pub forwarded : {T : Type 0} (e : WriteEntry) (a b : BitRecorder N E A) (r : Result T Error)
+      → Writes (growing_sink o) e a.writer r b.writer → Writes (recorder_sink o) e a r b
   forwarded e a b r h = inner (λ (recorder : BitRecorder N E A). recorder.writer) (growing_sink o) e a r b h
 
   -- the recorded bits grow by what is appended
-  pub recorded_grow : (a b : BitRecorder N E A) (x : List Bool) → (recorder_sink o).appends a x b → recorded_bits o b ≡ recorded_bits o a ++ x
+  pub recorded_grow : (a b : BitRecorder N E A) (x : List Bool) → (recorder_sink o).appends a x b → recorded_bits o b
+      ≡ recorded_bits o a ++ x
   recorded_grow a b x p =
       let before = bits o (recorded_bytes a) in
       let last = word o (recorded_queued b) (recorded_queue b) in
-      ap (λ (ys : List ℕ). bits o ys ++ last) p.grows ∙ ap (λ (l : List Bool). l ++ last) (bits-append o (recorded_bytes a) p.bytes) ∙ append_assoc before (bits o p.bytes) last ∙ ap (λ (l : List Bool). before ++ l) (sym p.word)
+      ap (λ (ys : List ℕ). bits o ys ++ last) p.grows ∙ ap (λ (l : List Bool). l
+      ++ last) (bits-append o (recorded_bytes a) p.bytes) ∙ append_assoc before (bits o p.bytes) last
+      ∙ ap (λ (l : List Bool). before ++ l) (sym p.word)
       ∙ sym (append_assoc before (word o (recorded_queued a) (recorded_queue a)) x)
 
   -- and a recorder's length is their number
   pub recorded_count : (a : BitRecorder N E A) → (recorder_sink o).len a ≡ length (recorded_bits o a)
   recorded_count a =
       let all = a.all in
-      omega (arith, all, length-append (bits o (recorded_bytes a)) (word o (recorded_queued a) (recorded_queue a)), length-bits o (recorded_bytes a), length-word o (recorded_queued a) (recorded_queue a))
+      omega (
+        arith,
+        all,
+        length-append (bits o (recorded_bytes a)) (word o (recorded_queued a) (recorded_queue a)),
+        length-bits o (recorded_bytes a),
+        length-word o (recorded_queued a) (recorded_queue a),
+      )
 
   -- a recorder fails as memory was refused
-  pub refused_memory : (a b : BitRecorder N E A) (x : List Bool) (error : Error) → WriteRefused (recorder_sink o) a x error b → error ≡ OutOfMemory
+  pub refused_memory : (a b : BitRecorder N E A) (x : List Bool) (error : Error)
+      → WriteRefused (recorder_sink o) a x error b → error ≡ OutOfMemory
   refused_memory a b x error k = k.answer ∙ ap refusal_of k.allowed.refused.memory
 
 -- ---- a playback
 
-module _ {S : Type 0} (K : Sink S) (bytes given : List ℕ) (is : given ≡ bytes) (s t : S) (r : Result (Unit {0}) Error) where
+module _ {S : Type 0} (K : Sink S) (bytes given : List ℕ) (is : given ≡ bytes) (s t : S)
+    (r : Result (Unit {0}) Error) where
   -- its first call was refused
-  pub play_stops : (es : List WriteEntry) (d : Error) → r ≡ Err d → Writes {T = Unit {0}} K (buffer K.order given) s (Err d) t → WritesAll K (buffer K.order bytes ∷ es) s r t
-  play_stops es d answer h = all_err K _ es s r d t answer (subst (λ (bs : List ℕ). Writes {T = Unit {0}} K (buffer K.order bs) s (Err d) t) is h)
+  pub play_stops : (es : List WriteEntry) (d : Error) → r ≡ Err d
+      → Writes {T = Unit {0}} K (buffer K.order given) s (Err d) t → WritesAll K (buffer K.order bytes ∷ es) s r t
+  play_stops es d answer h = all_err K _ es s r d t answer
+      (subst (λ (bs : List ℕ). Writes {T = Unit {0}} K (buffer K.order bs) s (Err d) t) is h)
 
-  module _ (m : S) (q v n w : ℕ) (count : n ≡ q) (number : w ≡ v) (h : Writes {T = Unit {0}} K (buffer K.order given) s (Ok tt) m) (k : Writes K (unsigned K.order 8 n w) m r t) where
+  module _ (m : S) (q v n w : ℕ) (count : n ≡ q) (number : w ≡ v) (h :
+      Writes {T = Unit {0}} K (buffer K.order given) s (Ok tt) m) (k : Writes K (unsigned K.order 8 n w) m r t) where
     first : Writes {T = Unit {0}} K (buffer K.order bytes) s (Ok tt) m
     first = subst (λ (bs : List ℕ). Writes {T = Unit {0}} K (buffer K.order bs) s (Ok tt) m) is h
 
     second : Writes K (unsigned K.order 8 q v) m r t
-    second = subst (λ (n : ℕ). Writes K (unsigned K.order 8 n v) m r t) count (subst (λ (w : ℕ). Writes K (unsigned K.order 8 n w) m r t) number k)
+    second = subst (λ (n : ℕ). Writes K (unsigned K.order 8 n v) m r t) count
+        (subst (λ (w : ℕ). Writes K (unsigned K.order 8 n w) m r t) number k)
 
     -- both calls were made
     pub plays : WritesAll K (buffer K.order bytes ∷ unsigned K.order 8 q v ∷ []) s r t
     plays = all_more K _ _ s m r t first (all_one K _ m r t second)
 
-    played_as : (o : Order) → n < 8 → w < 2 ^ q → K.order ≡ o → (done : Result (Unit {0}) Error) → Writes K (unsigned K.order 8 q v) m done t → OnOk done (Appended K s (bits o bytes ++ word o q v) t)
+    played_as : (o : Order) → n < 8 → w < 2 ^ q → K.order ≡ o → (done : Result (Unit {0}) Error)
+        → Writes K (unsigned K.order 8 q v) m done t → OnOk done (Appended K s (bits o bytes ++ word o q v) t)
     played_as o few small same (Ok done) k =
         let le : q ≤ 8 = omega (arith, count, few) in
         let fits : v < 2 ^ q = subst (λ (x : ℕ). x < 2 ^ q) number small in
         let whole = from_ok K _ s (Ok tt) m tt (bits K.order bytes) first refl refl in
-        let rest = from_ok K _ m (Ok done) t done (word K.order q v) k refl (unsigned-fits K.order 8 q v (K.len m) le fits) in
-        subst (λ (o : Order). Appended K s (bits o bytes ++ word o q v) t) same (appended_more K s m t (bits K.order bytes) (word K.order q v) whole.done rest.done)
+        let rest = from_ok K _ m (Ok done) t done (word K.order q v) k refl
+        (unsigned-fits K.order 8 q v (K.len m) le fits) in
+        subst (λ (o : Order). Appended K s (bits o bytes ++ word o q v) t) same
+        (appended_more K s m t (bits K.order bytes) (word K.order q v) whole.done rest.done)
     played_as o few small same (Err error) k = tt
 
     -- and what they append to a sink of the same order

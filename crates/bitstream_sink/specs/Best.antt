@@ -4,8 +4,10 @@ use Rattle.bitstream_stream.specs.Sink.{Sink}
 
 -- The better of a recorder and a candidate: what the function did to an empty recorder, and which one is answered. The
 -- candidate is given if it is strictly shorter and has not failed, and the recorder stands in its place then.
-pub data Best {R F : Type 0} (K : Sink R) (is_empty : R → Type 0) (records : R → Result (Unit {0}) F → R → Type 0) (recorder : R) (result : Result R F) (candidate : R) : Type 0 where
-  gave_candidate : (empty left : R) → is_empty empty → records empty (Ok tt) left → K.failed left ≡ false → K.len left < K.len recorder
+pub data Best {R F : Type 0} (K : Sink R) (is_empty : R → Type 0) (records : R → Result (Unit {0}) F → R
+    → Type 0) (recorder : R) (result : Result R F) (candidate : R) : Type 0 where
+  gave_candidate : (empty left : R) → is_empty empty → records empty (Ok tt) left → K.failed left ≡ false
+      → K.len left < K.len recorder
       → result ≡ Ok left → candidate ≡ recorder → Best K is_empty records recorder result candidate
   kept_the_shorter : (empty left : R) → is_empty empty → records empty (Ok tt) left → K.len recorder ≤ K.len left
       → result ≡ Ok recorder → candidate ≡ left → Best K is_empty records recorder result candidate

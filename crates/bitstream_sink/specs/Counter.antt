@@ -7,6 +7,7 @@ abbrev pub Counts : {N E : Type 0} → (N → ℕ) → ℕ → ℕ → Result N 
 Counts value greatest n result = MatchResult result (λ x. (value x ≡ n) × (n ≤ greatest)) (λ _. greatest < n)
 
 -- std's conversions between integers
-pub converted : {E : Type 0} (greatest n : ℕ) (result : Result ℕ E) → OkIff result (n < greatest + 1) n → Counts (λ x. x) greatest n result
+pub converted : {E : Type 0} (greatest n : ℕ) (result : Result ℕ E) → OkIff result (n < greatest + 1) n
+    → Counts (λ x. x) greatest n result
 converted greatest n (Ok x) h = (h.1, omega (arith, h.0))
 converted greatest n (Err e) h = omega (arith, h)

@@ -7,7 +7,8 @@ use Rattle.bitstream_count.specs.declared.error.Error.{Error}
 use Rattle.bitstream_stream.specs.Sink.{Sink, Writes, IsFullLimit}
 
 -- a sink that keeps the length of what was written and nothing else, up to the greatest number of its type
-abbrev pub counter_sink : {S : Type 0} → Order → (count : S → ℕ) → (greatest : ℕ) → IsFullLimit (Some greatest) → ((s : S) → count s ≤ greatest) → Sink S
+abbrev pub counter_sink : {S : Type 0} → Order → (count : S → ℕ) → (greatest : ℕ) → IsFullLimit (Some greatest)
+    → ((s : S) → count s ≤ greatest) → Sink S
 counter_sink o count greatest full within = record {
   order = o;
   appends = λ a x b. count b ≡ count a + length x;
@@ -29,4 +30,5 @@ counter_sink o count greatest full within = record {
 
 -- a call whose word has n bits, whatever its entry is
 abbrev pub CountsWord : {S T : Type 0} → Sink S → ℕ → S → Result T Error → S → Type 0
-CountsWord K n old result new = (entry : WriteEntry) (x : List Bool) → entry (K.len old) ≡ Ok x → length x ≡ n → Writes K entry old result new
+CountsWord K n old result new = (entry : WriteEntry) (x : List Bool) → entry (K.len old) ≡ Ok x → length x ≡ n
+    → Writes K entry old result new

@@ -22,7 +22,8 @@ recorded_queue recorder = queue_number recorder.writer
 
 -- all bits that were recorded
 abbrev pub recorded_bits : {N E A : Type 0} → Order → BitRecorder N E A → List Bool
-recorded_bits o recorder = bits o (recorded_bytes recorder) ++ word o (recorded_queued recorder) (recorded_queue recorder)
+recorded_bits o recorder = bits o (recorded_bytes recorder)
+    ++ word o (recorded_queued recorder) (recorded_queue recorder)
 
 -- a recorder as a sink
 abbrev pub recorder_sink : {N E A : Type 0} → Order → Sink (BitRecorder N E A)
@@ -36,6 +37,8 @@ IsEmptyRecorder recorder = growing_state recorder.writer ≡ new_writer_state (S
 abbrev pub recorder_failed : {N E A : Type 0} → BitRecorder N E A → Bool
 recorder_failed recorder = has_failed recorder.writer
 
--- the calls that play a recorder to a sink of this order: one of its whole bytes, and one of the bits behind them as a word
+-- the calls that play a recorder to a sink of this order: one of its whole bytes, and one of the bits behind them as a
+-- word
 abbrev pub playback_entries : {N E A : Type 0} → Order → BitRecorder N E A → List WriteEntry
-playback_entries o recorder = buffer o (recorded_bytes recorder) ∷ unsigned o 8 (recorded_queued recorder) (recorded_queue recorder) ∷ []
+playback_entries o recorder = buffer o (recorded_bytes recorder) ∷ unsigned o 8 (recorded_queued recorder)
+    (recorded_queue recorder) ∷ []

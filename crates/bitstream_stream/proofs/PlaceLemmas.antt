@@ -20,8 +20,10 @@ fits k h = (omega (arith, ints), omega (arith, ints))
 not_below : (k : ℕ) → pos 0 ≤ℤ negsuc k → ⊥
 not_below k h = omega (arith, ints)
 
-pub in_range : {X : Type 0} (x : ℤ) (r : Result ℕ X) → OkIff r (FitsUnsigned w64 x) (unsigned_abs x) → result_ok r ≡ place_of x
-in_range (pos k) (Ok v) h = ap Some h.1 ∙ sym (ap (λ b. if b then Some k else None) (lt-ltb k (2 ^ 64) (below_limit k h.0.1)))
+pub in_range : {X : Type 0} (x : ℤ) (r : Result ℕ X) → OkIff r (FitsUnsigned w64 x) (unsigned_abs x) → result_ok r
+    ≡ place_of x
+in_range (pos k) (Ok v) h = ap Some h.1 ∙ sym (ap (λ b. if b then Some k else None)
+    (lt-ltb k (2 ^ 64) (below_limit k h.0.1)))
 in_range (pos k) (Err e) h = left_out (nat_lt k (2 ^ 64)) k refl (λ below. h (fits k below))
 in_range (negsuc k) (Ok v) h = absurd (not_below k h.0.0)
 in_range (negsuc k) (Err e) h = refl

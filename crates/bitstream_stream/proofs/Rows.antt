@@ -25,16 +25,23 @@ widths = 2 ∷ 3 ∷ 5 ∷ 3 ∷ 19 ∷ 1 ∷ []
 -- ---- numbers
 
 numbers :
-    (read_run (map (unsigned_entry High 32) widths) 0 (bits High four_bytes) ≡ (Ok 2, 2) ∷ (Ok 6, 5) ∷ (Ok 7, 10) ∷ (Ok 5, 13) ∷ (Ok 342977, 32) ∷ [])
-    × (read_run (map (unsigned_entry Low 32) widths) 0 (bits Low four_bytes) ≡ (Ok 1, 2) ∷ (Ok 4, 5) ∷ (Ok 13, 10) ∷ (Ok 3, 13) ∷ (Ok 395743, 32) ∷ [])
+    (read_run (map (unsigned_entry High 32) widths) 0 (bits High four_bytes)
+    ≡ (Ok 2, 2) ∷ (Ok 6, 5) ∷ (Ok 7, 10) ∷ (Ok 5, 13) ∷ (Ok 342977, 32) ∷ [])
+    × (read_run (map (unsigned_entry Low 32) widths) 0 (bits Low four_bytes)
+    ≡ (Ok 1, 2) ∷ (Ok 4, 5) ∷ (Ok 13, 10) ∷ (Ok 3, 13) ∷ (Ok 395743, 32) ∷ [])
 unfolding unsigned_entry digits digits_number four_bytes widths
 numbers = (refl, refl)
 
 -- ---- signed numbers
 
 signed_numbers :
-    (read_run (map (signed_entry High 32) widths) 0 (bits High four_bytes) ≡ (Ok (negsuc 1), 2) ∷ (Ok (negsuc 1), 5) ∷ (Ok (pos 7), 10) ∷ (Ok (negsuc 2), 13) ∷ (Ok (negsuc 181310), 32) ∷ [])
-    × (read_run (map (signed_entry Low 32) widths) 0 (bits Low four_bytes) ≡ (Ok (pos 1), 2) ∷ (Ok (negsuc 3), 5) ∷ (Ok (pos 13), 10) ∷ (Ok (pos 3), 13) ∷ (Ok (negsuc 128544), 32) ∷ [])
+    (read_run (map (signed_entry High 32) widths) 0 (bits High four_bytes)
+    ≡ (Ok (negsuc 1), 2) ∷ (Ok (negsuc 1), 5) ∷ (Ok (pos 7), 10) ∷ (Ok (negsuc 2), 13) ∷ (
+      Ok (negsuc 181310),
+      32,
+    ) ∷ [])
+    × (read_run (map (signed_entry Low 32) widths) 0 (bits Low four_bytes)
+    ≡ (Ok (pos 1), 2) ∷ (Ok (negsuc 3), 5) ∷ (Ok (pos 13), 10) ∷ (Ok (pos 3), 13) ∷ (Ok (negsuc 128544), 32) ∷ [])
     × ((signed_entry High 8 0).reads 0 (left_of High 0) ≡ Takes 0 (Err NoSignBit))
     × ((signed_entry High 8 9).reads 0 (left_of High 0) ≡ Takes 0 (Err ReadBits))
 unfolding signed_entry digits digits_number four_bytes widths left_of
@@ -57,10 +64,14 @@ single_calls = (refl, refl, refl, refl, refl, refl, refl, refl)
 -- ---- runs
 
 runs :
-    (read_run (replicate 5 (unary_entry false)) 0 (bits High four_bytes) ≡ (Ok 1, 2) ∷ (Ok 2, 5) ∷ (Ok 0, 6) ∷ (Ok 0, 7) ∷ (Ok 4, 12) ∷ [])
-    × (read_run (replicate 5 (unary_entry true)) 0 (bits High four_bytes) ≡ (Ok 0, 1) ∷ (Ok 1, 3) ∷ (Ok 0, 4) ∷ (Ok 3, 8) ∷ (Ok 0, 9) ∷ [])
-    × (read_run (replicate 5 (unary_entry false)) 0 (bits Low four_bytes) ≡ (Ok 1, 2) ∷ (Ok 0, 3) ∷ (Ok 0, 4) ∷ (Ok 2, 7) ∷ (Ok 2, 10) ∷ [])
-    × (read_run (replicate 5 (unary_entry true)) 0 (bits Low four_bytes) ≡ (Ok 0, 1) ∷ (Ok 3, 5) ∷ (Ok 0, 6) ∷ (Ok 1, 8) ∷ (Ok 0, 9) ∷ [])
+    (read_run (replicate 5 (unary_entry false)) 0 (bits High four_bytes)
+    ≡ (Ok 1, 2) ∷ (Ok 2, 5) ∷ (Ok 0, 6) ∷ (Ok 0, 7) ∷ (Ok 4, 12) ∷ [])
+    × (read_run (replicate 5 (unary_entry true)) 0 (bits High four_bytes)
+    ≡ (Ok 0, 1) ∷ (Ok 1, 3) ∷ (Ok 0, 4) ∷ (Ok 3, 8) ∷ (Ok 0, 9) ∷ [])
+    × (read_run (replicate 5 (unary_entry false)) 0 (bits Low four_bytes)
+    ≡ (Ok 1, 2) ∷ (Ok 0, 3) ∷ (Ok 0, 4) ∷ (Ok 2, 7) ∷ (Ok 2, 10) ∷ [])
+    × (read_run (replicate 5 (unary_entry true)) 0 (bits Low four_bytes)
+    ≡ (Ok 0, 1) ∷ (Ok 3, 5) ∷ (Ok 0, 6) ∷ (Ok 1, 8) ∷ (Ok 0, 9) ∷ [])
     × (write_run (unary_word true 40 ∷ align ∷ []) 0 ≡ bits High (replicate 5 0 ++ 128 ∷ []))
     × (write_run (unary_word false 8 ∷ align ∷ []) 0 ≡ bits Low (255 ∷ 0 ∷ []))
 unfolding unary_entry digits four_bytes
@@ -91,8 +102,10 @@ variable_width :
     × (vbr Low 4 8 0 ≡ Ok (bits Low (24 ∷ [])))
     × (vbr High 2 255 0 ≡ Ok (bits High (255 ∷ 253 ∷ [])))
     × (write_run (signed_vbr High 4 (negsuc 127) ∷ align ∷ []) 0 ≡ bits High (255 ∷ 48 ∷ []))
-    × (read_run (replicate 4 (vbr_entry High 4 8 (2 ^ 8))) 0 (bits High four_bytes) ≡ (Ok 11, 8) ∷ (Ok 238, 20) ∷ (Ok 99, 32) ∷ [])
-    × (read_run (replicate 4 (signed_vbr_entry High 4 8)) 0 (bits High four_bytes) ≡ (Ok (negsuc 5), 8) ∷ (Ok (pos 119), 20) ∷ (Ok (negsuc 49), 32) ∷ [])
+    × (read_run (replicate 4 (vbr_entry High 4 8 (2 ^ 8))) 0 (bits High four_bytes)
+    ≡ (Ok 11, 8) ∷ (Ok 238, 20) ∷ (Ok 99, 32) ∷ [])
+    × (read_run (replicate 4 (signed_vbr_entry High 4 8)) 0 (bits High four_bytes)
+    ≡ (Ok (negsuc 5), 8) ∷ (Ok (pos 119), 20) ∷ (Ok (negsuc 49), 32) ∷ [])
     -- groups that go on past the type
     × ((vbr_entry High 2 8 (2 ^ 8)).reads 0 (bits High (255 ∷ 255 ∷ [])) ≡ Takes 16 (Err VariableWidthOverflow))
     -- a sum that is too great, and the greatest number where one less is the limit

@@ -35,9 +35,11 @@ bits_behind o zero j xs = ap (λ n. drop n (bits o xs)) (omega arith)
 bits_behind o (suc k) j [] = drop-nil j ∙ sym (drop-nil (8 * suc k + j))
 bits_behind o (suc k) j (x ∷ xs) =
     let size : length (word o 8 x) + (8 * k + j) ≡ 8 * suc k + j = omega (arith, length-word o 8 x) in
-    bits_behind o k j xs ∙ sym (drop-append-add (word o 8 x) (bits o xs) (8 * k + j)) ∙ ap (λ n. drop n (word o 8 x ++ bits o xs)) size
+    bits_behind o k j xs ∙ sym (drop-append-add (word o 8 x) (bits o xs) (8 * k + j))
+    ∙ ap (λ n. drop n (word o 8 x ++ bits o xs)) size
 
-bits_at : (o : Order) (place : ℕ) (xs : List ℕ) → drop (place % 8) (bits o (drop (place / 8) xs)) ≡ drop place (bits o xs)
+bits_at : (o : Order) (place : ℕ) (xs : List ℕ) → drop (place % 8) (bits o (drop (place / 8) xs))
+    ≡ drop place (bits o xs)
 bits_at o place xs =
     let whole : 8 * (place / 8) + place % 8 ≡ place = omega arith in
     bits_behind o (place / 8) (place % 8) xs ∙ ap (λ n. drop n (bits o xs)) whole
@@ -49,10 +51,14 @@ kept (Some ys) (Some zs) xs k known = ap Some k ∙ known
 kept (Some ys) None xs k known = absurd k
 kept None b xs k known = cc
 
-moved : {R : Type 0} (K : SeekerOf R) (to : SeekFrom) (old : R) (at : ℕ) (new : R) (xs : List ℕ) → Begins K to old at new → (told : Tells K old xs) → IsSeekTarget told.at (K.bytes old) to at × (K.position new ≡ Some at)
-moved K to old at new xs begins told = subst (λ p. SeekMoves {E = Error} p (K.position new) (K.bytes old) to (Ok at)) told.position begins.moves
+moved : {R : Type 0} (K : SeekerOf R) (to : SeekFrom) (old : R) (at : ℕ) (new : R) (xs : List ℕ)
+    → Begins K to old at new → (told : Tells K old xs) → IsSeekTarget told.at (K.bytes old) to at × (K.position new
+    ≡ Some at)
+moved K to old at new xs begins told = subst (λ p. SeekMoves {E = Error} p (K.position new) (K.bytes old) to (Ok at))
+    told.position begins.moves
 
-pub told_anew : {R : Type 0} {K : SeekerOf R} {to : SeekFrom} {old : R} {at : ℕ} {new : R} → Begins K to old at new → (xs : List ℕ) → Tells K old xs → Tells K new xs
+pub told_anew : {R : Type 0} {K : SeekerOf R} {to : SeekFrom} {old : R} {at : ℕ} {new : R} → Begins K to old at new
+    → (xs : List ℕ) → Tells K old xs → Tells K new xs
 told_anew {K = K} {to = to} {old = old} {at = at} {new = new} begins xs told = record {
   rest = told.rest;
   at = at;
@@ -60,7 +66,8 @@ told_anew {K = K} {to = to} {old = old} {at = at} {new = new} begins xs told = r
   bytes = kept (K.bytes old) (K.bytes new) xs begins.bytes told.bytes;
 }
 
-told_still : {R : Type 0} {K : SeekerOf R} {old new : R} → OnlyAsked K old new → (xs : List ℕ) → Tells K old xs → Tells K new xs
+told_still : {R : Type 0} {K : SeekerOf R} {old new : R} → OnlyAsked K old new → (xs : List ℕ) → Tells K old xs
+    → Tells K new xs
 told_still {K = K} {old = old} {new = new} asked xs told = record {
   rest = told.rest;
   at = told.at;
@@ -69,10 +76,12 @@ told_still {K = K} {old = old} {new = new} asked xs told = record {
 }
 
 -- the bytes left at the byte of a place
-rest_at : {R : Type 0} (K : SeekerOf R) (place at : ℕ) (old mid : R) (xs : List ℕ) → Begins K (Start (place / 8)) old at mid → Tells K old xs → (K.source.state mid).bytes ≡ Some (drop (place / 8) xs)
+rest_at : {R : Type 0} (K : SeekerOf R) (place at : ℕ) (old mid : R) (xs : List ℕ)
+    → Begins K (Start (place / 8)) old at mid → Tells K old xs → (K.source.state mid).bytes ≡ Some (drop (place / 8) xs)
 rest_at K place at old mid xs begins told =
     let move = moved K (Start (place / 8)) old at mid xs begins told in
-    told.rest mid at xs move.1 (kept (K.bytes old) (K.bytes mid) xs begins.bytes told.bytes) ∙ ap (λ n. Some (drop n xs)) move.0
+    told.rest mid at xs move.1 (kept (K.bytes old) (K.bytes mid) xs begins.bytes told.bytes)
+    ∙ ap (λ n. Some (drop n xs)) move.0
 
 -- ---- skipping the first bits of a byte
 
@@ -80,21 +89,27 @@ front_size : (b : Bool) (n m : ℕ) (r x : Result ℕ Error) → (if b then Take
 front_size true n m r x h = cc
 front_size false n m r x h = cc
 
-front_few : (b : Bool) (n m : ℕ) (r : Result ℕ Error) → nat_le n m ≡ b → (if b then Takes n r else TooFew) ≡ TooFew → m < n
+front_few : (b : Bool) (n m : ℕ) (r : Result ℕ Error) → nat_le n m ≡ b → (if b then Takes n r else TooFew) ≡ TooFew
+    → m < n
 front_few true n m r is h = cc
 front_few false n m r is h = leb-false n m is
 
-skipped_size : (o : Order) (n p m : ℕ) (w : List Bool) (x : Result ℕ Error) → n ≤ 8 → (unsigned_entry o 8 n).reads p w ≡ Takes m x → m ≡ n
-skipped_size o n p m w x le h = front_size (nat_le n (length w)) n m (Ok (number o (take n w))) x (subst (λ (e : ReadEntry ℕ). e.reads p w ≡ Takes m x) (unsigned-takes o 8 n le) h)
+skipped_size : (o : Order) (n p m : ℕ) (w : List Bool) (x : Result ℕ Error) → n ≤ 8 → (unsigned_entry o 8 n).reads p w
+    ≡ Takes m x → m ≡ n
+skipped_size o n p m w x le h = front_size (nat_le n (length w)) n m (Ok (number o (take n w))) x
+    (subst (λ (e : ReadEntry ℕ). e.reads p w ≡ Takes m x) (unsigned-takes o 8 n le) h)
 
 skipped_few : (o : Order) (n p : ℕ) (w : List Bool) → n ≤ 8 → (unsigned_entry o 8 n).reads p w ≡ TooFew → length w < n
-skipped_few o n p w le h = front_few (nat_le n (length w)) n (length w) (Ok (number o (take n w))) refl (subst (λ (e : ReadEntry ℕ). e.reads p w ≡ TooFew) (unsigned-takes o 8 n le) h)
+skipped_few o n p w le h = front_few (nat_le n (length w)) n (length w) (Ok (number o (take n w))) refl
+    (subst (λ (e : ReadEntry ℕ). e.reads p w ≡ TooFew) (unsigned-takes o 8 n le) h)
 
 pub lands : {R : Type 0} (K : SeekerOf R) (place at v : ℕ) (old mid new : R) → Begins K (Start (place / 8)) old at mid
-    → ReadDone K.source.order (unsigned_entry K.source.order 8 (place % 8)) (K.source.state mid) (Ok v) (K.source.state new) → Lands K place old new
+    → ReadDone K.source.order (unsigned_entry K.source.order 8 (place % 8)) (K.source.state mid) (Ok v)
+    (K.source.state new) → Lands K place old new
 lands K place at v old mid new begins h =
     let o = K.source.order in
-    let size : length h.word ≡ place % 8 = skipped_size o (place % 8) _ _ (h.word ++ []) _ (omega arith) (h.decides []) in
+    let size : length h.word ≡ place % 8 = skipped_size o (place % 8) _ _ (h.word ++ []) _ (omega arith) (h.decides [])
+    in
     let taken : (K.source.state new).taken ≡ place % 8 = omega (arith, h.taken, begins.taken, size) in
     let fetched = K.source.demands new ∙ ap (λ n. (n + 7) / 8) taken in
     record {
@@ -105,16 +120,20 @@ lands K place at v old mid new begins h =
       refusals = h.refusals ∙ begins.refusals;
       reference_names = h.reference_names ∙ begins.reference_names;
       left = λ xs told.
-          let lost = Consumes-known (K.source.state mid).bytes (K.source.state new).bytes h.gone (drop (place / 8) xs) h.loses (rest_at K place at old mid xs begins told) in
+          let lost = Consumes-known (K.source.state mid).bytes (K.source.state new).bytes h.gone (drop (place / 8) xs)
+          h.loses (rest_at K place at old mid xs begins told) in
           let all : bits o (drop (place / 8) xs) ≡ h.word ++ (h.rest ++ bits o lost.0) =
-          ap (λ l. bits o l) lost.2 ∙ sym (ap (λ q. q ++ bits o (h.gone ++ lost.0)) begins.queue) ∙ parts_left o (K.source.state mid).queue h.rest h.word h.gone lost.0 h.parts in
+          ap (λ l. bits o l) lost.2 ∙ sym (ap (λ q. q ++ bits o (h.gone ++ lost.0)) begins.queue)
+          ∙ parts_left o (K.source.state mid).queue h.rest h.word h.gone lost.0 h.parts in
           let behind : drop (place % 8) (bits o (drop (place / 8) xs)) ≡ h.rest ++ bits o lost.0 =
           ap₂ (λ n l. drop n l) (sym size) all ∙ drop-append_seam h.word (h.rest ++ bits o lost.0) in
           ap₂ (λ q b. option_map (λ ys. q ++ bits o ys) b) h.queue lost.1 ∙ ap Some (sym behind ∙ bits_at o place xs);
     }
 
-pub skip_refused : {R : Type 0} (K : SeekerOf R) (place at : ℕ) (old mid new : R) (x : Error) (r : Result ℕ Error) → r ≡ Err x → Begins K (Start (place / 8)) old at mid
-    → ReadRefused K.source.order K.source.may (unsigned_entry K.source.order 8 (place % 8)) (K.source.state mid) (Err x) (K.source.state new) → SkipRefused K place old r new
+pub skip_refused : {R : Type 0} (K : SeekerOf R) (place at : ℕ) (old mid new : R) (x : Error) (r : Result ℕ Error) → r
+    ≡ Err x → Begins K (Start (place / 8)) old at mid
+    → ReadRefused K.source.order K.source.may (unsigned_entry K.source.order 8 (place % 8)) (K.source.state mid) (Err x)
+    (K.source.state new) → SkipRefused K place old r new
 skip_refused K place at old mid new x r same begins h = record {
   refused = record {
     refusal = h.refusal;
@@ -128,48 +147,68 @@ skip_refused K place at old mid new x r same begins h = record {
   some = omega (arith, skipped_few K.source.order (place % 8) _ _ (omega arith) h.short);
   ended = λ end xs told.
       let rest = drop (place / 8) xs in
-      let few = skipped_few K.source.order (place % 8) _ _ (omega arith) (h.ended end rest (rest_at K place at old mid xs begins told)) in
-      omega (arith, few, length-append (K.source.state mid).queue (bits K.source.order rest), length-bits K.source.order rest, length-drop (place / 8) xs);
+      let few = skipped_few K.source.order (place % 8) _ _ (omega arith)
+      (h.ended end rest (rest_at K place at old mid xs begins told)) in
+      omega (
+        arith,
+        few,
+        length-append (K.source.state mid).queue (bits K.source.order rest),
+        length-bits K.source.order rest,
+        length-drop (place / 8) xs,
+      );
 }
 
 skips_some : (b : Bool) (n m : ℕ) (v : ℕ) (x : Error) → (if b then Takes n (Ok v) else TooFew) ≡ Takes m (Err x) → ⊥
 skips_some true n m v x h = cc
 skips_some false n m v x h = cc
 
-skip_answers : (o : Order) (n p m : ℕ) (w : List Bool) (x : Error) → n ≤ 8 → (unsigned_entry o 8 n).reads p w ≡ Takes m (Err x) → ⊥
-skip_answers o n p m w x le h = skips_some (nat_le n (length w)) n m (number o (take n w)) x (subst (λ (e : ReadEntry ℕ). e.reads p w ≡ Takes m (Err x)) (unsigned-takes o 8 n le) h)
+skip_answers : (o : Order) (n p m : ℕ) (w : List Bool) (x : Error) → n ≤ 8 → (unsigned_entry o 8 n).reads p w
+    ≡ Takes m (Err x) → ⊥
+skip_answers o n p m w x le h = skips_some (nat_le n (length w)) n m (number o (take n w)) x
+    (subst (λ (e : ReadEntry ℕ). e.reads p w ≡ Takes m (Err x)) (unsigned-takes o 8 n le) h)
 
 error_is : {A : Type 0} {x : Error} (r : Result A Error) → IsErrAnd r (λ y. y ≡ x) → r ≡ Err x
 error_is (Ok v) same = absurd same
 error_is (Err y) same = ap Err same
 
-pub goes : {R : Type 0} {K : SeekerOf R} {place at v : ℕ} {old mid new : R} → Begins K (Start (place / 8)) old at mid → Reads K.source (unsigned_entry K.source.order 8 (place % 8)) mid (Ok v) new → GoesTo K place old (Ok place) new
+pub goes : {R : Type 0} {K : SeekerOf R} {place at v : ℕ} {old mid new : R} → Begins K (Start (place / 8)) old at mid
+    → Reads K.source (unsigned_entry K.source.order 8 (place % 8)) mid (Ok v) new → GoesTo K place old (Ok place) new
 goes {K = K} {place = place} begins h =
-    GoesTo.was_done refl (lands K place _ _ _ _ _ begins (ok_front (ap (λ (e : ReadEntry ℕ). e.on_failed) (unsigned-takes K.source.order 8 (place % 8) (omega arith))) h))
+    GoesTo.was_done refl (lands K place _ _ _ _ _ begins
+    (ok_front (ap (λ (e : ReadEntry ℕ). e.on_failed) (unsigned-takes K.source.order 8 (place % 8) (omega arith)))
+    h))
 
-pub goes_too_far : {R : Type 0} {K : SeekerOf R} {place at : ℕ} {x : Error} {old mid new : R} (r : Result ℕ Error) → IsErrAnd r (λ y. y ≡ x) → Begins K (Start (place / 8)) old at mid → Reads K.source (unsigned_entry K.source.order 8 (place % 8)) mid (Err x) new
+pub goes_too_far : {R : Type 0} {K : SeekerOf R} {place at : ℕ} {x : Error} {old mid new : R} (r : Result ℕ Error)
+    → IsErrAnd r (λ y. y ≡ x) → Begins K (Start (place / 8)) old at mid
+    → Reads K.source (unsigned_entry K.source.order 8 (place % 8)) mid (Err x) new
     → GoesTo K place old r new
 goes_too_far r same begins (ReadOutcome.had_failed h) = let p = h.failed in let q = begins.failed in cc
-goes_too_far {K = K} {place = place} r same begins (ReadOutcome.was_done h) = absurd (skip_answers K.source.order (place % 8) _ _ (h.word ++ []) _ (omega arith) (h.decides []))
-goes_too_far {K = K} {place = place} r same begins (ReadOutcome.was_refused h) = GoesTo.was_too_far (skip_refused K place _ _ _ _ _ r (error_is r same) begins h)
+goes_too_far {K = K} {place = place} r same begins (ReadOutcome.was_done h) =
+    absurd (skip_answers K.source.order (place % 8) _ _ (h.word ++ []) _ (omega arith) (h.decides []))
+goes_too_far {K = K} {place = place} r same begins (ReadOutcome.was_refused h) =
+    GoesTo.was_too_far (skip_refused K place _ _ _ _ _ r (error_is r same) begins h)
 goes_too_far r same begins (ReadOutcome.memory_refused g h) = cc
 
 -- ---- asking for the place
 
-pub asked : (o : Order) (p q : PortState) (queue queued taken : ℕ) (failed : Bool) → Placed p q → record (reader_state o q queue queued taken failed) { bytes = p.bytes } ≡ reader_state o p queue queued taken failed
+pub asked : (o : Order) (p q : PortState) (queue queued taken : ℕ) (failed : Bool) → Placed p q
+    → record (reader_state o q queue queued taken failed) { bytes = p.bytes }
+    ≡ reader_state o p queue queued taken failed
 asked o p q queue queued taken failed h = rw (h.fetched, h.refusals, h.reference_names) refl
 
 -- a position that was answered
 abbrev pub ok_at : ℕ → Result ℕ Error
 ok_at at = Ok at
 
-counts_here : (to : SeekFrom) (position : Option ℕ) (bytes : Option (List ℕ)) (at : ℕ) → IsFromHere to → IfSome position (λ p. ok_at at ≡ Ok p) → CountsFrom position bytes to at
+counts_here : (to : SeekFrom) (position : Option ℕ) (bytes : Option (List ℕ)) (at : ℕ) → IsFromHere to
+    → IfSome position (λ p. ok_at at ≡ Ok p) → CountsFrom position bytes to at
 counts_here (Start x) position bytes at here answer = absurd here
 counts_here (End n) position bytes at here answer = absurd here
 counts_here (Current d) None bytes at here answer = tt
 counts_here (Current d) (Some p) bytes at here answer = cc
 
-pub means_here : {R : Type 0} (K : SeekerOf R) (to : SeekFrom) (old : R) (at queued : ℕ) (place : Option ℕ) → IsFromHere to → IfSome (K.position old) (λ p. ok_at at ≡ Ok p) → length (K.source.state old).queue ≡ queued
+pub means_here : {R : Type 0} (K : SeekerOf R) (to : SeekFrom) (old : R) (at queued : ℕ) (place : Option ℕ)
+    → IsFromHere to → IfSome (K.position old) (λ p. ok_at at ≡ Ok p) → length (K.source.state old).queue ≡ queued
     → place ≡ place_of (bit_meant at queued to) → Means K to old place
 means_here K to old at queued place here answer size meant = record {
   at = at;
@@ -179,7 +218,9 @@ means_here K to old at queued place here answer size meant = record {
 
 -- ---- from one reader to another
 
-refused_from : {A : Type 0} (e : ErrorKind → Error) (may : Refusal → Type 0) (old mid new : ReaderState) (r : Result A Error) → mid.refusals ≡ old.refusals → mid.reference_names ≡ old.reference_names → (h : RequestRefused e may mid r new) → (k : RequestRefused e may old r new) × (k.refusal ≡ h.refusal)
+refused_from : {A : Type 0} (e : ErrorKind → Error) (may : Refusal → Type 0) (old mid new : ReaderState)
+    (r : Result A Error) → mid.refusals ≡ old.refusals → mid.reference_names ≡ old.reference_names
+    → (h : RequestRefused e may mid r new) → (k : RequestRefused e may old r new) × (k.refusal ≡ h.refusal)
 refused_from e may old mid new r refusals names h = (
   record {
     refusal = h.refusal;
@@ -193,7 +234,9 @@ refused_from e may old mid new r refusals names h = (
   refl,
 )
 
-pub goes_from : {R : Type 0} {K : SeekerOf R} {place : ℕ} {old mid new : R} {r : Result ℕ Error} → (K.source.state mid).refusals ≡ (K.source.state old).refusals → (K.source.state mid).reference_names ≡ (K.source.state old).reference_names
+pub goes_from : {R : Type 0} {K : SeekerOf R} {place : ℕ} {old mid new : R} {r : Result ℕ Error}
+    → (K.source.state mid).refusals ≡ (K.source.state old).refusals → (K.source.state mid).reference_names
+    ≡ (K.source.state old).reference_names
     → ((xs : List ℕ) → Tells K old xs → Tells K mid xs) → GoesTo K place mid r new → GoesTo K place old r new
 unfolding refused_from
 goes_from refusals names told (GoesTo.was_done answer h) = GoesTo.was_done answer (record {
@@ -214,38 +257,63 @@ goes_from refusals names told (GoesTo.was_too_far h) = GoesTo.was_too_far (recor
 
 -- ---- whole seeks
 
-pub goes_on : {R : Type 0} {K : SeekerOf R} {d : ℤ} {place : ℕ} {old mid new : R} {r : Result ℕ Error} → AsksPlace K (Current d) old (Ok place) mid → GoesTo K place mid r new → SeeksBits K (Current d) old r new
+pub goes_on : {R : Type 0} {K : SeekerOf R} {d : ℤ} {place : ℕ} {old mid new : R} {r : Result ℕ Error}
+    → AsksPlace K (Current d) old (Ok place) mid → GoesTo K place mid r new → SeeksBits K (Current d) old r new
 goes_on (AsksPlace.had_failed h) goes = let p = h.answer in cc
 goes_on {K = K} {d = d} {place = place} {old = old} (AsksPlace.was_done at fine means answer asked) goes =
     let same : at ≡ place = cc in
     SeeksBits.was_meant place (λ _. fine) (subst (λ n. Means K (Current d) old (Some n)) same means)
-    (goes_from (ap (λ (s : ReaderState). s.refusals) asked.same) (ap (λ (s : ReaderState). s.reference_names) asked.same) (told_still asked) goes)
+    (goes_from (ap (λ (s : ReaderState). s.refusals) asked.same)
+    (ap (λ (s : ReaderState). s.reference_names) asked.same) (told_still asked) goes)
 goes_on (AsksPlace.was_refused fine h) goes = let p = h.answer in cc
 goes_on (AsksPlace.was_rejected fine means answer asked) goes = cc
 
-pub asks_in_vain : {R : Type 0} {K : SeekerOf R} {d : ℤ} {x : Error} {old mid : R} {r : Result ℕ Error} → r ≡ Err x → AsksPlace K (Current d) old (Err x) mid → SeeksBits K (Current d) old r mid
-asks_in_vain same (AsksPlace.had_failed h) = SeeksBits.had_failed (record { from_here = h.from_here; failed = h.failed; answer = same ∙ h.answer; same = h.same })
+pub asks_in_vain : {R : Type 0} {K : SeekerOf R} {d : ℤ} {x : Error} {old mid : R} {r : Result ℕ Error} → r ≡ Err x
+    → AsksPlace K (Current d) old (Err x) mid → SeeksBits K (Current d) old r mid
+asks_in_vain same (AsksPlace.had_failed h) = SeeksBits.had_failed (record {
+  from_here = h.from_here;
+  failed = h.failed;
+  answer = same ∙ h.answer;
+  same = h.same;
+})
 asks_in_vain same (AsksPlace.was_done at fine means answer asked) = cc
-asks_in_vain {K = K} same (AsksPlace.was_refused fine h) = SeeksBits.was_refused (λ _. fine) (record { refusal = h.refusal; allowed = h.allowed; answer = same ∙ h.answer; refusals = h.refusals; reference_names = h.reference_names; queue = h.queue; failed = h.failed })
-asks_in_vain same (AsksPlace.was_rejected fine means answer asked) = SeeksBits.was_rejected (λ _. fine) means (same ∙ answer) asked
+asks_in_vain {K = K} same (AsksPlace.was_refused fine h) =
+    SeeksBits.was_refused (λ _. fine) (record {
+      refusal = h.refusal;
+      allowed = h.allowed;
+      answer = same ∙ h.answer;
+      refusals = h.refusals;
+      reference_names = h.reference_names;
+      queue = h.queue;
+      failed = h.failed;
+    })
+asks_in_vain same (AsksPlace.was_rejected fine means answer asked) =
+    SeeksBits.was_rejected (λ _. fine) means (same ∙ answer) asked
 
 -- the position that a stream answers to a seek to its end
-end_told : (n : ℤ) (old new : Option ℕ) (bytes : Option (List ℕ)) (at : ℕ) → SeekMoves {E = Error} old new bytes (End (pos 0)) (Ok at) → CountsFrom old bytes (End n) at
+end_told : (n : ℤ) (old new : Option ℕ) (bytes : Option (List ℕ)) (at : ℕ)
+    → SeekMoves {E = Error} old new bytes (End (pos 0)) (Ok at) → CountsFrom old bytes (End n) at
 end_told n None new bytes at moves = tt
 end_told n (Some p) new None at moves = tt
 end_told n (Some p) new (Some xs) at moves = omega (arith, moves.0)
 
-pub end_means : {R : Type 0} {K : SeekerOf R} (n : ℤ) {old mid : R} {at : ℕ} {place : Option ℕ} → Begins K (End (pos 0)) old at mid → place_of (bit_meant at 0 (End n)) ≡ place → Means K (End n) old place
+pub end_means : {R : Type 0} {K : SeekerOf R} (n : ℤ) {old mid : R} {at : ℕ} {place : Option ℕ}
+    → Begins K (End (pos 0)) old at mid → place_of (bit_meant at 0 (End n)) ≡ place → Means K (End n) old place
 end_means {K = K} n {old = old} {mid = mid} {at = at} begins meant = record {
   at = at;
   counts = end_told n (K.position old) (K.position mid) (K.bytes old) at begins.moves;
   meant = meant;
 }
 
-pub goes_back : {R : Type 0} {K : SeekerOf R} {n : ℤ} {old mid new : R} {at place : ℕ} {r : Result ℕ Error} → Begins K (End (pos 0)) old at mid → place_of (bit_meant at 0 (End n)) ≡ Some place → GoesTo K place mid r new → SeeksBits K (End n) old r new
-goes_back {n = n} {place = place} begins meant goes = SeeksBits.was_meant place (λ h. absurd h) (end_means n begins meant) (goes_from begins.refusals begins.reference_names (told_anew begins) goes)
+pub goes_back : {R : Type 0} {K : SeekerOf R} {n : ℤ} {old mid new : R} {at place : ℕ} {r : Result ℕ Error}
+    → Begins K (End (pos 0)) old at mid → place_of (bit_meant at 0 (End n)) ≡ Some place → GoesTo K place mid r new
+    → SeeksBits K (End n) old r new
+goes_back {n = n} {place = place} begins meant goes = SeeksBits.was_meant place (λ h. absurd h)
+    (end_means n begins meant) (goes_from begins.refusals begins.reference_names (told_anew begins) goes)
 
-pub none_back : {R : Type 0} {K : SeekerOf R} {n : ℤ} {old mid new : R} {at : ℕ} → Begins K (End (pos 0)) old at mid → place_of (bit_meant at 0 (End n)) ≡ None → K.source.state new ≡ failed_reader (K.source.state mid) → SeeksBits K (End n) old (Err Place) new
+pub none_back : {R : Type 0} {K : SeekerOf R} {n : ℤ} {old mid new : R} {at : ℕ} → Begins K (End (pos 0)) old at mid
+    → place_of (bit_meant at 0 (End n)) ≡ None → K.source.state new ≡ failed_reader (K.source.state mid)
+    → SeeksBits K (End n) old (Err Place) new
 none_back {n = n} begins meant fails = SeeksBits.was_rejected (λ h. absurd h) (end_means n begins meant) refl (record {
   failed = ap (λ (s : ReaderState). s.failed) fails;
   queue = ap (λ (s : ReaderState). s.queue) fails;
@@ -256,8 +324,14 @@ none_back {n = n} begins meant fails = SeeksBits.was_rejected (λ h. absurd h) (
 start_place : (x : ℕ) → x < 2 ^ 64 → place_of (pos x) ≡ Some x
 start_place x below = ap (λ b. if b then Some x else None) (lt-ltb x (2 ^ 64) below)
 
-pub goes_there : {R : Type 0} {K : SeekerOf R} {place : ℕ} {old new : R} {r : Result ℕ Error} → place < 2 ^ 64 → GoesTo K place old r new → SeeksBits K (Start place) old r new
-goes_there {place = place} below goes = SeeksBits.was_meant place (λ h. absurd h) (record { at = 0; counts = tt; meant = start_place place below }) goes
+pub goes_there : {R : Type 0} {K : SeekerOf R} {place : ℕ} {old new : R} {r : Result ℕ Error} → place < 2 ^ 64
+    → GoesTo K place old r new → SeeksBits K (Start place) old r new
+goes_there {place = place} below goes = SeeksBits.was_meant place (λ h. absurd h) (record {
+  at = 0;
+  counts = tt;
+  meant =
+      start_place place below;
+}) goes
 
 -- ---- bytes in memory
 
@@ -269,7 +343,8 @@ near_place (Current d) near = near
 pub slice_refuses_none : (refusal : Refusal) → MaySeek (MayRefuseSeek slice_remaining slice_refuses_seek) refusal → ⊥
 slice_refuses_none refusal (to, near, may) = may.refused.1 (slice_in_range may.old to (near_place to near))
 
-pub slice_tells : (s : Slice) (at : ℕ) (xs : List ℕ) → Some (slice_place s) ≡ Some at → Some (slice_bytes s) ≡ Some xs → slice_remaining s ≡ Some (drop at xs)
+pub slice_tells : (s : Slice) (at : ℕ) (xs : List ℕ) → Some (slice_place s) ≡ Some at → Some (slice_bytes s) ≡ Some xs
+    → slice_remaining s ≡ Some (drop at xs)
 slice_tells s at xs position bytes =
     let same_place : slice_place s ≡ at = cc in
     let same_bytes : slice_bytes s ≡ xs = cc in

@@ -25,11 +25,13 @@ use Rattle.bitstream_stream.proofs.GroupLemmas.{placed_fits, placed_past, placed
 abbrev answers : {A : Type 0} → Result A Error → ReadEntry A
 answers r = record { reads = λ _ _. Takes 0 r; on_failed = r }
 
-answers-by : {R A : Type 0} {K : BitSource R} (r : Result A Error) (s : R) (v : Bool) → is_run_too_long r ≡ false → (K.state s).failed ≡ v → Reads K (answers r) s r s
+answers-by : {R A : Type 0} {K : BitSource R} (r : Result A Error) (s : R) (v : Bool) → is_run_too_long r ≡ false
+    → (K.state s).failed ≡ v → Reads K (answers r) s r s
 answers-by r s true short h = had_failed (record { failed = h; answer = refl; same = refl })
 answers-by r s false short h = Reads-nothing (answers r) r s h short (λ more. refl)
 
-Reads-answers : {R A : Type 0} {K : BitSource R} (r : Result A Error) (s : R) → is_run_too_long r ≡ false → Reads K (answers r) s r s
+Reads-answers : {R A : Type 0} {K : BitSource R} (r : Result A Error) (s : R) → is_run_too_long r ≡ false
+    → Reads K (answers r) s r s
 Reads-answers {K = K} r s short = answers-by r s (K.state s).failed short refl
 
 -- ---- what stands behind some groups
@@ -50,27 +52,32 @@ ahead value shift (Takes n (Err e)) = Takes n (Err e)
 
 -- what is read there
 unfoldable pub rest_entry : Order → ℕ → ℕ → ℕ → ℕ → ℕ → ReadEntry ℕ
-rest_entry o field size limit value shift = call (λ _ bits. below limit (ahead value shift (groups_at (div_ceil (size - shift) (field - 1)) o field bits)))
+rest_entry o field size limit value shift =
+    call (λ _ bits. below limit (ahead value shift (groups_at (div_ceil (size - shift) (field - 1)) o field bits)))
 
 ahead-start : (front : Front ℕ) → ahead 0 0 front ≡ front
 ahead-start TooFew = refl
 ahead-start (Takes n (Ok high)) = ap (λ v. Takes n (Ok v)) (omega arith)
 ahead-start (Takes n (Err e)) = refl
 
-rest-start : (o : Order) (field size limit : ℕ) → Same (rest_entry o field size limit 0 0) (vbr_entry o field size limit)
+rest-start : (o : Order) (field size limit : ℕ) → Same (rest_entry o field size limit 0 0)
+    (vbr_entry o field size limit)
 unfolding rest_entry vbr_entry
 rest-start o field size limit = record {
   reads = λ p bits.
       let all : size - 0 ≡ size = omega arith in
-      ap (λ n. below limit (ahead 0 0 (groups_at (div_ceil n (field - 1)) o field bits))) all ∙ ap (below limit) (ahead-start (groups_at (div_ceil size (field - 1)) o field bits));
+      ap (λ n. below limit (ahead 0 0 (groups_at (div_ceil n (field - 1)) o field bits))) all
+      ∙ ap (below limit) (ahead-start (groups_at (div_ceil size (field - 1)) o field bits));
   on_failed = refl;
 }
 
 ahead-before : (value shift field low limit : ℕ) (front : Front ℕ)
-    → below limit (ahead value shift (before field low front)) ≡ longer field (below limit (ahead (value + 2 ^ shift * low) (shift + (field - 1)) front))
+    → below limit (ahead value shift (before field low front))
+    ≡ longer field (below limit (ahead (value + 2 ^ shift * low) (shift + (field - 1)) front))
 ahead-before value shift field low limit TooFew = refl
 ahead-before value shift field low limit (Takes n (Ok high)) =
-    let same : value + 2 ^ shift * (low + 2 ^ (field - 1) * high) ≡ value + 2 ^ shift * low + 2 ^ (shift + (field - 1)) * high = rw (pow-add 2 shift (field - 1)) (omega arith) in
+    let same : value + 2 ^ shift * (low + 2 ^ (field - 1) * high)
+    ≡ value + 2 ^ shift * low + 2 ^ (shift + (field - 1)) * high = rw (pow-add 2 shift (field - 1)) (omega arith) in
     ap (λ v. Takes (field + n) (number_below limit v)) same
 ahead-before value shift field low limit (Takes n (Err e)) = refl
 
@@ -82,7 +89,12 @@ ceil_step n m some wide =
           rw (none, div-eq_of_lt small, mod-eq_of_lt small, zero-div m, zero-mod m) (omega arith)
       | inr large ↦
           let parts : n ≡ (n - m) + m = omega arith in
-          omega (arith, ap (λ k. k / m) parts ∙ add-div_right (n - m) wide, ap (λ k. k % m) parts ∙ add-mod_right (n - m) m)
+          omega (
+            arith,
+            ap (λ k. k / m) parts ∙ add-div_right (n - m) wide,
+            ap (λ k. k % m) parts
+                ∙ add-mod_right (n - m) m,
+          )
     ]
 
 -- no group more begins within the type
@@ -92,14 +104,21 @@ no_room size shift m past =
     rw (none, zero-div m, zero-mod m) refl
 
 -- then none is looked at, whatever the groups gave
-rest-past : (o : Order) (field size limit value shift p : ℕ) (bits : List Bool) → size ≤ shift → (rest_entry o field size limit value shift).reads p bits ≡ Takes 0 (Err VariableWidthOverflow)
+rest-past : (o : Order) (field size limit value shift p : ℕ) (bits : List Bool) → size ≤ shift
+    → (rest_entry o field size limit value shift).reads p bits ≡ Takes 0 (Err VariableWidthOverflow)
 unfolding rest_entry groups_at
-rest-past o field size limit value shift p bits past = ap (λ r. below limit (ahead value shift (groups_at r o field bits))) (no_room size shift (field - 1) past)
+rest-past o field size limit value shift p bits past =
+    ap (λ r. below limit (ahead value shift (groups_at r o field bits))) (no_room size shift (field - 1) past)
 
-rest-any : (o : Order) (field size limit u v shift : ℕ) → size ≤ shift → Same (rest_entry o field size limit u shift) (rest_entry o field size limit v shift)
+rest-any : (o : Order) (field size limit u v shift : ℕ) → size ≤ shift
+    → Same (rest_entry o field size limit u shift) (rest_entry o field size limit v shift)
 unfolding rest_entry
 rest-any o field size limit u v shift past =
-    record { reads = λ p bits. rest-past o field size limit u shift p bits past ∙ sym (rest-past o field size limit v shift p bits past); on_failed = refl }
+    record {
+      reads = λ p bits. rest-past o field size limit u shift p bits past
+          ∙ sym (rest-past o field size limit v shift p bits past);
+      on_failed = refl;
+    }
 
 -- what follows a group
 abbrev behind_group : Order → ℕ → ℕ → ℕ → ℕ → ℕ → ℕ → ReadEntry ℕ
@@ -109,10 +128,13 @@ behind_group o field size limit value shift group =
 
 module _ (o : Order) (field size limit : ℕ) (wide : 2 ≤ field) (within : field ≤ size) where
   rest-step : (value shift p : ℕ) (bits : List Bool) → shift < size
-      → (rest_entry o field size limit value shift).reads p bits ≡ below limit (ahead value shift (groups_at (suc (div_ceil (size - (shift + (field - 1))) (field - 1))) o field bits))
+      → (rest_entry o field size limit value shift).reads p bits
+      ≡ below limit (ahead value shift (groups_at (suc (div_ceil (size - (shift + (field - 1))) (field - 1))) o
+      field bits))
   unfolding rest_entry
   rest-step value shift p bits begins =
-      let room = ceil_step (size - shift) (field - 1) (omega arith) (omega arith) ∙ ap (λ n. suc (div_ceil n (field - 1))) (omega arith) in
+      let room = ceil_step (size - shift) (field - 1) (omega arith) (omega arith)
+      ∙ ap (λ n. suc (div_ceil n (field - 1))) (omega arith) in
       ap (λ r. below limit (ahead value shift (groups_at r o field bits))) room
 
   none_left : (room : ℕ) (bits : List Bool) → length bits < field → groups_at (suc room) o field bits ≡ TooFew
@@ -125,40 +147,57 @@ module _ (o : Order) (field size limit : ℕ) (wide : 2 ≤ field) (within : fie
 
   -- the front of what is left, by its first group
   first_group : (value shift p : ℕ) (bits : List Bool) → shift < size → (s : Split field bits)
-      → longer field ((behind_group o field size limit value shift (number o s.word)).reads (p + field) s.rest) ≡ (rest_entry o field size limit value shift).reads p bits
+      → longer field ((behind_group o field size limit value shift (number o s.word)).reads (p + field) s.rest)
+      ≡ (rest_entry o field size limit value shift).reads p bits
   unfolding rest_entry
   first_group value shift p bits begins s =
       let room = div_ceil (size - (shift + (field - 1))) (field - 1) in
       let g = number o s.word in
-      let whole = rest-step value shift p bits begins ∙ ap (λ b. below limit (ahead value shift (groups_at (suc room) o field b))) s.parts ∙ ap (λ f. below limit (ahead value shift f)) (groups_at_step o field (omega arith) room s.word s.rest s.len) in
+      let whole = rest-step value shift p bits begins ∙ ap
+      (λ b. below limit (ahead value shift (groups_at (suc room) o field b))) s.parts
+      ∙ ap (λ f. below limit (ahead value shift f)) (groups_at_step o field (omega arith) room s.word s.rest s.len)
+      in
       elim (cases_lt g (2 ^ (field - 1))) [
-        | inl last ↦ sym (whole ∙ rw (lt-ltb g (2 ^ (field - 1)) last) (ap (λ n. Takes n (number_below limit (value + 2 ^ shift * g))) (sym (add-zero field))))
-        | inr more ↦ sym (whole ∙ rw (le-ltb g (2 ^ (field - 1)) more) (ahead-before value shift field (g - 2 ^ (field - 1)) limit (groups_at room o field s.rest)))
+        | inl last ↦ sym (whole ∙ rw (lt-ltb g (2 ^ (field - 1)) last)
+            (ap (λ n. Takes n (number_below limit (value + 2 ^ shift * g))) (sym (add-zero field))))
+        | inr more ↦ sym (whole ∙ rw (le-ltb g (2 ^ (field - 1)) more)
+            (ahead-before value shift field (g - 2 ^ (field - 1)) limit (groups_at room o field s.rest)))
       ]
 
-  group-then : (value shift : ℕ) → shift < size → Same (chain (unsigned_entry o size field) (behind_group o field size limit value shift)) (rest_entry o field size limit value shift)
+  group-then : (value shift : ℕ) → shift < size → Same
+      (chain (unsigned_entry o size field) (behind_group o field size limit value shift))
+      (rest_entry o field size limit value shift)
   group-then value shift begins = rw (unsigned-takes o size field within) (record {
     reads = λ p bits. elim (split field bits) [
       | inl short ↦
-          chain-none (takes field (λ w. Ok (number o w))) (behind_group o field size limit value shift) p bits (word_front-none field (λ w. Ok (number o w)) bits short)
-          ∙ sym (rest-step value shift p bits begins ∙ ap (λ f. below limit (ahead value shift f)) (none_left (div_ceil (size - (shift + (field - 1))) (field - 1)) bits short))
+          chain-none (takes field (λ w. Ok (number o w))) (behind_group o field size limit value shift) p bits
+          (word_front-none field (λ w. Ok (number o w)) bits short)
+          ∙ sym (rest-step value shift p bits begins ∙ ap (λ f. below limit (ahead value shift f))
+          (none_left (div_ceil (size - (shift + (field - 1))) (field - 1)) bits short))
       | inr s ↦
-          let first : (takes field (λ w. Ok (number o w))).reads p bits ≡ Takes field (Ok (number o s.word)) = rw s.parts (word_front-some field (λ w. Ok (number o w)) s.word s.rest s.len) in
+          let first : (takes field (λ w. Ok (number o w))).reads p bits ≡ Takes field (Ok (number o s.word)) =
+          rw s.parts (word_front-some field (λ w. Ok (number o w)) s.word s.rest s.len) in
           let rest : drop field bits ≡ s.rest = rw (s.parts, ← s.len) (drop-append_seam s.word s.rest) in
-          chain-ok (takes field (λ w. Ok (number o w))) (behind_group o field size limit value shift) p bits field (number o s.word) first
-          ∙ ap (λ b. longer field ((behind_group o field size limit value shift (number o s.word)).reads (p + field) b)) rest ∙ first_group value shift p bits begins s
+          chain-ok (takes field (λ w. Ok (number o w))) (behind_group o field size limit value shift) p bits field
+          (number o s.word) first
+          ∙ ap (λ b. longer field ((behind_group o field size limit value shift (number o s.word)).reads (p + field) b))
+          rest ∙ first_group value shift p bits begins s
     ];
-    on_failed = chain-failed (takes field (λ w. Ok (number o w))) (behind_group o field size limit value shift) ∙ sym (rest-on_failed value shift);
+    on_failed = chain-failed (takes field (λ w. Ok (number o w))) (behind_group o field size limit value shift)
+        ∙ sym (rest-on_failed value shift);
   })
 
 -- ---- a group that was read as a byte
 
-pub short_group-stops : {R : Type 0} {K : BitSource R} {s t : R} (o : Order) (field size : ℕ) (x : Error) → field ≤ 8 → field ≤ size → Reads K (unsigned_entry o 8 field) s (Err x) t → Reads K (unsigned_entry o size field) s (Err x) t
+pub short_group-stops : {R : Type 0} {K : BitSource R} {s t : R} (o : Order) (field size : ℕ) (x : Error) → field ≤ 8
+    → field ≤ size → Reads K (unsigned_entry o 8 field) s (Err x) t → Reads K (unsigned_entry o size field) s (Err x) t
 short_group-stops {K = K} {s = s} {t = t} o field size x short within h =
     subst (λ e. Reads K e s (Err x) t) (unsigned-takes o 8 field short ∙ sym (unsigned-takes o size field within)) h
 
 -- it is its byte's number in the wider type
-pub short_group-takes : {R : Type 0} {K : BitSource R} {s t : R} (o : Order) (field size v w : ℕ) → field ≤ 8 → field ≤ size → (v < 256 → w ≡ v) → Reads K (unsigned_entry o 8 field) s (Ok v) t → Reads K (unsigned_entry o size field) s (Ok w) t
+pub short_group-takes : {R : Type 0} {K : BitSource R} {s t : R} (o : Order) (field size v w : ℕ) → field ≤ 8
+    → field ≤ size → (v < 256 → w ≡ v) → Reads K (unsigned_entry o 8 field) s (Ok v) t
+    → Reads K (unsigned_entry o size field) s (Ok w) t
 short_group-takes {K = K} {s = s} {t = t} o field size v w short within same h =
     let wide : 2 ^ field ≤ 256 = pow-le-pow_right (omega arith) short in
     let below : v < 256 = omega (arith, wide, unsigned-below o 8 field v h) in
@@ -169,7 +208,9 @@ short_group-takes {K = K} {s = s} {t = t} o field size v w short within same h =
 
 -- what is read of the rest is what the call reads
 pub Told : {R : Type 0} → BitSource R → ℕ → ℕ → ℕ → R → ℕ → ℕ → R → Type 0
-Told {R} K field size limit s value shift t = (r : Result ℕ Error) (z : R) → Reads K (rest_entry K.order field size limit value shift) t r z → Reads K (vbr_entry K.order field size limit) s r z
+Told {R} K field size limit s value shift t = (r : Result ℕ Error) (z : R)
+    → Reads K (rest_entry K.order field size limit value shift) t r z
+    → Reads K (vbr_entry K.order field size limit) s r z
 
 module _ {R : Type 0} (K : BitSource R) (field size limit : ℕ) where
   pub told-start : (s : R) → Told K field size limit s 0 0 s
@@ -177,38 +218,55 @@ module _ {R : Type 0} (K : BitSource R) (field size limit : ℕ) where
   told-start s r z h = Reads-same (rest-start K.order field size limit) h
 
   -- where no group more begins within the type, what the groups gave does not matter
-  told-any : (s t : R) (u v shift : ℕ) → size ≤ shift → Told K field size limit s u shift t → Told K field size limit s v shift t
+  told-any : (s t : R) (u v shift : ℕ) → size ≤ shift → Told K field size limit s u shift t
+      → Told K field size limit s v shift t
   unfolding Told
   told-any s t u v shift past told r z h = told r z (Reads-same (rest-any K.order field size limit v u shift past) h)
 
-  pub told-end : (s t : R) (value shift : ℕ) → size ≤ shift → (K.state t).failed ≡ false → Told K field size limit s value shift t → Reads K (vbr_entry K.order field size limit) s (Err VariableWidthOverflow) t
+  pub told-end : (s t : R) (value shift : ℕ) → size ≤ shift → (K.state t).failed ≡ false
+      → Told K field size limit s value shift t → Reads K (vbr_entry K.order field size limit) s
+      (Err VariableWidthOverflow) t
   unfolding Told
   told-end s t value shift past fine told =
-      told (Err VariableWidthOverflow) t (Reads-nothing (rest_entry K.order field size limit value shift) (Err VariableWidthOverflow) t fine refl (λ more. rest-past K.order field size limit value shift (K.state t).taken more past))
+      told (Err VariableWidthOverflow) t (Reads-nothing (rest_entry K.order field size limit value shift)
+      (Err VariableWidthOverflow) t fine refl (λ more. rest-past K.order field size limit value shift
+      (K.state t).taken more past))
 
-  module _ (wide : 2 ≤ field) (within : field ≤ size) (s t z : R) (value shift : ℕ) (begins : shift < size) (told : Told K field size limit s value shift t) where
-    pub told-stop : (x : Error) → Reads K (unsigned_entry K.order size field) t (Err x) z → Reads K (vbr_entry K.order field size limit) s (Err x) z
+  module _ (wide : 2 ≤ field) (within : field ≤ size) (s t z : R) (value shift : ℕ) (begins : shift < size)
+      (told : Told K field size limit s value shift t) where
+    pub told-stop : (x : Error) → Reads K (unsigned_entry K.order size field) t (Err x) z
+        → Reads K (vbr_entry K.order field size limit) s (Err x) z
     unfolding Told
-    told-stop x h = told (Err x) z (Reads-same (group-then K.order field size limit wide within value shift begins) (Reads-chain-err _ (behind_group K.order field size limit value shift) h))
+    told-stop x h = told (Err x) z (Reads-same (group-then K.order field size limit wide within value shift begins)
+        (Reads-chain-err _ (behind_group K.order field size limit value shift) h))
 
     -- a group was read
-    told-group : (group : ℕ) (r : Result ℕ Error) (y : R) → Reads K (unsigned_entry K.order size field) t (Ok group) z → Reads K (behind_group K.order field size limit value shift group) z r y → Reads K (vbr_entry K.order field size limit) s r y
+    told-group : (group : ℕ) (r : Result ℕ Error) (y : R) → Reads K (unsigned_entry K.order size field) t (Ok group) z
+        → Reads K (behind_group K.order field size limit value shift group) z r y
+        → Reads K (vbr_entry K.order field size limit) s r y
     unfolding Told
-    told-group group r y h k = told r y (Reads-same (group-then K.order field size limit wide within value shift begins) (Reads-chain-ok _ (behind_group K.order field size limit value shift) h k))
+    told-group group r y h k = told r y (Reads-same (group-then K.order field size limit wide within value shift begins)
+        (Reads-chain-ok _ (behind_group K.order field size limit value shift) h k))
 
-    told-last : (group : ℕ) → group < 2 ^ (field - 1) → Reads K (unsigned_entry K.order size field) t (Ok group) z → Reads K (vbr_entry K.order field size limit) s (number_below limit (value + 2 ^ shift * group)) z
+    told-last : (group : ℕ) → group < 2 ^ (field - 1) → Reads K (unsigned_entry K.order size field) t (Ok group) z
+        → Reads K (vbr_entry K.order field size limit) s (number_below limit (value + 2 ^ shift * group)) z
     told-last group last h =
         let r = number_below limit (value + 2 ^ shift * group) in
-        told-group group r z h (subst (λ e. Reads K e z r z) (sym (cond-true _ _ _ (lt-ltb group (2 ^ (field - 1)) last))) (Reads-answers r z (short_number (ltb (value + 2 ^ shift * group) limit) (value + 2 ^ shift * group))))
+        told-group group r z h (subst (λ e. Reads K e z r z)
+        (sym (cond-true _ _ _ (lt-ltb group (2 ^ (field - 1)) last)))
+        (Reads-answers r z (short_number (ltb (value + 2 ^ shift * group) limit) (value + 2 ^ shift * group))))
 
-    told-more : (group : ℕ) → 2 ^ (field - 1) ≤ group → Reads K (unsigned_entry K.order size field) t (Ok group) z → Told K field size limit s (value + 2 ^ shift * (group - 2 ^ (field - 1))) (shift + (field - 1)) z
+    told-more : (group : ℕ) → 2 ^ (field - 1) ≤ group → Reads K (unsigned_entry K.order size field) t (Ok group) z
+        → Told K field size limit s (value + 2 ^ shift * (group - 2 ^ (field - 1))) (shift + (field - 1)) z
     unfolding Told
-    told-more group more h = λ r y k. told-group group r y h (subst (λ e. Reads K e z r y) (sym (cond-false _ _ _ (le-ltb group (2 ^ (field - 1)) more))) k)
+    told-more group more h = λ r y k. told-group group r y h
+        (subst (λ e. Reads K e z r y) (sym (cond-false _ _ _ (le-ltb group (2 ^ (field - 1)) more))) k)
 
 -- ---- one turn of it, where the limit is that of the type
 
 -- a group was read, and its digits were put above those of the groups before
-pub record Turn {R : Type 0} (K : BitSource R) (field size m : ℕ) (s t z : R) (value shift group digits placed next : ℕ) : Type 0 where
+pub record Turn {R : Type 0} (K : BitSource R) (field size m : ℕ) (s t z : R)
+    (value shift group digits placed next : ℕ) : Type 0 where
   pub wide : 2 ≤ field
   pub within : field ≤ size
   pub payload : m ≡ field - 1
@@ -220,26 +278,35 @@ pub record Turn {R : Type 0} (K : BitSource R) (field size m : ℕ) (s t z : R) 
   pub shifted : placed ≡ digits * 2 ^ shift % 2 ^ size
   pub joined : next ≡ bit_or value placed
 
-module _ {R : Type 0} {K : BitSource R} {field size m : ℕ} {s t z : R} {value shift group digits placed next : ℕ} (turn : Turn K field size m s t z value shift group digits placed next) where
-  turn_last : group ≡ digits → Reads K (vbr_entry K.order field size (2 ^ size)) s (number_below (2 ^ size) (value + 2 ^ shift * digits)) z
+module _ {R : Type 0} {K : BitSource R} {field size m : ℕ} {s t z : R} {value shift group digits placed next :
+    ℕ} (turn : Turn K field size m s t z value shift group digits placed next) where
+  turn_last : group ≡ digits → Reads K (vbr_entry K.order field size (2 ^ size)) s
+      (number_below (2 ^ size) (value + 2 ^ shift * digits)) z
   turn_last last =
-      let ends : group < 2 ^ (field - 1) = subst (λ k. group < 2 ^ k) turn.payload (last_group m group digits turn.low last) in
-      subst (λ g. Reads K (vbr_entry K.order field size (2 ^ size)) s (number_below (2 ^ size) (value + 2 ^ shift * g)) z) last
-      (told-last K field size (2 ^ size) turn.wide turn.within s t z value shift turn.begins turn.told group ends turn.read)
+      let ends : group < 2 ^ (field - 1) = subst (λ k. group < 2 ^ k) turn.payload
+      (last_group m group digits turn.low last) in
+      subst (λ g. Reads K (vbr_entry K.order field size (2 ^ size)) s (number_below (2 ^ size) (value + 2 ^ shift * g))
+      z) last
+      (told-last K field size (2 ^ size) turn.wide turn.within s t z value shift turn.begins turn.told group ends
+      turn.read)
 
-  pub turn-ends : group ≡ digits → placed / 2 ^ shift ≡ digits → Reads K (vbr_entry K.order field size (2 ^ size)) s (Ok next) z
+  pub turn-ends : group ≡ digits → placed / 2 ^ shift ≡ digits
+      → Reads K (vbr_entry K.order field size (2 ^ size)) s (Ok next) z
   turn-ends last back =
       let fits = placed_fits size shift digits placed turn.shifted back in
       let sum = placed_sum size shift value digits placed next turn.small fits turn.shifted turn.joined in
       let begins = turn.begins in
       let below = sum_fits size shift value digits (omega (arith, begins)) turn.small fits in
-      subst (λ r. Reads K (vbr_entry K.order field size (2 ^ size)) s r z) (cond-true _ _ _ (lt-ltb (value + 2 ^ shift * digits) (2 ^ size) below) ∙ ap Ok (sym sum)) (turn_last last)
+      subst (λ r. Reads K (vbr_entry K.order field size (2 ^ size)) s r z)
+      (cond-true _ _ _ (lt-ltb (value + 2 ^ shift * digits) (2 ^ size) below) ∙ ap Ok (sym sum)) (turn_last last)
 
-  pub turn-overflows : group ≡ digits → (placed / 2 ^ shift ≡ digits → ⊥) → Reads K (vbr_entry K.order field size (2 ^ size)) s (Err VariableWidthOverflow) z
+  pub turn-overflows : group ≡ digits → (placed / 2 ^ shift ≡ digits → ⊥)
+      → Reads K (vbr_entry K.order field size (2 ^ size)) s (Err VariableWidthOverflow) z
   turn-overflows last lost =
       let past = placed_past size shift digits placed turn.shifted lost in
       let above : 2 ^ size ≤ value + 2 ^ shift * digits = omega (arith, past) in
-      subst (λ r. Reads K (vbr_entry K.order field size (2 ^ size)) s r z) (cond-false _ _ _ (le-ltb (value + 2 ^ shift * digits) (2 ^ size) above)) (turn_last last)
+      subst (λ r. Reads K (vbr_entry K.order field size (2 ^ size)) s r z)
+      (cond-false _ _ _ (le-ltb (value + 2 ^ shift * digits) (2 ^ size) above)) (turn_last last)
 
   digits_below : digits < 2 ^ m
   digits_below = let low = turn.low in omega (arith, low, mod-lt group (pow_pos m))
@@ -248,20 +315,27 @@ module _ {R : Type 0} {K : BitSource R} {field size m : ℕ} {s t z : R} {value 
   turn-told more =
       let wide = turn.wide in
       let payload = turn.payload in
-      let g = group_more field m group digits payload (omega (arith, wide)) turn.low (unsigned-below K.order size field group turn.read) more in
+      let g = group_more field m group digits payload (omega (arith, wide)) turn.low
+      (unsigned-below K.order size field group turn.read) more in
       let on : Told K field size (2 ^ size) s (value + 2 ^ shift * digits) (shift + m) z =
       subst (λ k. Told K field size (2 ^ size) s (value + 2 ^ shift * digits) (shift + k) z) (sym payload)
-      (subst (λ d. Told K field size (2 ^ size) s (value + 2 ^ shift * d) (shift + (field - 1)) z) g.1 (told-more K field size (2 ^ size) wide turn.within s t z value shift turn.begins turn.told group g.0 turn.read)) in
+      (subst (λ d. Told K field size (2 ^ size) s (value + 2 ^ shift * d) (shift + (field - 1)) z) g.1
+      (told-more K field size (2 ^ size) wide turn.within s t z value shift turn.begins turn.told group g.0
+      turn.read)) in
       elim (cases_lt (2 ^ shift * digits) (2 ^ size)) [
-        | inl fits ↦ subst (λ v. Told K field size (2 ^ size) s v (shift + m) z) (sym (placed_sum size shift value digits placed next turn.small fits turn.shifted turn.joined)) on
-        | inr past ↦ told-any K field size (2 ^ size) s z (value + 2 ^ shift * digits) next (shift + m) (none_behind size shift m digits digits_below past) on
+        | inl fits ↦ subst (λ v. Told K field size (2 ^ size) s v (shift + m) z)
+            (sym (placed_sum size shift value digits placed next turn.small fits turn.shifted turn.joined)) on
+        | inr past ↦ told-any K field size (2 ^ size) s z (value + 2 ^ shift * digits) next (shift + m)
+            (none_behind size shift m digits digits_below past) on
       ]
 
   pub turn-below : next < 2 ^ (shift + m)
   turn-below =
       let small = turn.small in
       elim (cases_lt (2 ^ shift * digits) (2 ^ size)) [
-        | inl fits ↦ subst (λ v. v < 2 ^ (shift + m)) (sym (placed_sum size shift value digits placed next small fits turn.shifted turn.joined)) (stays_below shift m value digits digits_below small)
+        | inl fits ↦ subst (λ v. v < 2 ^ (shift + m)) (sym
+            (placed_sum size shift value digits placed next small fits turn.shifted turn.joined))
+            (stays_below shift m value digits digits_below small)
         | inr past ↦
             let n = shift + m in
             let le : size ≤ n = none_behind size shift m digits digits_below past in
@@ -276,7 +350,8 @@ module _ {R : Type 0} {K : BitSource R} {field size m : ℕ} {s t z : R} {value 
 
 -- ---- a smaller limit
 
-below-limited : (limit most : ℕ) → limit ≤ most → (front : Front ℕ) → front_then (below most front) (λ n v. Takes 0 (number_below limit v)) ≡ below limit front
+below-limited : (limit most : ℕ) → limit ≤ most → (front : Front ℕ)
+    → front_then (below most front) (λ n v. Takes 0 (number_below limit v)) ≡ below limit front
 below-limited limit most le TooFew = refl
 below-limited limit most le (Takes n (Err e)) = refl
 below-limited limit most le (Takes n (Ok v)) = elim (cases_lt v most) [
@@ -284,32 +359,50 @@ below-limited limit most le (Takes n (Ok v)) = elim (cases_lt v most) [
   | inr past ↦ let above : limit ≤ v = omega arith in rw (le-ltb v most past, le-ltb v limit above) refl
 ]
 
-limited : (o : Order) (field size limit most : ℕ) → limit ≤ most → Same (chain (vbr_entry o field size most) (λ v. answers (number_below limit v))) (vbr_entry o field size limit)
+limited : (o : Order) (field size limit most : ℕ) → limit ≤ most
+    → Same (chain (vbr_entry o field size most) (λ v. answers (number_below limit v))) (vbr_entry o field size limit)
 unfolding chain vbr_entry
-limited o field size limit most le = record { reads = λ p bits. below-limited limit most le (groups_at (div_ceil size (field - 1)) o field bits); on_failed = refl }
+limited o field size limit most le = record {
+  reads = λ p bits. below-limited limit most le
+      (groups_at (div_ceil size (field - 1)) o field bits);
+  on_failed = refl;
+}
 
 module _ {R : Type 0} {K : BitSource R} (o : Order) (field size limit most : ℕ) (le : limit ≤ most) {s t : R} where
-  pub limit-stops : (x : Error) → Reads K (vbr_entry o field size most) s (Err x) t → Reads K (vbr_entry o field size limit) s (Err x) t
-  limit-stops x h = Reads-same (limited o field size limit most le) (Reads-chain-err _ (λ v. answers (number_below limit v)) h)
+  pub limit-stops : (x : Error) → Reads K (vbr_entry o field size most) s (Err x) t
+      → Reads K (vbr_entry o field size limit) s (Err x) t
+  limit-stops x h = Reads-same (limited o field size limit most le)
+      (Reads-chain-err _ (λ v. answers (number_below limit v)) h)
 
-  limit-tells : (v : ℕ) → Reads K (vbr_entry o field size most) s (Ok v) t → Reads K (vbr_entry o field size limit) s (number_below limit v) t
-  limit-tells v h = Reads-same (limited o field size limit most le) (Reads-chain-ok _ (λ k. answers (number_below limit k)) h (Reads-answers (number_below limit v) t (short_number (ltb v limit) v)))
+  limit-tells : (v : ℕ) → Reads K (vbr_entry o field size most) s (Ok v) t
+      → Reads K (vbr_entry o field size limit) s (number_below limit v) t
+  limit-tells v h = Reads-same (limited o field size limit most le)
+      (Reads-chain-ok _ (λ k. answers (number_below limit k)) h
+      (Reads-answers (number_below limit v) t (short_number (ltb v limit) v)))
 
-  pub limit-holds : (v : ℕ) → v < limit → Reads K (vbr_entry o field size most) s (Ok v) t → Reads K (vbr_entry o field size limit) s (Ok v) t
-  limit-holds v less h = subst (λ r. Reads K (vbr_entry o field size limit) s r t) (cond-true _ _ _ (lt-ltb v limit less)) (limit-tells v h)
+  pub limit-holds : (v : ℕ) → v < limit → Reads K (vbr_entry o field size most) s (Ok v) t
+      → Reads K (vbr_entry o field size limit) s (Ok v) t
+  limit-holds v less h = subst (λ r. Reads K (vbr_entry o field size limit) s r t)
+      (cond-true _ _ _ (lt-ltb v limit less)) (limit-tells v h)
 
-  pub limit-passed : (v : ℕ) → limit ≤ v → Reads K (vbr_entry o field size most) s (Ok v) t → Reads K (vbr_entry o field size limit) s (Err VariableWidthOverflow) t
-  limit-passed v past h = subst (λ r. Reads K (vbr_entry o field size limit) s r t) (cond-false _ _ _ (le-ltb v limit past)) (limit-tells v h)
+  pub limit-passed : (v : ℕ) → limit ≤ v → Reads K (vbr_entry o field size most) s (Ok v) t
+      → Reads K (vbr_entry o field size limit) s (Err VariableWidthOverflow) t
+  limit-passed v past h = subst (λ r. Reads K (vbr_entry o field size limit) s r t)
+      (cond-false _ _ _ (le-ltb v limit past)) (limit-tells v h)
 
 -- ---- signed numbers
 
 module _ {R : Type 0} {K : BitSource R} (o : Order) (field size n : ℕ) (same : n ≡ size) {s t : R} where
-  pub signed_vbr-stops : (x : Error) → Reads K (vbr_entry o field n (2 ^ n)) s (Err x) t → Reads K (signed_vbr_entry o field size) s (Err x) t
+  pub signed_vbr-stops : (x : Error) → Reads K (vbr_entry o field n (2 ^ n)) s (Err x) t
+      → Reads K (signed_vbr_entry o field size) s (Err x) t
   unfolding signed_vbr_entry
-  signed_vbr-stops x h = Reads-chain-err _ (λ v. gives (zag v)) (subst (λ k. Reads K (vbr_entry o field k (2 ^ k)) s (Err x) t) same h)
+  signed_vbr-stops x h = Reads-chain-err _ (λ v. gives (zag v))
+      (subst (λ k. Reads K (vbr_entry o field k (2 ^ k)) s (Err x) t) same h)
 
-  pub signed_vbr-takes : (v : ℕ) (x : ℤ) → x ≡ zag v → Reads K (vbr_entry o field n (2 ^ n)) s (Ok v) t → Reads K (signed_vbr_entry o field size) s (Ok x) t
+  pub signed_vbr-takes : (v : ℕ) (x : ℤ) → x ≡ zag v → Reads K (vbr_entry o field n (2 ^ n)) s (Ok v) t
+      → Reads K (signed_vbr_entry o field size) s (Ok x) t
   unfolding signed_vbr_entry
   signed_vbr-takes v x is h =
       subst (λ y. Reads K (chain (vbr_entry o field size (2 ^ size)) (λ k. gives (zag k))) s (Ok y) t) (sym is)
-      (Reads-chain-ok _ (λ k. gives (zag k)) (subst (λ k. Reads K (vbr_entry o field k (2 ^ k)) s (Ok v) t) same h) (Reads-gives (zag v) t))
+      (Reads-chain-ok _ (λ k. gives (zag k)) (subst (λ k. Reads K (vbr_entry o field k (2 ^ k)) s (Ok v) t) same h)
+      (Reads-gives (zag v) t))

@@ -11,16 +11,25 @@ use Rattle.bitstream_stream.specs.ReadTable.{align_entry}
 use Rattle.bitstream_stream.specs.Ways.{aligned_reader}
 use Rattle.bitstream_stream.proofs.ReaderLemmas.{aligned}
 
-module _ {R E : Type 0} (remaining : R → Option (List ℕ)) (refuses : R → ℕ → ErrorKind → R → Type 0) (reference_names : R → List GName) (o : Order) (r : BitReader R E) where
-  aligned_by : (failed : Bool) → r.failed ≡ failed → Reads (reader_source remaining refuses reference_names o) align_entry r (Ok tt) (aligned_reader r)
+module _ {R E : Type 0} (remaining : R → Option (List ℕ)) (refuses : R → ℕ → ErrorKind → R → Type 0)
+    (reference_names : R → List GName) (o : Order) (r : BitReader R E) where
+  aligned_by : (failed : Bool) → r.failed ≡ failed → Reads (reader_source remaining refuses reference_names o)
+      align_entry r (Ok tt) (aligned_reader r)
   unfolding align_entry
-  aligned_by false fine = was_done (aligned o (port_state remaining reference_names r.port) (waiting o r) r.queued r.taken.count (r.taken.count + r.queued) (waiting o (aligned_reader r)) r.failed fine r.few (r.back fine) refl)
+  aligned_by false fine = was_done (aligned o (port_state remaining reference_names r.port) (waiting o r) r.queued
+      r.taken.count (r.taken.count + r.queued) (waiting o (aligned_reader r)) r.failed fine r.few (r.back fine) refl)
   aligned_by true failed =
       let K = reader_source remaining refuses reference_names o in
-      let held : (K.state (aligned_reader r)).queue ≡ (K.state r).queue = K.empties (aligned_reader r) failed ∙ sym (K.empties r failed) in
+      let held : (K.state (aligned_reader r)).queue ≡ (K.state r).queue = K.empties (aligned_reader r) failed
+      ∙ sym (K.empties r failed) in
       let none = r.empty failed in
       let taken : r.taken.count + r.queued ≡ r.taken.count = omega arith in
-      had_failed (record { failed = failed; answer = refl; same = ap₂ (λ w t. record (K.state r) { queue = w; taken = t }) held taken })
+      had_failed (record {
+        failed = failed;
+        answer = refl;
+        same =
+            ap₂ (λ w t. record (K.state r) { queue = w; taken = t }) held taken;
+      })
 
   -- it read what an alignment takes
   pub aligned_reads : Reads (reader_source remaining refuses reference_names o) align_entry r (Ok tt) (aligned_reader r)

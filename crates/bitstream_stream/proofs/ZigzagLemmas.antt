@@ -16,14 +16,16 @@ shifted_is n k m s same some small is =
     let below : m * 2 ^ 1 < 2 ^ n = omega (arith, half n some) in
     is ∙ ap (λ j. m * 2 ^ 1 % 2 ^ j) same ∙ mod-eq_of_lt below ∙ omega arith
 
-pub negative_place : (n k m s r : ℕ) (x : ℤ) → k ≡ n → 1 ≤ n → FitsSignedBits n x → x <ℤ pos 0 → pos m ≡ x +ℤ pos (2 ^ (n - 1)) → s ≡ m * 2 ^ 1 % 2 ^ k → r ≡ 2 ^ k - 1 - s → r ≡ zig x
+pub negative_place : (n k m s r : ℕ) (x : ℤ) → k ≡ n → 1 ≤ n → FitsSignedBits n x → x <ℤ pos 0 → pos m
+    ≡ x +ℤ pos (2 ^ (n - 1)) → s ≡ m * 2 ^ 1 % 2 ^ k → r ≡ 2 ^ k - 1 - s → r ≡ zig x
 negative_place n k m s r (pos a) same some fits below is shifted turned = absurd (omega (arith, ints))
 negative_place n k m s r (negsuc a) same some fits below is shifted turned =
     let rest = rest_of a m (2 ^ (n - 1)) fits is in
     let small : m < 2 ^ (n - 1) = omega (arith, rest, fits) in
     omega (arith, turned, ap (λ j. 2 ^ j) same, shifted_is n k m s same some small shifted, rest, half n some, fits)
 
-pub other_place : (n k m s : ℕ) (x : ℤ) → k ≡ n → 1 ≤ n → FitsSignedBits n x → pos m ≡ x → s ≡ m * 2 ^ 1 % 2 ^ k → s ≡ zig x
+pub other_place : (n k m s : ℕ) (x : ℤ) → k ≡ n → 1 ≤ n → FitsSignedBits n x → pos m ≡ x → s ≡ m * 2 ^ 1 % 2 ^ k → s
+    ≡ zig x
 other_place n k m s (pos a) same some fits is shifted =
     let number : m ≡ a = ap mag is in
     let small : m < 2 ^ (n - 1) = omega (arith, number, fits) in

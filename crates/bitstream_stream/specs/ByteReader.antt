@@ -18,7 +18,8 @@ byte_reader_state port = record {
 }
 
 -- what the states of a reader of bytes mean
-abbrev pub byte_reader_source : {R E : Type 0} → (R → Option (List ℕ)) → (R → ℕ → ErrorKind → R → Type 0) → (R → List GName) → Order → ByteSource (ByteReader R E)
+abbrev pub byte_reader_source : {R E : Type 0} → (R → Option (List ℕ)) → (R → ℕ → ErrorKind → R → Type 0)
+    → (R → List GName) → Order → ByteSource (ByteReader R E)
 byte_reader_source remaining refuses reference_names o = record {
   order = o;
   state = λ r. byte_reader_state (port_state remaining reference_names r.port);

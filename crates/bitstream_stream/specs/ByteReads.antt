@@ -51,7 +51,8 @@ pub record BytesTaken (old : ByteReaderState) (bytes : List ℕ) (new : ByteRead
 
 -- The call takes its front, some bytes, and gives the front's answer. They alone decide it, whatever bytes
 -- follow, and no proper beginning of them has a front.
-pub record ByteReadDone {A : Type 0} (entry : ByteReadEntry A) (old : ByteReaderState) (result : Result A Error) (new : ByteReaderState) : Type 0 where
+pub record ByteReadDone {A : Type 0} (entry : ByteReadEntry A) (old : ByteReaderState) (result : Result A Error)
+    (new : ByteReaderState) : Type 0 where
   pub bytes : List ℕ
   pub decides : (more : List ℕ) → entry (bytes ++ more) ≡ Takes (length bytes) result
   pub needs : (front : List ℕ) (b : ℕ) (back : List ℕ) → bytes ≡ front ++ b ∷ back → entry front ≡ TooFew
@@ -59,7 +60,8 @@ pub record ByteReadDone {A : Type 0} (entry : ByteReadEntry A) (old : ByteReader
 
 -- A request was refused, as the stream may refuse. The bytes taken before were too few for the call; at a true
 -- end so were all bytes left. The stream lost these bytes, and is as the refusal left it.
-pub record ByteReadRefused {A : Type 0} (may : Refusal → Type 0) (entry : ByteReadEntry A) (old : ByteReaderState) (result : Result A Error) (new : ByteReaderState) : Type 0 where
+pub record ByteReadRefused {A : Type 0} (may : Refusal → Type 0) (entry : ByteReadEntry A)
+    (old : ByteReaderState) (result : Result A Error) (new : ByteReaderState) : Type 0 where
   pub refusal : Refusal
   pub allowed : may refusal
   pub answer : result ≡ Err (read_refusal_of refusal.kind)
@@ -74,17 +76,21 @@ pub record ByteReadRefused {A : Type 0} (may : Refusal → Type 0) (entry : Byte
 
 -- Memory that the call asked for itself was refused. The bytes that were taken until then were too few for the
 -- call, so a call for no bytes is never refused memory.
-pub record ByteMemoryRefused {A : Type 0} (entry : ByteReadEntry A) (old : ByteReaderState) (result : Result A Error) (new : ByteReaderState) : Type 0 where
+pub record ByteMemoryRefused {A : Type 0} (entry : ByteReadEntry A) (old : ByteReaderState)
+    (result : Result A Error) (new : ByteReaderState) : Type 0 where
   pub answer : result ≡ Err OutOfMemory
   pub bytes : List ℕ
   pub few : entry bytes ≡ TooFew
   pub took : BytesTaken old bytes new
 
 -- one read of bytes, by what the call means; `grows` says whether the call asks for memory of its own
-pub data ByteReadOutcome {R A : Type 0} (K : ByteSource R) (grows : Bool) (entry : ByteReadEntry A) (old : R) (result : Result A Error) (new : R) : Type 0 where
+pub data ByteReadOutcome {R A : Type 0} (K : ByteSource R) (grows : Bool) (entry : ByteReadEntry A) (old : R)
+    (result : Result A Error) (new : R) : Type 0 where
   was_done : ByteReadDone entry (K.state old) result (K.state new) → ByteReadOutcome K grows entry old result new
-  was_refused : ByteReadRefused K.may entry (K.state old) result (K.state new) → ByteReadOutcome K grows entry old result new
-  memory_refused : grows ≡ true → ByteMemoryRefused entry (K.state old) result (K.state new) → ByteReadOutcome K grows entry old result new
+  was_refused : ByteReadRefused K.may entry (K.state old) result (K.state new)
+      → ByteReadOutcome K grows entry old result new
+  memory_refused : grows ≡ true → ByteMemoryRefused entry (K.state old) result (K.state new)
+      → ByteReadOutcome K grows entry old result new
 
 -- one read of bytes
 abbrev pub ByteReads : {R A : Type 0} → ByteSource R → ByteReadEntry A → R → Result A Error → R → Type 0

@@ -40,7 +40,8 @@ pub record BytesAppended {S : Type 0} (K : ByteSink S) (old : S) (bytes : List �
 
 -- A request was refused, as the stream may refuse. A beginning of the bytes, and not all, was sent before, and the
 -- stream is as the refusal left it.
-pub record ByteWriteRefused {S : Type 0} (K : ByteSink S) (old : S) (bytes : List ℕ) (error : Error) (new : S) : Type 0 where
+pub record ByteWriteRefused {S : Type 0} (K : ByteSink S) (old : S) (bytes : List ℕ) (error : Error) (new : S) :
+    Type 0 where
   pub refusal : Refusal
   pub allowed : K.may refusal
   pub answer : error ≡ refusal_of refusal.kind
@@ -55,10 +56,13 @@ pub record ByteWriteRefused {S : Type 0} (K : ByteSink S) (old : S) (bytes : Lis
   pub reference_names : K.reference_names new ≡ K.reference_names old
 
 -- what one call does that writes these bytes
-pub data ByteWrites {S T : Type 0} (K : ByteSink S) (bytes : List ℕ) (old : S) (result : Result T Error) (new : S) : Type 0 where
-  past_limit : IsPastLimit K.limit (K.len old + length bytes) → result ≡ Err CounterOverflow → BytesAppended K old [] new
+pub data ByteWrites {S T : Type 0} (K : ByteSink S) (bytes : List ℕ) (old : S) (result : Result T Error) (new : S) :
+    Type 0 where
+  past_limit : IsPastLimit K.limit (K.len old + length bytes) → result ≡ Err CounterOverflow
+      → BytesAppended K old [] new
       → ByteWrites K bytes old result new
-  was_refused : (error : Error) → IsWithin K.limit (K.len old + length bytes) → result ≡ Err error → ByteWriteRefused K old bytes error new
+  was_refused : (error : Error) → IsWithin K.limit (K.len old + length bytes) → result ≡ Err error
+      → ByteWriteRefused K old bytes error new
       → ByteWrites K bytes old result new
   was_done : (done : T) → IsWithin K.limit (K.len old + length bytes) → result ≡ Ok done → BytesAppended K old bytes new
       → ByteWrites K bytes old result new

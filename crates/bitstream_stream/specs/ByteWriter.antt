@@ -22,7 +22,8 @@ SentBytes-nil s = record { grows = Appends-nil s.bytes; sent = sym (add-zero s.s
 pub SentBytes-trans : (s t u : PortState) (x y : List ℕ) → SentBytes s x t → SentBytes t y u → SentBytes s (x ++ y) u
 SentBytes-trans s t u x y p q = record {
   grows = Appends-trans s.bytes t.bytes u.bytes x y p.grows q.grows;
-  sent = q.sent ∙ ap (λ (n : ℕ). n + length y) p.sent ∙ add_assoc s.sent (length x) (length y) ∙ ap (λ (n : ℕ). s.sent + n) (sym (length-append x y));
+  sent = q.sent ∙ ap (λ (n : ℕ). n + length y) p.sent ∙ add_assoc s.sent (length x) (length y)
+      ∙ ap (λ (n : ℕ). s.sent + n) (sym (length-append x y));
 }
 
 -- a writer, by what its stream tells
@@ -30,7 +31,8 @@ abbrev pub byte_writer_state : {W E : Type 0} → (W → Option (List ℕ)) → 
 byte_writer_state contents reference_names w = port_state contents reference_names w.port
 
 -- a writer as a sink of bytes
-abbrev pub byte_writer_sink : {W E : Type 0} → (W → Option (List ℕ)) → (W → ℕ → ErrorKind → W → Type 0) → (W → List GName) → Order → ByteSink (ByteWriter W E)
+abbrev pub byte_writer_sink : {W E : Type 0} → (W → Option (List ℕ)) → (W → ℕ → ErrorKind → W → Type 0)
+    → (W → List GName) → Order → ByteSink (ByteWriter W E)
 byte_writer_sink {W} {E} contents refuses reference_names o =
     let state : ByteWriter W E → PortState = byte_writer_state contents reference_names in
     record {

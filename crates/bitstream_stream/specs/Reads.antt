@@ -56,7 +56,8 @@ is_run_too_long (Err RunTooLong) = true
 is_run_too_long answer = false
 
 -- the reader had failed: it answers so, and nothing changes
-pub record HadFailed {A : Type 0} (entry : ReadEntry A) (old : ReaderState) (result : Result A Error) (new : ReaderState) : Type 0 where
+pub record HadFailed {A : Type 0} (entry : ReadEntry A) (old : ReaderState) (result : Result A Error)
+    (new : ReaderState) : Type 0 where
   pub failed : old.failed ≡ true
   pub answer : result ≡ entry.on_failed
   pub same : new ≡ old
@@ -64,11 +65,13 @@ pub record HadFailed {A : Type 0} (entry : ReadEntry A) (old : ReaderState) (res
 -- The call takes its front, a word, and gives the front's answer. The word alone decides it, whatever bits
 -- follow, and no proper beginning of the word has a front. The old queue and the bits of the bytes fetched are
 -- the word and then the new queue.
-pub record ReadDone {A : Type 0} (o : Order) (entry : ReadEntry A) (old : ReaderState) (result : Result A Error) (new : ReaderState) : Type 0 where
+pub record ReadDone {A : Type 0} (o : Order) (entry : ReadEntry A) (old : ReaderState) (result : Result A Error)
+    (new : ReaderState) : Type 0 where
   pub fine : old.failed ≡ false
   pub word : List Bool
   pub decides : (more : List Bool) → entry.reads old.taken (word ++ more) ≡ Takes (length word) result
-  pub needs : (front : List Bool) (b : Bool) (back : List Bool) → word ≡ front ++ b ∷ back → entry.reads old.taken front ≡ TooFew
+  pub needs : (front : List Bool) (b : Bool) (back : List Bool) → word ≡ front ++ b ∷ back → entry.reads old.taken front
+      ≡ TooFew
   pub gone : List ℕ
   pub loses : Consumes old.bytes new.bytes gone
   pub rest : List Bool
@@ -83,7 +86,8 @@ pub record ReadDone {A : Type 0} (o : Order) (entry : ReadEntry A) (old : Reader
 -- A request was refused, as the stream may refuse, and the reader has failed. The queue was too short for the
 -- call, and so it was with the bytes fetched before; at a true end so were all bits left. The stream lost these
 -- bytes, and is as the refusal left it.
-pub record ReadRefused {A : Type 0} (o : Order) (may : Refusal → Type 0) (entry : ReadEntry A) (old : ReaderState) (result : Result A Error) (new : ReaderState) : Type 0 where
+pub record ReadRefused {A : Type 0} (o : Order) (may : Refusal → Type 0) (entry : ReadEntry A)
+    (old : ReaderState) (result : Result A Error) (new : ReaderState) : Type 0 where
   pub fine : old.failed ≡ false
   pub refusal : Refusal
   pub allowed : may refusal
@@ -94,14 +98,16 @@ pub record ReadRefused {A : Type 0} (o : Order) (may : Refusal → Type 0) (entr
   pub after : new.bytes ≡ refusal.after
   pub fetched : new.fetched ≡ old.fetched + length gone
   pub few : entry.reads old.taken (old.queue ++ bits o gone) ≡ TooFew
-  pub ended : IsTrueEnd refusal → (xs : List ℕ) → old.bytes ≡ Some xs → entry.reads old.taken (old.queue ++ bits o xs) ≡ TooFew
+  pub ended : IsTrueEnd refusal → (xs : List ℕ) → old.bytes ≡ Some xs → entry.reads old.taken (old.queue ++ bits o xs)
+      ≡ TooFew
   pub refusals : new.refusals ≡ refusal ∷ old.refusals
   pub reference_names : new.reference_names ≡ old.reference_names
   pub failed : new.failed ≡ true
 
 -- Memory that the call asked for itself was refused, and the reader has failed. The bits that were taken
 -- until then were too few for the call, so a call for no bits is never refused memory.
-pub record MemoryRefused {A : Type 0} (o : Order) (entry : ReadEntry A) (old : ReaderState) (result : Result A Error) (new : ReaderState) : Type 0 where
+pub record MemoryRefused {A : Type 0} (o : Order) (entry : ReadEntry A) (old : ReaderState)
+    (result : Result A Error) (new : ReaderState) : Type 0 where
   pub fine : old.failed ≡ false
   pub answer : result ≡ Err OutOfMemory
   pub word : List Bool
@@ -117,11 +123,14 @@ pub record MemoryRefused {A : Type 0} (o : Order) (entry : ReadEntry A) (old : R
   pub failed : new.failed ≡ true
 
 -- one read, by what the call means; `grows` says whether the call asks for memory of its own
-pub data ReadOutcome {R A : Type 0} (K : BitSource R) (grows : Bool) (entry : ReadEntry A) (old : R) (result : Result A Error) (new : R) : Type 0 where
+pub data ReadOutcome {R A : Type 0} (K : BitSource R) (grows : Bool) (entry : ReadEntry A) (old : R)
+    (result : Result A Error) (new : R) : Type 0 where
   had_failed : HadFailed entry (K.state old) result (K.state new) → ReadOutcome K grows entry old result new
   was_done : ReadDone K.order entry (K.state old) result (K.state new) → ReadOutcome K grows entry old result new
-  was_refused : ReadRefused K.order K.may entry (K.state old) result (K.state new) → ReadOutcome K grows entry old result new
-  memory_refused : grows ≡ true → MemoryRefused K.order entry (K.state old) result (K.state new) → ReadOutcome K grows entry old result new
+  was_refused : ReadRefused K.order K.may entry (K.state old) result (K.state new)
+      → ReadOutcome K grows entry old result new
+  memory_refused : grows ≡ true → MemoryRefused K.order entry (K.state old) result (K.state new)
+      → ReadOutcome K grows entry old result new
 
 -- one read
 abbrev pub Reads : {R A : Type 0} → BitSource R → ReadEntry A → R → Result A Error → R → Type 0
@@ -168,7 +177,8 @@ ConstAnswer gives err (Ok false) result = result ≡ Err err
 ConstAnswer gives err (Err x) result = IsErrAnd result (gives x)
 
 -- a call that answers `err` if a word is not what it should be, and turns any other error into its own type
-pub record ReadsConst {R E : Type 0} (K : BitSource R) (gives : Error → E → Type 0) (entry : ReadEntry Bool) (err : E) (old : R) (result : Result (Unit {0}) E) (new : R) : Type 0 where
+pub record ReadsConst {R E : Type 0} (K : BitSource R) (gives : Error → E → Type 0) (entry : ReadEntry Bool)
+    (err : E) (old : R) (result : Result (Unit {0}) E) (new : R) : Type 0 where
   pub plain : Result Bool Error
   pub reads : Reads K entry old plain new
   pub answer : ConstAnswer gives err plain result

@@ -26,7 +26,8 @@ pub record SeekerOf (R : Type 0) : Type 1 where
   pub may : SeekFrom → Refusal → Type 0
 
 -- what the states of a `BitReader` that seeks mean
-abbrev pub reader_seeker : {S E : Type 0} → BitSource (BitReader S E) → (S → Option ℕ) → (S → Option (List ℕ)) → (SeekFrom → Refusal → Type 0) → SeekerOf (BitReader S E)
+abbrev pub reader_seeker : {S E : Type 0} → BitSource (BitReader S E) → (S → Option ℕ) → (S → Option (List ℕ))
+    → (SeekFrom → Refusal → Type 0) → SeekerOf (BitReader S E)
 reader_seeker source position bytes may = record {
   source = source;
   position = λ r. position (port_stream r.port);
@@ -36,7 +37,8 @@ reader_seeker source position bytes may = record {
 
 -- wherever the stream tells its position and its bytes, the bytes left are those behind the position
 abbrev pub TellsRest : {R : Type 0} → SeekerOf R → Type 0
-TellsRest {R} K = (r : R) (at : ℕ) (xs : List ℕ) → K.position r ≡ Some at → K.bytes r ≡ Some xs → (K.source.state r).bytes ≡ Some (drop at xs)
+TellsRest {R} K = (r : R) (at : ℕ) (xs : List ℕ) → K.position r ≡ Some at → K.bytes r ≡ Some xs
+    → (K.source.state r).bytes ≡ Some (drop at xs)
 
 -- the stream of a reader tells its position and that these are all its bytes, and it tells its rest
 pub record Tells {R : Type 0} (K : SeekerOf R) (r : R) (xs : List ℕ) : Type 0 where
@@ -74,10 +76,12 @@ pub record Lands {R : Type 0} (K : SeekerOf R) (place : ℕ) (old new : R) : Typ
   pub queued : length (K.source.state new).queue ≡ to_boundary place
   pub refusals : (K.source.state new).refusals ≡ (K.source.state old).refusals
   pub reference_names : (K.source.state new).reference_names ≡ (K.source.state old).reference_names
-  pub left : (xs : List ℕ) → Tells K old xs → bits_left K.source.order (K.source.state new) ≡ Some (drop place (bits K.source.order xs))
+  pub left : (xs : List ℕ) → Tells K old xs → bits_left K.source.order (K.source.state new)
+      ≡ Some (drop place (bits K.source.order xs))
 
 -- a request was refused, as the stream may refuse it, with the error for its kind, and the reader has failed
-pub record RequestRefused {A : Type 0} (error_of : ErrorKind → Error) (may : Refusal → Type 0) (old : ReaderState) (result : Result A Error) (new : ReaderState) : Type 0 where
+pub record RequestRefused {A : Type 0} (error_of : ErrorKind → Error) (may : Refusal → Type 0)
+    (old : ReaderState) (result : Result A Error) (new : ReaderState) : Type 0 where
   pub refusal : Refusal
   pub allowed : may refusal
   pub answer : result ≡ Err (error_of refusal.kind)
@@ -98,11 +102,13 @@ MaySeek may refusal = (to : SeekFrom) × IsByteSeek to × may to refusal
 
 -- the stream refused a seek, with the error of a refused write
 abbrev pub SeekRefused : {R A : Type 0} → SeekerOf R → R → Result A Error → R → Type 0
-SeekRefused K old result new = RequestRefused refusal_of (MaySeek K.may) (K.source.state old) result (K.source.state new)
+SeekRefused K old result new = RequestRefused refusal_of (MaySeek K.may) (K.source.state old) result
+    (K.source.state new)
 
 -- The stream refused the byte whose first bits were to be skipped, with the error of a refused read. At a true end the
 -- place lies past all bytes.
-pub record SkipRefused {R A : Type 0} (K : SeekerOf R) (place : ℕ) (old : R) (result : Result A Error) (new : R) : Type 0 where
+pub record SkipRefused {R A : Type 0} (K : SeekerOf R) (place : ℕ) (old : R) (result : Result A Error) (new : R) :
+    Type 0 where
   pub refused : RequestRefused read_refusal_of K.source.may (K.source.state old) result (K.source.state new)
   pub some : 0 < place % 8
   pub ended : IsTrueEnd refused.refusal → (xs : List ℕ) → Tells K old xs → length xs ≤ place / 8
@@ -114,7 +120,8 @@ pub data GoesTo {R : Type 0} (K : SeekerOf R) (place : ℕ) (old : R) (result : 
   was_too_far : SkipRefused K place old result new → GoesTo K place old result new
 
 -- a reader that had failed answers so to a seek from where it stands, and nothing changes
-pub record HadFailed {R A : Type 0} (K : SeekerOf R) (to : SeekFrom) (old : R) (result : Result A Error) (new : R) : Type 0 where
+pub record HadFailed {R A : Type 0} (K : SeekerOf R) (to : SeekFrom) (old : R) (result : Result A Error) (new : R) :
+    Type 0 where
   pub from_here : IsFromHere to
   pub failed : (K.source.state old).failed ≡ true
   pub answer : result ≡ Err Failed
@@ -141,19 +148,25 @@ Stops K (Current d) old new = OnlyAsked K old new
 
 -- A seek. The reader had failed, and it is a `Current`; or the reader goes to the place that is meant; or the stream
 -- refused to tell its position or its end; or no place is meant.
-pub data SeeksBits {R : Type 0} (K : SeekerOf R) (to : SeekFrom) (old : R) (result : Result ℕ Error) (new : R) : Type 0 where
+pub data SeeksBits {R : Type 0} (K : SeekerOf R) (to : SeekFrom) (old : R) (result : Result ℕ Error) (new : R) :
+    Type 0 where
   had_failed : HadFailed K to old result new → SeeksBits K to old result new
-  was_meant : (place : ℕ) → KnowsStart to (K.source.state old) → Means K to old (Some place) → GoesTo K place old result new → SeeksBits K to old result new
+  was_meant : (place : ℕ) → KnowsStart to (K.source.state old) → Means K to old (Some place)
+      → GoesTo K place old result new → SeeksBits K to old result new
   was_refused : KnowsStart to (K.source.state old) → SeekRefused K old result new → SeeksBits K to old result new
-  was_rejected : KnowsStart to (K.source.state old) → Means K to old None → result ≡ Err Place → Stops K to old new → SeeksBits K to old result new
+  was_rejected : KnowsStart to (K.source.state old) → Means K to old None → result ≡ Err Place → Stops K to old new
+      → SeeksBits K to old result new
 
 -- A question for a place that is counted from where the reader stands. The reader had failed; or the place is answered;
 -- or the stream refused to tell its position; or no place is meant.
-pub data AsksPlace {R : Type 0} (K : SeekerOf R) (to : SeekFrom) (old : R) (result : Result ℕ Error) (new : R) : Type 0 where
+pub data AsksPlace {R : Type 0} (K : SeekerOf R) (to : SeekFrom) (old : R) (result : Result ℕ Error) (new : R) :
+    Type 0 where
   had_failed : HadFailed K to old result new → AsksPlace K to old result new
-  was_done : (place : ℕ) → (K.source.state old).failed ≡ false → Means K to old (Some place) → result ≡ Ok place → OnlyAsked K old new → AsksPlace K to old result new
+  was_done : (place : ℕ) → (K.source.state old).failed ≡ false → Means K to old (Some place) → result ≡ Ok place
+      → OnlyAsked K old new → AsksPlace K to old result new
   was_refused : (K.source.state old).failed ≡ false → SeekRefused K old result new → AsksPlace K to old result new
-  was_rejected : (K.source.state old).failed ≡ false → Means K to old None → result ≡ Err Place → OnlyAsked K old new → AsksPlace K to old result new
+  was_rejected : (K.source.state old).failed ≡ false → Means K to old None → result ≡ Err Place → OnlyAsked K old new
+      → AsksPlace K to old result new
 
 -- the reader begins anew at the position that its stream answered to a seek, with no bits queued
 pub record Begins {R : Type 0} (K : SeekerOf R) (to : SeekFrom) (old : R) (at : ℕ) (new : R) : Type 0 where
@@ -169,4 +182,5 @@ pub record Begins {R : Type 0} (K : SeekerOf R) (to : SeekFrom) (old : R) (at : 
 -- one seek of the stream, and its answer
 abbrev pub SeeksBytes : {R : Type 0} → SeekerOf R → SeekFrom → R → Result ℕ Error → R → Type 0
 SeeksBytes K to old (Ok at) new = Begins K to old at new
-SeeksBytes K to old (Err error) new = RequestRefused {A = ℕ} refusal_of (K.may to) (K.source.state old) (Err error) (K.source.state new)
+SeeksBytes K to old (Err error) new = RequestRefused {A = ℕ} refusal_of (K.may to) (K.source.state old) (Err error)
+    (K.source.state new)

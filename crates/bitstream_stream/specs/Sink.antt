@@ -45,7 +45,8 @@ pub record Sink (S : Type 0) : Type 1 where
   pub reference_names : S → List GName
   pub appends_nil : (s : S) → appends s [] s
   pub appends_trans : (s t u : S) (x y : List Bool) → appends s x t → appends t y u → appends s (x ++ y) u
-  pub fills_behind : (s t : S) (x y : List Bool) (known : Option (List ℕ)) → appends s x t → fills t y known → fills s (x ++ y) known
+  pub fills_behind : (s t : S) (x y : List Bool) (known : Option (List ℕ)) → appends s x t → fills t y known
+      → fills s (x ++ y) known
   pub within : (s : S) → IsWithin limit (len s)
   pub appends_len : (s t : S) (x : List Bool) → appends s x t → len t ≡ len s + length x
   pub limit_full : IsFullLimit limit
@@ -85,9 +86,11 @@ pub record WriteRefused {S : Type 0} (K : Sink S) (old : S) (x : List Bool) (err
   pub reference_names : K.reference_names new ≡ K.reference_names old
 
 -- what one write call does, by what it means
-pub data Writes {S T : Type 0} (K : Sink S) (entry : WriteEntry) (old : S) (result : Result T Error) (new : S) : Type 0 where
+pub data Writes {S T : Type 0} (K : Sink S) (entry : WriteEntry) (old : S) (result : Result T Error) (new : S) :
+    Type 0 where
   had_failed : K.failed old ≡ true → result ≡ Err Failed → Kept K old new → Writes K entry old result new
-  was_rejected : (error : Error) → K.failed old ≡ false → entry (K.len old) ≡ Err error → result ≡ Err error → Kept K old new
+  was_rejected : (error : Error) → K.failed old ≡ false → entry (K.len old) ≡ Err error → result ≡ Err error
+      → Kept K old new
       → Writes K entry old result new
   past_limit : (word : List Bool) → K.failed old ≡ false → entry (K.len old) ≡ Ok word
       → IsPastLimit K.limit (K.len old + length word) → result ≡ Err CounterOverflow → Kept K old new

@@ -60,7 +60,8 @@ aligned_reader reader = record {
   failed = reader.failed;
   order = reader.order;
   few = none_few;
-  whole = dropped_whole reader.failed reader.port.fetched.count reader.taken.count reader.queued reader.whole reader.back reader.empty;
+  whole = dropped_whole reader.failed reader.port.fetched.count reader.taken.count reader.queued reader.whole
+      reader.back reader.empty;
   back = dropped_back reader.failed reader.port.fetched.count reader.taken.count reader.queued reader.back;
   empty = λ _. refl;
 }
@@ -90,20 +91,26 @@ pub record IsWriterWith {W E : Type 0} (old : BitWriter W E) (stream : W) (new :
 
 -- what the stream of an aligned writer is
 abbrev pub IsAlignedStream : {W E : Type 0} → Sink (BitWriter W E) → BitWriter W E → W → Type 0
-IsAlignedStream {W} {E} K old stream = (aligned : BitWriter W E) × Writes {T = Unit {0}} K align old (Ok tt) aligned × (stream ≡ writer_stream aligned)
+IsAlignedStream {W} {E} K old stream = (aligned : BitWriter W E) × Writes {T = Unit {0}} K align old (Ok tt) aligned
+    × (stream ≡ writer_stream aligned)
 
 -- what an aligned writer ends as if its stream was lent
 abbrev pub EndsAligned : {W E : Type 0} → Sink (BitWriter W E) → BitWriter W E → BitWriter W E → W → Type 0
-EndsAligned {W} {E} K old new stream = (aligned : BitWriter W E) × Writes {T = Unit {0}} K align old (Ok tt) aligned × IsWriterWith aligned stream new
+EndsAligned {W} {E} K old new stream = (aligned : BitWriter W E) × Writes {T = Unit {0}} K align old (Ok tt) aligned
+    × IsWriterWith aligned stream new
 
 -- a writer that could not be aligned
-abbrev pub EndsUnaligned : {W E A : Type 0} → Sink (BitWriter W E) → BitWriter W E → Result A Error → BitWriter W E → Type 0
+abbrev pub EndsUnaligned : {W E A : Type 0} → Sink (BitWriter W E) → BitWriter W E → Result A Error → BitWriter W E
+    → Type 0
 EndsUnaligned K old result new = Writes {T = Unit {0}} K align old (seen (λ _. tt) result) new
 
 -- What a flush does. The writer had failed; or the stream passed on what it buffers itself, and all else is as
 -- it was; or the stream refused that, as it may refuse, and the writer has failed with an empty queue.
-pub data Flushes (may : Refusal → Type 0) (old : WriterState) (result : Result (Unit {0}) Error) (new : WriterState) : Type 0 where
+pub data Flushes (may : Refusal → Type 0) (old : WriterState) (result : Result (Unit {0}) Error) (new : WriterState) :
+    Type 0 where
   had_failed : old.failed ≡ true → result ≡ Err Failed → new ≡ old → Flushes may old result new
-  was_done : old.failed ≡ false → result ≡ Ok tt → Sent old.port [] new.port → new ≡ record old { port = new.port } → Flushes may old result new
-  was_refused : (error : Error) → old.failed ≡ false → result ≡ Err error → SendRefused may error old.port 0 new.port → new.queued ≡ 0 → new.failed ≡ true
+  was_done : old.failed ≡ false → result ≡ Ok tt → Sent old.port [] new.port → new ≡ record old { port = new.port }
+      → Flushes may old result new
+  was_refused : (error : Error) → old.failed ≡ false → result ≡ Err error → SendRefused may error old.port 0 new.port
+      → new.queued ≡ 0 → new.failed ≡ true
       → Flushes may old result new

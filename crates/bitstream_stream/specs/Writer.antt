@@ -39,11 +39,13 @@ has_failed writer = writer.failed
 
 -- a call for a word of n bits made one request at most, and none if it filled no byte
 abbrev pub AsksForWord : {W E : Type 0} → ℕ → BitWriter W E → BitWriter W E → Type 0
-AsksForWord n old new = (requests_made new ≤ requests_made old + 1) × (queued_bits old + n < 8 → requests_made new ≡ requests_made old)
+AsksForWord n old new = (requests_made new ≤ requests_made old + 1)
+    × (queued_bits old + n < 8 → requests_made new ≡ requests_made old)
 
 -- a call for n bytes that answered a value made one request for each of their pieces
 abbrev pub AsksForBytes : {W E A : Type 0} → ℕ → ℕ → BitWriter W E → Result A Error → BitWriter W E → Type 0
-AsksForBytes most n old result new = OnOk result (requests_made new ≡ requests_made old + pieces most (queued_bits old) n)
+AsksForBytes most n old result new = OnOk result (requests_made new
+    ≡ requests_made old + pieces most (queued_bits old) n)
 
 -- a new writer, by what its stream tells
 abbrev pub new_writer_state : Option (List ℕ) → List GName → WriterState
@@ -82,10 +84,13 @@ pub record AddsBits (o : Order) (old : Option (List ℕ)) (x : List Bool) (new :
   pub bits : bits o bytes ≡ x
 
 -- the bits x were written by a writer that has not failed; or a request was refused, and the writer has failed
-abbrev pub Pushes : (Refusal → Type 0) → Order → List Bool → WriterState → Result (Unit {0}) Error → WriterState → Type 0
+abbrev pub Pushes : (Refusal → Type 0) → Order → List Bool → WriterState → Result (Unit {0}) Error → WriterState
+    → Type 0
 Pushes may o x old (Ok done) new = Appended (queue_sink may o) old x new
 Pushes may o x old (Err error) new = WriteRefused (queue_sink may o) old x error new
 
 -- a writer as a sink
-abbrev pub writer_sink : {W E : Type 0} → (W → Option (List ℕ)) → (W → ℕ → ErrorKind → W → Type 0) → (W → List GName) → Order → Sink (BitWriter W E)
-writer_sink contents refuses reference_names o = inner_sink (writer_state contents reference_names) (queue_sink (MayRefuse contents refuses) o)
+abbrev pub writer_sink : {W E : Type 0} → (W → Option (List ℕ)) → (W → ℕ → ErrorKind → W → Type 0) → (W → List GName)
+    → Order → Sink (BitWriter W E)
+writer_sink contents refuses reference_names o = inner_sink (writer_state contents reference_names)
+    (queue_sink (MayRefuse contents refuses) o)

@@ -11,19 +11,23 @@ use Rattle.bitstream_stream.specs.WriteTable.{bit}
 use Rattle.bitstream_value.specs.Boolean.{truth_entry, truth}
 
 module _ {R : Type 0} {K : BitSource R} where
-  pub truth-bit : (n : ℕ) {r : Result Bool Error} {s t : R} → n ≡ 1 → Reads K bit_entry s r t → Reads K (truth_entry n) s r t
+  pub truth-bit : (n : ℕ) {r : Result Bool Error} {s t : R} → n ≡ 1 → Reads K bit_entry s r t
+      → Reads K (truth_entry n) s r t
   unfolding truth_entry
   truth-bit n one h = rw one h
 
-  pub truth-refused : (n : ℕ) {r : Result Bool Error} {s t : R} → n ≢ 1 → Reads K (refuses BoolWidth) s r t → Reads K (truth_entry n) s r t
+  pub truth-refused : (n : ℕ) {r : Result Bool Error} {s t : R} → n ≢ 1 → Reads K (refuses BoolWidth) s r t
+      → Reads K (truth_entry n) s r t
   unfolding truth_entry
   truth-refused n other h = rw (ne_eqb n 1 other) h
 
 module _ {S : Type 0} (K : Sink S) where
-  pub writes-bit : (n : ℕ) (b : Bool) (r : Result (Unit {0}) Error) (s t : S) → n ≡ 1 → Writes K (bit b) s r t → Writes K (truth n b) s r t
+  pub writes-bit : (n : ℕ) (b : Bool) (r : Result (Unit {0}) Error) (s t : S) → n ≡ 1 → Writes K (bit b) s r t
+      → Writes K (truth n b) s r t
   unfolding truth
   writes-bit n b r s t one h = rw one h
 
-  pub writes-refused : (n : ℕ) (b : Bool) (r : Result (Unit {0}) Error) (s t : S) → n ≢ 1 → Writes K (λ _. Err BoolWidth) s r t → Writes K (truth n b) s r t
+  pub writes-refused : (n : ℕ) (b : Bool) (r : Result (Unit {0}) Error) (s t : S) → n ≢ 1
+      → Writes K (λ _. Err BoolWidth) s r t → Writes K (truth n b) s r t
   unfolding truth
   writes-refused n b r s t other h = rw (ne_eqb n 1 other) h

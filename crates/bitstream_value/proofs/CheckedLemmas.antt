@@ -32,18 +32,22 @@ signed_from-fits n k some below = elim (cases_lt k (2 ^ (n - 1))) [
 ]
 
 -- a word of n bits that was read, as a two's complement
-front-fits : (o : Order) (n k : ℕ) (w : List Bool) (x : ℤ) → 0 < n → word_front n (λ v. Ok (signed_number o v)) w ≡ Takes k (Ok x) → FitsSignedBits n x
+front-fits : (o : Order) (n k : ℕ) (w : List Bool) (x : ℤ) → 0 < n → word_front n (λ v. Ok (signed_number o v)) w
+    ≡ Takes k (Ok x) → FitsSignedBits n x
 front-fits o n k w x some is = elim (split n w) [
   | inl short ↦ let none = word_front-none n (λ v. Ok (signed_number o v)) w short in cc
   | inr cut ↦
       let found : Takes n (Ok (signed_number o cut.word)) ≡ Takes k (Ok x) =
-      sym (word_front-some n (λ v. Ok (signed_number o v)) cut.word cut.rest cut.len) ∙ ap (word_front n (λ v. Ok (signed_number o v))) (sym cut.parts) ∙ is in
+      sym (word_front-some n (λ v. Ok (signed_number o v)) cut.word cut.rest cut.len)
+      ∙ ap (word_front n (λ v. Ok (signed_number o v))) (sym cut.parts) ∙ is in
       let same : signed_number o cut.word ≡ x = cc in
       let below : number o cut.word < 2 ^ n = subst (λ m. number o cut.word < 2 ^ m) cut.len (number-lt o cut.word) in
-      subst (FitsSignedBits n) (ap (λ m. signed_from m (number o cut.word)) (sym cut.len) ∙ same) (signed_from-fits n (number o cut.word) some below)
+      subst (FitsSignedBits n) (ap (λ m. signed_from m (number o cut.word)) (sym cut.len)
+      ∙ same) (signed_from-fits n (number o cut.word) some below)
 ]
 
-signed-wide : (o : Order) (size n p : ℕ) (w : List Bool) → size < n → (signed_entry o size n).reads p w ≡ Takes 0 (Err ReadBits)
+signed-wide : (o : Order) (size n p : ℕ) (w : List Bool) → size < n → (signed_entry o size n).reads p w
+    ≡ Takes 0 (Err ReadBits)
 unfolding signed_entry
 signed-wide o size n p w wide = rw (ne_eqb n 0 (λ e. omega (arith, e, wide)), lt-leb n size wide) refl
 
@@ -55,7 +59,8 @@ module _ {R : Type 0} {K : BitSource R} (o : Order) (size n : ℕ) {s t : R} whe
   pub unsigned-holds : {v : ℕ} → Reads K (unsigned_entry o size n) s (Ok v) t → HoldsUnsigned size n v
   unsigned-holds {v} h = (unsigned-within o size n v h, unsigned-below o size n v h)
 
-  front : {x : ℤ} → Reads K (signed_entry o size n) s (Ok x) t → ReadDone K.order (signed_entry o size n) (K.state s) (Ok x) (K.state t)
+  front : {x : ℤ} → Reads K (signed_entry o size n) s (Ok x) t
+      → ReadDone K.order (signed_entry o size n) (K.state s) (Ok x) (K.state t)
   front h = ok_front (signed-on_failed o size n) h
 
   signed-some : {x : ℤ} → Reads K (signed_entry o size n) s (Ok x) t → 0 < n
@@ -64,14 +69,17 @@ module _ {R : Type 0} {K : BitSource R} (o : Order) (size n : ℕ) {s t : R} whe
     | inr none ↦
         let d = front h in
         let e : 0 ≡ n = omega arith in
-        let bare : Takes 0 (Err NoSignBit) ≡ (signed_entry o size n).reads (K.state s).taken (d.word ++ []) = subst (λ m. Takes 0 (Err NoSignBit) ≡ (signed_entry o size m).reads (K.state s).taken (d.word ++ [])) e ((signed-none o size).reads (K.state s).taken (d.word ++ [])) in
+        let bare : Takes 0 (Err NoSignBit) ≡ (signed_entry o size n).reads (K.state s).taken (d.word ++ []) =
+        subst (λ m. Takes 0 (Err NoSignBit) ≡ (signed_entry o size m).reads (K.state s).taken (d.word ++ [])) e
+        ((signed-none o size).reads (K.state s).taken (d.word ++ [])) in
         let found = d.decides [] in
         cc
   ]
 
   signed-within : {x : ℤ} → Reads K (signed_entry o size n) s (Ok x) t → n ≤ size
   signed-within {x} h = elim (cases_lt size n) [
-    | inl wide ↦ let d = front h in let refused = signed-wide o size n (K.state s).taken (d.word ++ []) wide in let found = d.decides [] in cc
+    | inl wide ↦ let d = front h in let refused = signed-wide o size n (K.state s).taken (d.word ++ []) wide in
+        let found = d.decides [] in cc
     | inr le ↦ le
   ]
 
@@ -79,26 +87,35 @@ module _ {R : Type 0} {K : BitSource R} (o : Order) (size n : ℕ) {s t : R} whe
   signed-holds {x} h =
       let some = signed-some h in
       let le = signed-within h in
-      let d = front h in
-      (le, front-fits o n (length d.word) (d.word ++ []) x some (sym ((signed-word o size n some le).reads (K.state s).taken (d.word ++ [])) ∙ d.decides []))
+      let d = front h in (
+        le,
+        front-fits o n (length d.word) (d.word ++ []) x some
+            (sym ((signed-word o size n some le).reads (K.state s).taken (d.word ++ [])) ∙ d.decides []),
+      )
 
 -- ---- reads
 
-module _ {A C : Type 0} (counted : A → C × ℤ) (count : C) {R : Type 0} {K : BitSource R} (o : Order) (size n : ℕ) {s t : R} where
-  pub checked-stops : {x : Error} (r : Result A Error) → IsErrAnd r (λ y. y ≡ x) → Reads K (unsigned_entry o size n) s (Err x) t → Reads K (checked_entry count o size n) s (seen counted r) t
+module _ {A C : Type 0} (counted : A → C × ℤ) (count : C) {R : Type 0} {K : BitSource R} (o : Order) (size n : ℕ)
+    {s t : R} where
+  pub checked-stops : {x : Error} (r : Result A Error) → IsErrAnd r (λ y. y ≡ x)
+      → Reads K (unsigned_entry o size n) s (Err x) t → Reads K (checked_entry count o size n) s (seen counted r) t
   unfolding checked_entry
   checked-stops {x} r h k = exit (λ v. gives (count, pos v)) (seen counted r) (seen_is x counted r h) k
 
-  pub signed_checked-stops : {x : Error} (r : Result A Error) → IsErrAnd r (λ y. y ≡ x) → Reads K (signed_entry o size n) s (Err x) t → Reads K (signed_checked_entry count o size n) s (seen counted r) t
+  pub signed_checked-stops : {x : Error} (r : Result A Error) → IsErrAnd r (λ y. y ≡ x)
+      → Reads K (signed_entry o size n) s (Err x) t → Reads K (signed_checked_entry count o size n) s (seen counted r) t
   unfolding signed_checked_entry
   signed_checked-stops {x} r h k = exit (λ v. gives (count, v)) (seen counted r) (seen_is x counted r h) k
 
-module _ {C : Type 0} (count : C) {R : Type 0} {K : BitSource R} (o : Order) (size n : ℕ) {d : C} {z : ℤ} {s t : R} where
-  pub checked-was_done : {v : ℕ} → d ≡ count → z ≡ pos v → Reads K (unsigned_entry o size n) s (Ok v) t → Reads K (checked_entry count o size n) s (Ok (d, z)) t
+module _ {C : Type 0} (count : C) {R : Type 0} {K : BitSource R} (o : Order) (size n : ℕ) {d : C} {z : ℤ}
+    {s t : R} where
+  pub checked-was_done : {v : ℕ} → d ≡ count → z ≡ pos v → Reads K (unsigned_entry o size n) s (Ok v) t
+      → Reads K (checked_entry count o size n) s (Ok (d, z)) t
   unfolding checked_entry
   checked-was_done same is h = rw (same, is) (Reads-chain-ok _ (λ v. gives (count, pos v)) h (Reads-gives _ t))
 
-  pub signed_checked-was_done : {x : ℤ} → d ≡ count → z ≡ x → Reads K (signed_entry o size n) s (Ok x) t → Reads K (signed_checked_entry count o size n) s (Ok (d, z)) t
+  pub signed_checked-was_done : {x : ℤ} → d ≡ count → z ≡ x → Reads K (signed_entry o size n) s (Ok x) t
+      → Reads K (signed_checked_entry count o size n) s (Ok (d, z)) t
   unfolding signed_checked_entry
   signed_checked-was_done same is h = rw (same, is) (Reads-chain-ok _ (λ v. gives (count, v)) h (Reads-gives _ t))
 
@@ -106,8 +123,14 @@ module _ {C : Type 0} (count : C) {R : Type 0} {K : BitSource R} (o : Order) (si
 
 -- a value that its count holds is its word
 module _ {S T : Type 0} (K : Sink S) (o : Order) (size : ℕ) {m k n : ℕ} {r : Result T Error} {s t : S} where
-  pub writes-held : {u v : ℕ} → m ≡ k → k ≡ n → u ≡ v → HoldsUnsigned size k u → Writes K (unsigned o size m u) s r t → Writes K (plain (word o n v)) s r t
-  writes-held {u} p q is holds h = rw (← q, ← is) (restate K _ _ _ _ _ (unsigned-fits o size k u (K.len s) holds.0 holds.1) (rw p at h))
+  pub writes-held : {u v : ℕ} → m ≡ k → k ≡ n → u ≡ v → HoldsUnsigned size k u → Writes K (unsigned o size m u) s r t
+      → Writes K (plain (word o n v)) s r t
+  writes-held {u} p q is holds h = rw (← q, ← is) (restate K _ _ _ _ _
+      (unsigned-fits o size k u (K.len s) holds.0 holds.1) (rw p at h))
 
-  pub writes-held_signed : {x y : ℤ} → 1 ≤ m → m ≡ k → k ≡ n → x ≡ y → HoldsSigned size k x → Writes K (signed o size m x) s r t → Writes K (plain (signed_word o n y)) s r t
-  writes-held_signed {x} some p q is holds h = rw (← q, ← is) (restate K _ _ _ _ _ (signed-accepts o size k x (K.len s) (omega (arith, some, p)) holds) (rw p at h))
+  pub writes-held_signed : {x y : ℤ} → 1 ≤ m → m ≡ k → k ≡ n → x ≡ y → HoldsSigned size k x
+      → Writes K (signed o size m x) s r t → Writes K (plain (signed_word o n y)) s r t
+  writes-held_signed {x} some p q is holds h = rw (
+    ← q,
+    ← is,
+  ) (restate K _ _ _ _ _ (signed-accepts o size k x (K.len s) (omega (arith, some, p)) holds) (rw p at h))

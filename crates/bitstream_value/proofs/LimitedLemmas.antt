@@ -42,10 +42,12 @@ some-path true k (suc m) zero less = rw tree-true (ap Some (omega arith))
 some-path false k (suc m) zero less = rw tree-false (ap Some (omega arith))
 some-path true k (suc m) (suc i) less =
     let place : (k + 1) + i ≡ k + suc i = omega arith in
-    rw tree-true (subst (λ v. IsPath (limited_tree true (k + 1) m) (unary true i) (Some v)) place (some-path true (k + 1) m i (omega arith)))
+    rw tree-true (subst (λ v. IsPath (limited_tree true (k + 1) m) (unary true i) (Some v)) place
+    (some-path true (k + 1) m i (omega arith)))
 some-path false k (suc m) (suc i) less =
     let place : (k + 1) + i ≡ k + suc i = omega arith in
-    rw tree-false (subst (λ v. IsPath (limited_tree false (k + 1) m) (unary false i) (Some v)) place (some-path false (k + 1) m i (omega arith)))
+    rw tree-false (subst (λ v. IsPath (limited_tree false (k + 1) m) (unary false i) (Some v)) place
+    (some-path false (k + 1) m i (omega arith)))
 
 -- a path of the tree is the word of none, or that of a number
 record IsNumber (stop : Bool) (k m : ℕ) (w : List Bool) (v : Option ℕ) : Type 0 where
@@ -57,7 +59,8 @@ record IsNumber (stop : Bool) (k m : ℕ) (w : List Bool) (v : Option ℕ) : Typ
 Is : Bool → ℕ → ℕ → List Bool → Option ℕ → Type 0
 Is stop k m w v = ((v ≡ None) × (w ≡ replicate m (not stop))) ⊎ IsNumber stop k m w v
 
-further : (stop : Bool) (k m : ℕ) (w : List Bool) (v : Option ℕ) → Is stop (k + 1) m w v → Is stop k (suc m) (not stop ∷ w) v
+further : (stop : Bool) (k m : ℕ) (w : List Bool) (v : Option ℕ) → Is stop (k + 1) m w v
+    → Is stop k (suc m) (not stop ∷ w) v
 unfolding Is
 further stop k m w v (inl h) = inl (h.0, ap (λ u. not stop ∷ u) h.1)
 further stop k m w v (inr h) = inr (record {
@@ -69,7 +72,13 @@ further stop k m w v (inr h) = inr (record {
 
 here : (stop : Bool) (k m : ℕ) (w : List Bool) (v : Option ℕ) → w ≡ [] → Some k ≡ v → Is stop k (suc m) (stop ∷ w) v
 unfolding Is
-here stop k m w v e h = inr (record { number = 0; below = omega arith; value = sym h ∙ ap Some (omega arith); word = ap (λ u. stop ∷ u) e })
+here stop k m w v e h = inr (record {
+  number = 0;
+  below = omega arith;
+  value = sym h ∙ ap Some (omega arith);
+  word =
+      ap (λ u. stop ∷ u) e;
+})
 
 leaf-path : {S : Type 0} (x : S) (w : List Bool) (s : S) → IsPath (leaf x) w s → (w ≡ []) × (x ≡ s)
 leaf-path x [] s h = (refl, h)
@@ -83,15 +92,19 @@ path-is true k (suc m) (false ∷ w) v h = further true k m w v (path-is true (k
 path-is true k (suc m) (true ∷ w) v h = let e = leaf-path (Some k) w v (rw tree-true at h) in here true k m w v e.0 e.1
 path-is false k (suc m) [] v h = absurd (rw tree-false at h)
 path-is false k (suc m) (true ∷ w) v h = further false k m w v (path-is false (k + 1) m w v (rw tree-false at h))
-path-is false k (suc m) (false ∷ w) v h = let e = leaf-path (Some k) w v (rw tree-false at h) in here false k m w v e.0 e.1
+path-is false k (suc m) (false ∷ w) v h = let e = leaf-path (Some k) w v (rw tree-false at h) in
+    here false k m w v e.0 e.1
 
-pub limited-path : (stop : Bool) (most : ℕ) (v : Option ℕ) → IfSome v (λ k. k < most) → IsPath (limited_tree stop 0 most) (limited_unary stop most v) v
+pub limited-path : (stop : Bool) (most : ℕ) (v : Option ℕ) → IfSome v (λ k. k < most)
+    → IsPath (limited_tree stop 0 most) (limited_unary stop most v) v
 limited-path stop most None fits = none-path stop 0 most
 limited-path stop most (Some k) fits =
     let same : 0 + k ≡ k = omega arith in
-    rw (lt-ltb k most fits) (subst (λ i. IsPath (limited_tree stop 0 most) (unary stop k) (Some i)) same (some-path stop 0 most k fits))
+    rw (lt-ltb k most fits) (subst (λ i. IsPath (limited_tree stop 0 most) (unary stop k) (Some i)) same
+    (some-path stop 0 most k fits))
 
-limited-is : (stop : Bool) (most : ℕ) (w : List Bool) (v : Option ℕ) → Is stop 0 most w v → IfSome v (λ k. k < most) × (w ≡ limited_unary stop most v)
+limited-is : (stop : Bool) (most : ℕ) (w : List Bool) (v : Option ℕ) → Is stop 0 most w v → IfSome v (λ k. k < most)
+    × (w ≡ limited_unary stop most v)
 unfolding Is
 limited-is stop most w None (inl h) = (tt, h.1)
 limited-is stop most w (Some k) (inl h) = let e = h.0 in absurd cc
@@ -103,7 +116,8 @@ limited-is stop most w (Some k) (inr h) =
     let fits : k < most = let less = h.below in omega arith in
     (fits, rw (lt-ltb k most fits) (h.word ∙ ap (unary stop) is))
 
-pub limited-paths : (stop : Bool) (most : ℕ) (w : List Bool) (v : Option ℕ) → IsPath (limited_tree stop 0 most) w v → IfSome v (λ k. k < most) × (w ≡ limited_unary stop most v)
+pub limited-paths : (stop : Bool) (most : ℕ) (w : List Bool) (v : Option ℕ) → IsPath (limited_tree stop 0 most) w v
+    → IfSome v (λ k. k < most) × (w ≡ limited_unary stop most v)
 limited-paths stop most w v h = limited-is stop most w v (path-is stop 0 most w v h)
 
 -- of those that are left, one and then others
@@ -114,40 +128,63 @@ left most k less = omega arith
 
 module _ {N : Type 0} {K : BitSource N} where
   -- one digit that is not the stop digit, and what follows it
-  digit-more : (stop : Bool) (k m : ℕ) (r : Result (Option ℕ) Error) {s u z : N} → Reads K bit_entry s (Ok (not stop)) u → Reads K (path_entry (limited_tree stop (k + 1) m)) u r z → Reads K (path_entry (limited_tree stop k (suc m))) s r z
-  digit-more true k m r h l = rw (tree-true, path_entry-node) (Reads-chain-ok bit_entry (λ c. if c then path_entry (leaf (Some k)) else path_entry (limited_tree true (k + 1) m)) h l)
-  digit-more false k m r h l = rw (tree-false, path_entry-node) (Reads-chain-ok bit_entry (λ c. if c then path_entry (limited_tree false (k + 1) m) else path_entry (leaf (Some k))) h l)
+  digit-more : (stop : Bool) (k m : ℕ) (r : Result (Option ℕ) Error) {s u z : N} → Reads K bit_entry s (Ok (not stop)) u
+      → Reads K (path_entry (limited_tree stop (k + 1) m)) u r z
+      → Reads K (path_entry (limited_tree stop k (suc m))) s r z
+  digit-more true k m r h l = rw (tree-true, path_entry-node)
+      (Reads-chain-ok bit_entry (λ c. if c then path_entry (leaf (Some k)) else path_entry
+      (limited_tree true (k + 1) m)) h l)
+  digit-more false k m r h l = rw (tree-false, path_entry-node)
+      (Reads-chain-ok bit_entry (λ c. if c then path_entry (limited_tree false (k + 1) m) else path_entry
+      (leaf (Some k))) h l)
 
-  digit-stop : (stop : Bool) (k m : ℕ) {s u : N} → Reads K bit_entry s (Ok stop) u → Reads K (path_entry (limited_tree stop k (suc m))) s (Ok (Some k)) u
-  digit-stop true k m {u = u} h = rw (tree-true, path_entry-node) (Reads-chain-ok bit_entry (λ c. if c then path_entry (leaf (Some k)) else path_entry (limited_tree true (k + 1) m)) h (rw path_entry-leaf (Reads-gives (Some k) u)))
-  digit-stop false k m {u = u} h = rw (tree-false, path_entry-node) (Reads-chain-ok bit_entry (λ c. if c then path_entry (limited_tree false (k + 1) m) else path_entry (leaf (Some k))) h (rw path_entry-leaf (Reads-gives (Some k) u)))
+  digit-stop : (stop : Bool) (k m : ℕ) {s u : N} → Reads K bit_entry s (Ok stop) u
+      → Reads K (path_entry (limited_tree stop k (suc m))) s (Ok (Some k)) u
+  digit-stop true k m {u = u} h = rw (tree-true, path_entry-node)
+      (Reads-chain-ok bit_entry (λ c. if c then path_entry (leaf (Some k)) else path_entry
+      (limited_tree true (k + 1) m)) h (rw path_entry-leaf (Reads-gives (Some k) u)))
+  digit-stop false k m {u = u} h = rw (tree-false, path_entry-node)
+      (Reads-chain-ok bit_entry (λ c. if c then path_entry (limited_tree false (k + 1) m) else path_entry
+      (leaf (Some k))) h (rw path_entry-leaf (Reads-gives (Some k) u)))
 
-  digit-refused : (stop : Bool) (k m : ℕ) {x : Error} (r : Result (Option ℕ) Error) {s u : N} → IsErrAnd r (λ y. y ≡ x) → Reads K bit_entry s (Err x) u → Reads K (path_entry (limited_tree stop k (suc m))) s r u
-  digit-refused true k m r e h = rw (tree-true, path_entry-node) (exit (λ c. if c then path_entry (leaf (Some k)) else path_entry (limited_tree true (k + 1) m)) r e h)
-  digit-refused false k m r e h = rw (tree-false, path_entry-node) (exit (λ c. if c then path_entry (limited_tree false (k + 1) m) else path_entry (leaf (Some k))) r e h)
+  digit-refused : (stop : Bool) (k m : ℕ) {x : Error} (r : Result (Option ℕ) Error) {s u : N} → IsErrAnd r (λ y. y ≡ x)
+      → Reads K bit_entry s (Err x) u → Reads K (path_entry (limited_tree stop k (suc m))) s r u
+  digit-refused true k m r e h = rw (tree-true, path_entry-node)
+      (exit (λ c. if c then path_entry (leaf (Some k)) else path_entry (limited_tree true (k + 1) m)) r e h)
+  digit-refused false k m r e h = rw (tree-false, path_entry-node)
+      (exit (λ c. if c then path_entry (limited_tree false (k + 1) m) else path_entry (leaf (Some k))) r e h)
 
 -- k digits were read, and what is read from there on is the answer
 pub record Counting {N : Type 0} (K : BitSource N) (stop : Bool) (most : ℕ) (from : N) (k : ℕ) (to : N) : Type 0 where
-  pub on : (r : Result (Option ℕ) Error) (z : N) → Reads K (path_entry (limited_tree stop k (most - k))) to r z → Reads K (path_entry (limited_tree stop 0 most)) from r z
+  pub on : (r : Result (Option ℕ) Error) (z : N) → Reads K (path_entry (limited_tree stop k (most - k))) to r z
+      → Reads K (path_entry (limited_tree stop 0 most)) from r z
 
 module _ {N : Type 0} {K : BitSource N} {stop : Bool} {most : ℕ} {from : N} where
   pub Counting-start : Counting K stop most from 0 from
   Counting-start = record { on = λ r z h. let all : most - 0 ≡ most = omega arith in rw all at h }
 
-  pub Counting-more : {k : ℕ} {to m : N} → Counting K stop most from k to → k < most → Reads K bit_entry to (Ok (not stop)) m → Counting K stop most from (k + 1) m
+  pub Counting-more : {k : ℕ} {to m : N} → Counting K stop most from k to → k < most
+      → Reads K bit_entry to (Ok (not stop)) m → Counting K stop most from (k + 1) m
   Counting-more {k = k} {to = to} h less d = record {
-    on = λ r z l. h.on r z (subst (λ i. Reads K (path_entry (limited_tree stop k i)) to r z) (sym (left most k less)) (digit-more stop k (most - (k + 1)) r d l));
+    on = λ r z l. h.on r z (subst (λ i. Reads K (path_entry (limited_tree stop k i)) to r z) (sym (left most k less))
+        (digit-more stop k (most - (k + 1)) r d l));
   }
 
-  pub Counting-stop : {k : ℕ} {to m : N} → Counting K stop most from k to → k < most → Reads K bit_entry to (Ok stop) m → Reads K (path_entry (limited_tree stop 0 most)) from (Ok (Some k)) m
+  pub Counting-stop : {k : ℕ} {to m : N} → Counting K stop most from k to → k < most → Reads K bit_entry to (Ok stop) m
+      → Reads K (path_entry (limited_tree stop 0 most)) from (Ok (Some k)) m
   Counting-stop {k = k} {to = to} {m = m} h less d =
-      h.on (Ok (Some k)) m (subst (λ i. Reads K (path_entry (limited_tree stop k i)) to (Ok (Some k)) m) (sym (left most k less)) (digit-stop stop k (most - (k + 1)) d))
+      h.on (Ok (Some k)) m (subst (λ i. Reads K (path_entry (limited_tree stop k i)) to (Ok (Some k)) m)
+      (sym (left most k less)) (digit-stop stop k (most - (k + 1)) d))
 
-  pub Counting-refused : {k : ℕ} {to m : N} {x : Error} (r : Result (Option ℕ) Error) → Counting K stop most from k to → k < most → IsErrAnd r (λ y. y ≡ x) → Reads K bit_entry to (Err x) m → Reads K (path_entry (limited_tree stop 0 most)) from r m
+  pub Counting-refused : {k : ℕ} {to m : N} {x : Error} (r : Result (Option ℕ) Error) → Counting K stop most from k to
+      → k < most → IsErrAnd r (λ y. y ≡ x) → Reads K bit_entry to (Err x) m
+      → Reads K (path_entry (limited_tree stop 0 most)) from r m
   Counting-refused {k = k} {to = to} {m = m} r h less e d =
-      h.on r m (subst (λ i. Reads K (path_entry (limited_tree stop k i)) to r m) (sym (left most k less)) (digit-refused stop k (most - (k + 1)) r e d))
+      h.on r m (subst (λ i. Reads K (path_entry (limited_tree stop k i)) to r m) (sym (left most k less))
+      (digit-refused stop k (most - (k + 1)) r e d))
 
-  pub Counting-end : {k : ℕ} {to : N} → Counting K stop most from k to → k ≡ most → Reads K (path_entry (limited_tree stop 0 most)) from (Ok None) to
+  pub Counting-end : {k : ℕ} {to : N} → Counting K stop most from k to → k ≡ most
+      → Reads K (path_entry (limited_tree stop 0 most)) from (Ok None) to
   Counting-end {k = k} {to = to} h all =
       let none : most - k ≡ 0 = omega arith in
       h.on (Ok None) to (rw (none, tree-end, path_entry-leaf) (Reads-gives None to))
@@ -169,22 +206,29 @@ other-digit false false h = absurd cc
 
 -- so many of the same bits were written, and what is written from there on is all
 pub record Repeating {P : Type 0} (K : Sink P) (b : Bool) (times : ℕ) (from : P) (k : ℕ) (to : P) : Type 0 where
-  pub on : (r : Result (Unit {0}) Error) (z : P) → WritesAll K (bit_by_bit (replicate (times - k) b)) to r z → WritesAll K (bit_by_bit (replicate times b)) from r z
+  pub on : (r : Result (Unit {0}) Error) (z : P) → WritesAll K (bit_by_bit (replicate (times - k) b)) to r z
+      → WritesAll K (bit_by_bit (replicate times b)) from r z
 
 module _ {P : Type 0} {K : Sink P} {b : Bool} {times : ℕ} {from : P} where
   pub Repeating-start : Repeating K b times from 0 from
   Repeating-start = record { on = λ r z h. let all : times - 0 ≡ times = omega arith in rw all at h }
 
-  pub Repeating-more : {k : ℕ} {to m : P} → Repeating K b times from k to → k < times → Writes {T = Unit {0}} K (bit b) to (Ok tt) m → Repeating K b times from (k + 1) m
+  pub Repeating-more : {k : ℕ} {to m : P} → Repeating K b times from k to → k < times
+      → Writes {T = Unit {0}} K (bit b) to (Ok tt) m → Repeating K b times from (k + 1) m
   Repeating-more {k = k} {to = to} {m = m} h less w = record {
-    on = λ r z l. h.on r z (subst (λ i. WritesAll K (bit_by_bit (replicate i b)) to r z) (sym (left times k less)) (all_more K (bit b) (bit_by_bit (replicate (times - (k + 1)) b)) to m r z w l));
+    on = λ r z l. h.on r z (subst (λ i. WritesAll K (bit_by_bit (replicate i b)) to r z) (sym (left times k less))
+        (all_more K (bit b) (bit_by_bit (replicate (times - (k + 1)) b)) to m r z w l));
   }
 
-  pub Repeating-refused : {k : ℕ} {to m : P} {x : Error} (r : Result (Unit {0}) Error) → Repeating K b times from k to → k < times → r ≡ Err x → Writes {T = Unit {0}} K (bit b) to (Err x) m → WritesAll K (bit_by_bit (replicate times b)) from r m
+  pub Repeating-refused : {k : ℕ} {to m : P} {x : Error} (r : Result (Unit {0}) Error) → Repeating K b times from k to
+      → k < times → r ≡ Err x → Writes {T = Unit {0}} K (bit b) to (Err x) m
+      → WritesAll K (bit_by_bit (replicate times b)) from r m
   Repeating-refused {k = k} {to = to} {m = m} {x = x} r h less e w =
-      h.on r m (subst (λ i. WritesAll K (bit_by_bit (replicate i b)) to r m) (sym (left times k less)) (all_err K (bit b) (bit_by_bit (replicate (times - (k + 1)) b)) to r x m e w))
+      h.on r m (subst (λ i. WritesAll K (bit_by_bit (replicate i b)) to r m) (sym (left times k less))
+      (all_err K (bit b) (bit_by_bit (replicate (times - (k + 1)) b)) to r x m e w))
 
-  pub Repeating-end : {k : ℕ} {to : P} → Repeating K b times from k to → k ≡ times → WritesAll K (bit_by_bit (replicate times b)) from (Ok tt) to
+  pub Repeating-end : {k : ℕ} {to : P} → Repeating K b times from k to → k ≡ times
+      → WritesAll K (bit_by_bit (replicate times b)) from (Ok tt) to
   Repeating-end {k = k} {to = to} h all =
       let none : times - k ≡ 0 = omega arith in
       h.on (Ok tt) to (rw none (all_none K to))
@@ -194,11 +238,16 @@ module _ {P : Type 0} (K : Sink P) (stop : Bool) (most k : ℕ) where
   parts = map-append bit (replicate k (not stop)) (stop ∷ [])
 
   -- the digits of a number and the stop digit, or digits that are refused
-  pub number-done : k < most → (old mid new : P) (r : Result (Unit {0}) Error) → WritesAll K (bit_by_bit (replicate k (not stop))) old (Ok tt) mid → Writes K (bit stop) mid r new → WritesAll K (bit_by_bit (limited_unary stop most (Some k))) old r new
+  pub number-done : k < most → (old mid new : P) (r : Result (Unit {0}) Error)
+      → WritesAll K (bit_by_bit (replicate k (not stop))) old (Ok tt) mid → Writes K (bit stop) mid r new
+      → WritesAll K (bit_by_bit (limited_unary stop most (Some k))) old r new
   number-done less old mid new r h w =
-      rw (lt-ltb k most less, parts) (all_append K (bit_by_bit (replicate k (not stop))) (bit stop ∷ []) old mid r new h (all_one K (bit stop) mid r new w))
+      rw (lt-ltb k most less, parts) (all_append K (bit_by_bit (replicate k (not stop))) (bit stop ∷ []) old mid r new h
+      (all_one K (bit stop) mid r new w))
 
-  pub number-refused : k < most → (old new : P) (x : Error) (r : Result (Unit {0}) Error) → r ≡ Err x → WritesAll K (bit_by_bit (replicate k (not stop))) old (Err x) new → WritesAll K (bit_by_bit (limited_unary stop most (Some k))) old r new
+  pub number-refused : k < most → (old new : P) (x : Error) (r : Result (Unit {0}) Error) → r ≡ Err x
+      → WritesAll K (bit_by_bit (replicate k (not stop))) old (Err x) new
+      → WritesAll K (bit_by_bit (limited_unary stop most (Some k))) old r new
   number-refused less old new x r e h =
       rw (lt-ltb k most less, parts) (all_stop K (bit_by_bit (replicate k (not stop))) (bit stop ∷ []) old x r new e h)
 

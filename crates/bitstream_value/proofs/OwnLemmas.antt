@@ -9,23 +9,43 @@ use Rattle.bitstream_stream.proofs.ReadsLemmas.{Reads-chain-ok, Reads-chain-err,
 use Rattle.bitstream_value.specs.Own.{OwnAnswer, ReadsOwn, WritesOwn, same_error, plain_reads, must_hold}
 
 -- reads that have no error but the reader's
-pub plainly_read : {R A : Type 0} {K : BitSource R} {e : ReadEntry A} {r : Result A Error} {s t : R} → Reads K e s r t → ReadsOwn K same_error (plain_reads e) s r t
-plainly_read {r = Ok a} {t = t} h = record { plain = Ok (Ok a); called = Reads-chain-ok _ _ h (Reads-gives (Ok a) t); answer = refl }
+pub plainly_read : {R A : Type 0} {K : BitSource R} {e : ReadEntry A} {r : Result A Error} {s t : R} → Reads K e s r t
+    → ReadsOwn K same_error (plain_reads e) s r t
+plainly_read {r = Ok a} {t = t} h = record {
+  plain = Ok (Ok a);
+  called = Reads-chain-ok _ _ h (Reads-gives (Ok a) t);
+  answer = refl;
+}
 plainly_read {r = Err x} h = record { plain = Err x; called = Reads-chain-err _ _ h; answer = refl }
 
 -- writes that have no error but the sink's
-pub plainly_written : {S : Type 0} (K : Sink S) (es : List WriteEntry) (r : Result (Unit {0}) Error) (s t : S) → WritesAll K es s r t → WritesOwn K same_error es (Ok tt) s r t
+pub plainly_written : {S : Type 0} (K : Sink S) (es : List WriteEntry) (r : Result (Unit {0}) Error) (s t : S)
+    → WritesAll K es s r t → WritesOwn K same_error es (Ok tt) s r t
 plainly_written K es (Ok v) s t h = record { plain = Ok v; called = h; answer = refl }
 plainly_written K es (Err x) s t h = record { plain = Err x; called = h; answer = refl }
 
-const_by : {R E : Type 0} (K : BitSource R) (becomes : Error → E → Type 0) (entry : ReadEntry Bool) (err : E) (s : R) (r : Result (Unit {0}) E) (t : R) (plain : Result Bool Error) → Reads K entry s plain t → ConstAnswer becomes err plain r
+const_by : {R E : Type 0} (K : BitSource R) (becomes : Error → E → Type 0) (entry : ReadEntry Bool) (err : E)
+    (s : R) (r : Result (Unit {0}) E) (t : R) (plain : Result Bool Error) → Reads K entry s plain t
+    → ConstAnswer becomes err plain r
     → ReadsOwn K becomes (must_hold entry err) s r t
-const_by K becomes entry err s r t (Ok true) h is = record { plain = Ok (Ok tt); called = Reads-chain-ok _ _ h (Reads-gives (Ok tt) t); answer = is }
-const_by K becomes entry err s r t (Ok false) h is = record { plain = Ok (Err err); called = Reads-chain-ok _ _ h (Reads-gives (Err err) t); answer = is }
+const_by K becomes entry err s r t (Ok true) h is = record {
+  plain = Ok (Ok tt);
+  called =
+      Reads-chain-ok _ _ h (Reads-gives (Ok tt) t);
+  answer = is;
+}
+const_by K becomes entry err s r t (Ok false) h is = record {
+  plain = Ok (Err err);
+  called =
+      Reads-chain-ok _ _ h (Reads-gives (Err err) t);
+  answer = is;
+}
 const_by K becomes entry err s r t (Err x) h is = record { plain = Err x; called = Reads-chain-err _ _ h; answer = is }
 
 -- a read of a constant is a read with errors of its own
-pub const_read : {R E : Type 0} (K : BitSource R) (becomes : Error → E → Type 0) (entry : ReadEntry Bool) (err : E) (s : R) (r : Result (Unit {0}) E) (t : R) → ReadsConst K becomes entry err s r t → ReadsOwn K becomes (must_hold entry err) s r t
+pub const_read : {R E : Type 0} (K : BitSource R) (becomes : Error → E → Type 0) (entry : ReadEntry Bool) (err : E)
+    (s : R) (r : Result (Unit {0}) E) (t : R) → ReadsConst K becomes entry err s r t
+    → ReadsOwn K becomes (must_hold entry err) s r t
 const_read K becomes entry err s r t h = const_by K becomes entry err s r t h.plain h.reads h.answer
 
 -- what the exit of a `?` returns
@@ -34,11 +54,14 @@ is_error (Ok a) x h = absurd h
 is_error (Err y) x h = ap Err h
 
 -- writes that have no error but the sink's are such writes
-written_by : {S : Type 0} (K : Sink S) (es : List WriteEntry) (r : Result (Unit {0}) Error) (s t : S) (plain : Result (Unit {0}) Error) → WritesAll K es s plain t → OwnAnswer same_error (λ _. Ok tt) plain r → WritesAll K es s r t
+written_by : {S : Type 0} (K : Sink S) (es : List WriteEntry) (r : Result (Unit {0}) Error) (s t : S)
+    (plain : Result (Unit {0}) Error) → WritesAll K es s plain t → OwnAnswer same_error (λ _. Ok tt) plain r
+    → WritesAll K es s r t
 written_by K es r s t (Ok v) h is = subst (λ x. WritesAll K es s x t) (sym is) h
 written_by K es r s t (Err x) h is = subst (λ y. WritesAll K es s y t) (sym (is_error r x is)) h
 
-pub written_plainly : {S : Type 0} (K : Sink S) (es : List WriteEntry) (r : Result (Unit {0}) Error) (s t : S) → WritesOwn K same_error es (Ok tt) s r t → WritesAll K es s r t
+pub written_plainly : {S : Type 0} (K : Sink S) (es : List WriteEntry) (r : Result (Unit {0}) Error) (s t : S)
+    → WritesOwn K same_error es (Ok tt) s r t → WritesAll K es s r t
 written_plainly K es r s t h = written_by K es r s t h.plain h.called h.answer
 
 -- ---- reads that have no error but the reader's are such reads
@@ -48,17 +71,22 @@ abbrev joined : {A : Type 0} → Result (Result A Error) Error → Result A Erro
 joined (Ok answer) = answer
 joined (Err x) = Err x
 
-front_taken : {A : Type 0} (f : Front A) (n : ℕ) (r : Result (Result A Error) Error) → front_then f (λ m a. Takes 0 (Ok (Ok a))) ≡ Takes n r → f ≡ Takes n (joined r)
+front_taken : {A : Type 0} (f : Front A) (n : ℕ) (r : Result (Result A Error) Error)
+    → front_then f (λ m a. Takes 0 (Ok (Ok a))) ≡ Takes n r → f ≡ Takes n (joined r)
 front_taken TooFew n r h = cc
-front_taken (Takes m (Ok a)) n r h = let here : m ≡ m + 0 = omega arith in let size : m + 0 ≡ n = cc in let same : Ok (Ok a) ≡ r = cc in ap (λ k. Takes k (Ok a)) (here ∙ size) ∙ ap (λ (x : Result _ Error). Takes n (joined x)) same
-front_taken (Takes m (Err x)) n r h = let size : m ≡ n = cc in let same : Err x ≡ r = cc in ap (λ k. Takes k (Err x)) size ∙ ap (λ (y : Result _ Error). Takes n (joined y)) same
+front_taken (Takes m (Ok a)) n r h = let here : m ≡ m + 0 = omega arith in let size : m + 0 ≡ n = cc in let same :
+    Ok (Ok a) ≡ r = cc in ap (λ k. Takes k (Ok a)) (here ∙ size) ∙ ap (λ (x : Result _ Error). Takes n (joined x)) same
+front_taken (Takes m (Err x)) n r h = let size : m ≡ n = cc in let same : Err x ≡ r = cc in
+    ap (λ k. Takes k (Err x)) size ∙ ap (λ (y : Result _ Error). Takes n (joined y)) same
 
-front_short : {A : Type 0} (f : Front A) → front_then {B = Result A Error} f (λ m a. Takes 0 (Ok (Ok a))) ≡ TooFew → f ≡ TooFew
+front_short : {A : Type 0} (f : Front A) → front_then {B = Result A Error} f (λ m a. Takes 0 (Ok (Ok a))) ≡ TooFew → f
+    ≡ TooFew
 front_short TooFew h = refl
 front_short (Takes m (Ok a)) h = cc
 front_short (Takes m (Err x)) h = cc
 
-front_never : {A : Type 0} (f : Front A) (n : ℕ) (y : Error) → front_then {B = Result A Error} f (λ m a. Takes 0 (Ok (Ok a))) ≡ Takes n (Ok (Err y)) → ⊥
+front_never : {A : Type 0} (f : Front A) (n : ℕ) (y : Error)
+    → front_then {B = Result A Error} f (λ m a. Takes 0 (Ok (Ok a))) ≡ Takes n (Ok (Err y)) → ⊥
 front_never TooFew n y h = cc
 front_never (Takes m (Ok a)) n y h = cc
 front_never (Takes m (Err x)) n y h = cc
@@ -67,7 +95,8 @@ failed_joined : {A : Type 0} (y : Result A Error) → joined (result_then y (λ 
 failed_joined (Ok a) = refl
 failed_joined (Err x) = refl
 
-failed_never : {A : Type 0} (z : Result A Error) (y : Error) → Ok (Err y) ≡ result_then {B = Result A Error} z (λ a. Ok (Ok a)) → ⊥
+failed_never : {A : Type 0} (z : Result A Error) (y : Error) → Ok (Err y)
+    ≡ result_then {B = Result A Error} z (λ a. Ok (Ok a)) → ⊥
 failed_never (Ok a) y h = cc
 failed_never (Err x) y h = cc
 
@@ -83,14 +112,21 @@ module _ {R A : Type 0} (K : BitSource R) (e : ReadEntry A) (s t : R) where
   never y (was_refused h) = let p = h.answer in cc
   never y (memory_refused g h) = let p = h.answer in cc
 
-  read_by : (plain : Result (Result A Error) Error) → is_run_too_long (joined plain) ≡ is_run_too_long plain → Reads K (plain_reads e) s plain t → Reads K e s (joined plain) t
+  read_by : (plain : Result (Result A Error) Error) → is_run_too_long (joined plain) ≡ is_run_too_long plain
+      → Reads K (plain_reads e) s plain t → Reads K e s (joined plain) t
   unfolding chain
   read_by plain long h =
       Reads-behind e (plain_reads e) [] (joined plain) plain s s t (Begun-nil K s)
-      (record { needs = λ front b back is. absurd (none_needed front b back is); short = λ more few. front_short (e.reads (K.state s).taken more) few })
-      (λ broken q. ap joined q ∙ failed_joined e.on_failed) (λ y q. ap joined q) long (λ v d more. front_taken (e.reads (K.state s).taken (v ++ more)) (length v) plain (d more)) h
+      (record {
+        needs = λ front b back is. absurd (none_needed front b back is);
+        short =
+            λ more few. front_short (e.reads (K.state s).taken more) few;
+      })
+      (λ broken q. ap joined q ∙ failed_joined e.on_failed) (λ y q. ap joined q) long
+      (λ v d more. front_taken (e.reads (K.state s).taken (v ++ more)) (length v) plain (d more)) h
 
-  read_of : (plain : Result (Result A Error) Error) (r : Result A Error) → Reads K (plain_reads e) s plain t → OwnAnswer same_error (λ x. x) plain r → Reads K e s r t
+  read_of : (plain : Result (Result A Error) Error) (r : Result A Error) → Reads K (plain_reads e) s plain t
+      → OwnAnswer same_error (λ x. x) plain r → Reads K e s r t
   read_of (Ok (Ok a)) r h is = subst (λ x. Reads K e s x t) (sym is) (read_by (Ok (Ok a)) refl h)
   read_of (Ok (Err y)) r h is = absurd (never y h)
   read_of (Err x) r h is = subst (λ y. Reads K e s y t) (sym (is_error r x is)) (read_by (Err x) refl h)

@@ -32,24 +32,32 @@ use Rattle.bitstream_value.proofs.SureLemmas.{IsWord, unsigned-word, truth-word,
 
 -- the machine's integers of so many bits
 abbrev pub width_of : ℕ → Width
-width_of size = if size == 8 then w8 else if size == 16 then w16 else if size == 32 then w32 else if size == 64 then w64 else w128
+width_of size = if size == 8 then w8 else if size == 16 then w16 else if size == 32 then w32 else if size == 64 then w64
+    else w128
 
 -- a read whose answer a `?` looked at, and what follows it, or the end; a proof's record has these facts
-module _ {R A B : Type 0} {K : BitSource R} {e : ReadEntry A} (f : A → ReadEntry B) {r : Result B Error} {s t : R} {answer : Result A Error} {flow : ControlFlow _ A} where
-  pub then_read : {z : R} {a : A} → Reads K e s answer t → answer ≡ result_from_control_flow flow → flow ≡ Continue a → Reads K (f a) t r z → Reads K (chain e f) s r z
+module _ {R A B : Type 0} {K : BitSource R} {e : ReadEntry A} (f : A → ReadEntry B) {r : Result B Error}
+    {s t : R} {answer : Result A Error} {flow : ControlFlow _ A} where
+  pub then_read : {z : R} {a : A} → Reads K e s answer t → answer ≡ result_from_control_flow flow → flow ≡ Continue a
+      → Reads K (f a) t r z → Reads K (chain e f) s r z
   then_read h p q k = Reads-chain-ok e f (subst (λ x. Reads K e s x t) (p ∙ ap result_from_control_flow q) h) k
 
-  pub end_read : {x : _} → Reads K e s answer t → answer ≡ result_from_control_flow flow → flow ≡ Break x → IsErrAnd r (λ y. y ≡ x.0) → Reads K (chain e f) s r t
+  pub end_read : {x : _} → Reads K e s answer t → answer ≡ result_from_control_flow flow → flow ≡ Break x
+      → IsErrAnd r (λ y. y ≡ x.0) → Reads K (chain e f) s r t
   end_read h p q k = exit f r k (subst (λ x. Reads K e s x t) (p ∙ ap result_from_control_flow q) h)
 
 -- a number of a signed type, which stands behind the read as what its bits say
-module _ {R B : Type 0} {K : BitSource R} (o : Order) (size n : ℕ) (f : ℤ → ReadEntry B) {r : Result B Error} {s t z : R} {x : ℤ} where
+module _ {R B : Type 0} {K : BitSource R} (o : Order) (size n : ℕ) (f : ℤ → ReadEntry B) {r : Result B Error}
+    {s t z : R} {x : ℤ} where
   pub next_signed_read : Reads K (signed_entry o size n) s (Ok x) t → SFits (width_of size) x
-      → Reads K (f (to_z (width_of size) (of_z (width_of size) x))) t r z → Reads K (chain (signed_entry o size n) f) s r z
+      → Reads K (f (to_z (width_of size) (of_z (width_of size) x))) t r z
+      → Reads K (chain (signed_entry o size n) f) s r z
   next_signed_read h fits k = Reads-chain-ok _ f h (subst (λ y. Reads K (f y) t r z) (to_z-of_z _ x fits) k)
 
-  pub then_signed_read : {answer : Result ℤ Error} {flow : ControlFlow _ ℤ} → Reads K (signed_entry o size n) s answer t → answer ≡ result_from_control_flow flow → flow ≡ Continue x → SFits (width_of size) x
-      → Reads K (f (to_z (width_of size) (of_z (width_of size) x))) t r z → Reads K (chain (signed_entry o size n) f) s r z
+  pub then_signed_read : {answer : Result ℤ Error} {flow : ControlFlow _ ℤ} → Reads K (signed_entry o size n) s answer t
+      → answer ≡ result_from_control_flow flow → flow ≡ Continue x → SFits (width_of size) x
+      → Reads K (f (to_z (width_of size) (of_z (width_of size) x))) t r z
+      → Reads K (chain (signed_entry o size n) f) s r z
   then_signed_read h p q fits k = then_read f h p q (subst (λ y. Reads K (f y) t r z) (to_z-of_z _ x fits) k)
 
 -- each read that answered with a value, up to one whose error a `?` returned, or to the end: by the clauses
@@ -65,18 +73,30 @@ pub record Finds {A : Type 0} (b : List Bool) (k : ℕ) (e : ReadEntry A) (n : �
   pub there : (p : ℕ) → k + n ≤ length b → e.reads p (drop k b) ≡ Takes n r
   pub short : (p : ℕ) → k ≤ length b → length b < k + n → e.reads p (drop k b) ≡ TooFew
 
-word-finds : {A : Type 0} (b : List Bool) (k n : ℕ) (e : ReadEntry A) (g : List Bool → Result A Error) → IsWord e n g → Finds b k e n (g (take n (drop k b)))
+word-finds : {A : Type 0} (b : List Bool) (k n : ℕ) (e : ReadEntry A) (g : List Bool → Result A Error) → IsWord e n g
+    → Finds b k e n (g (take n (drop k b)))
 word-finds b k n e g word = record {
-  there = λ p enough. rw (word.reads p (drop k b), le-leb n (length (drop k b)) (let l = length-drop k b in omega arith)) refl;
-  short = λ p some few. rw (word.reads p (drop k b), lt-leb n (length (drop k b)) (let l = length-drop k b in omega arith)) refl;
+  there = λ p enough. rw (
+    word.reads p (drop k b),
+    le-leb n (length (drop k b)) (let l = length-drop k b in
+        omega arith),
+  ) refl;
+  short = λ p some few. rw (
+    word.reads p (drop k b),
+    lt-leb n (length (drop k b)) (let l = length-drop k b in
+        omega arith),
+  ) refl;
 }
 
-chain-finds : {A B : Type 0} (b : List Bool) (k n m : ℕ) (e : ReadEntry A) (f : A → ReadEntry B) (a : A) (r : Result B Error) → Finds b k e n (Ok a) → Finds b (k + n) (f a) m r → Finds b k (chain e f) (n + m) r
+chain-finds : {A B : Type 0} (b : List Bool) (k n m : ℕ) (e : ReadEntry A) (f : A → ReadEntry B) (a : A)
+    (r : Result B Error) → Finds b k e n (Ok a) → Finds b (k + n) (f a) m r → Finds b k (chain e f) (n + m) r
 chain-finds b k n m e f a r h t = record {
-  there = λ p enough. chain-ok e f p (drop k b) n a (h.there p (omega arith)) ∙ rw (drop-drop n k b, t.there (p + n) (omega arith)) refl;
+  there = λ p enough. chain-ok e f p (drop k b) n a (h.there p (omega arith))
+      ∙ rw (drop-drop n k b, t.there (p + n) (omega arith)) refl;
   short = λ p some few. elim (cases_lt (length b) (k + n)) [
     | inl less ↦ chain-none e f p (drop k b) (h.short p some less)
-    | inr enough ↦ chain-ok e f p (drop k b) n a (h.there p enough) ∙ rw (drop-drop n k b, t.short (p + n) enough (omega arith)) refl
+    | inr enough ↦ chain-ok e f p (drop k b) n a (h.there p enough)
+        ∙ rw (drop-drop n k b, t.short (p + n) enough (omega arith)) refl
   ];
 }
 
@@ -84,35 +104,48 @@ le_of : (n m : ℕ) → nat_le n m ≡ true → n ≤ m
 le_of n m h = grind (arith, nat_tests)
 
 -- one field that is a word, and those behind it, of l bits in all
-pub next-finds : {A B : Type 0} (b : List Bool) (k n l : ℕ) (e : ReadEntry A) (f : A → ReadEntry B) (g : List Bool → A) (r : Result B Error) → IsWord e n (λ w. Ok (g w)) → nat_le n l ≡ true → Finds b (k + n) (f (g (take n (drop k b)))) (l - n) r
+pub next-finds : {A B : Type 0} (b : List Bool) (k n l : ℕ) (e : ReadEntry A) (f : A → ReadEntry B) (g : List Bool
+    → A) (r : Result B Error) → IsWord e n (λ w. Ok (g w)) → nat_le n l ≡ true
+    → Finds b (k + n) (f (g (take n (drop k b)))) (l - n) r
     → Finds b k (chain e f) l r
 next-finds b k n l e f g r word le t =
     let sum : n + (l - n) ≡ l = let h = le_of n l le in omega arith in
-    subst (λ m. Finds b k (chain e f) m r) sum (chain-finds b k n (l - n) e f (g (take n (drop k b))) r (word-finds b k n e (λ w. Ok (g w)) word) t)
+    subst (λ m. Finds b k (chain e f) m r) sum (chain-finds b k n (l - n) e f (g (take n (drop k b))) r
+    (word-finds b k n e (λ w. Ok (g w)) word) t)
 
 module _ {B : Type 0} (b : List Bool) (k n l : ℕ) (r : Result B Error) where
-  pub unsigned-finds : (o : Order) (size : ℕ) (f : ℕ → ReadEntry B) → nat_le n size ≡ true → nat_le n l ≡ true → Finds b (k + n) (f (number o (take n (drop k b)))) (l - n) r → Finds b k (chain (unsigned_entry o size n) f) l r
-  unsigned-finds o size f fits le t = next-finds b k n l (unsigned_entry o size n) f (number o) r (unsigned-word o size n (le_of n size fits)) le t
+  pub unsigned-finds : (o : Order) (size : ℕ) (f : ℕ → ReadEntry B) → nat_le n size ≡ true → nat_le n l ≡ true
+      → Finds b (k + n) (f (number o (take n (drop k b)))) (l - n) r → Finds b k (chain (unsigned_entry o size n) f) l r
+  unsigned-finds o size f fits le t = next-finds b k n l (unsigned_entry o size n) f (number o) r
+      (unsigned-word o size n (le_of n size fits)) le t
 
-  pub signed-finds : (o : Order) (size : ℕ) (f : ℤ → ReadEntry B) → nat_le 1 n ≡ true → nat_le n size ≡ true → nat_le n l ≡ true → Finds b (k + n) (f (signed_number o (take n (drop k b)))) (l - n) r
+  pub signed-finds : (o : Order) (size : ℕ) (f : ℤ → ReadEntry B) → nat_le 1 n ≡ true → nat_le n size ≡ true
+      → nat_le n l ≡ true → Finds b (k + n) (f (signed_number o (take n (drop k b)))) (l - n) r
       → Finds b k (chain (signed_entry o size n) f) l r
-  signed-finds o size f some fits le t = next-finds b k n l (signed_entry o size n) f (signed_number o) r (signed-word o size n (le_of 1 n some) (le_of n size fits)) le t
+  signed-finds o size f some fits le t = next-finds b k n l (signed_entry o size n) f (signed_number o) r
+      (signed-word o size n (le_of 1 n some) (le_of n size fits)) le t
 
-  pub non_zero-finds : {A : Type 0} (after : ℕ → A) (o : Order) (size : ℕ) (f : A → ReadEntry B) → nat_le (n + 1) size ≡ true → nat_le n l ≡ true → Finds b (k + n) (f (after (number o (take n (drop k b))))) (l - n) r
+  pub non_zero-finds : {A : Type 0} (after : ℕ → A) (o : Order) (size : ℕ) (f : A → ReadEntry B) → nat_le (n + 1) size
+      ≡ true → nat_le n l ≡ true → Finds b (k + n) (f (after (number o (take n (drop k b))))) (l - n) r
       → Finds b k (chain (non_zero_entry after o size n) f) l r
   non_zero-finds after o size f fits le t =
-      next-finds b k n l (non_zero_entry after o size n) f (λ w. after (number o w)) r (non_zero-word after o size n (let less = le_of (n + 1) size fits in omega arith)) le t
+      next-finds b k n l (non_zero_entry after o size n) f (λ w. after (number o w)) r
+      (non_zero-word after o size n (let less = le_of (n + 1) size fits in omega arith)) le t
 
-  pub option-finds : {A : Type 0} (after : ℕ → A) (o : Order) (size : ℕ) (f : Option A → ReadEntry B) → nat_le n size ≡ true → nat_le n l ≡ true → Finds b (k + n) (f (if_any after (number o (take n (drop k b))))) (l - n) r
+  pub option-finds : {A : Type 0} (after : ℕ → A) (o : Order) (size : ℕ) (f : Option A → ReadEntry B) → nat_le n size
+      ≡ true → nat_le n l ≡ true → Finds b (k + n) (f (if_any after (number o (take n (drop k b))))) (l - n) r
       → Finds b k (chain (option_entry after o size n) f) l r
   option-finds after o size f fits le t =
-      next-finds b k n l (option_entry after o size n) f (λ w. if_any after (number o w)) r (option-word after o size n (le_of n size fits)) le t
+      next-finds b k n l (option_entry after o size n) f (λ w. if_any after (number o w)) r
+      (option-word after o size n (le_of n size fits)) le t
 
 module _ {B : Type 0} (b : List Bool) (k l : ℕ) (r : Result B Error) (f : Bool → ReadEntry B) where
-  pub bit-finds : nat_le 1 l ≡ true → Finds b (k + 1) (f (first_bit (take 1 (drop k b)))) (l - 1) r → Finds b k (chain bit_entry f) l r
+  pub bit-finds : nat_le 1 l ≡ true → Finds b (k + 1) (f (first_bit (take 1 (drop k b)))) (l - 1) r
+      → Finds b k (chain bit_entry f) l r
   bit-finds le t = next-finds b k 1 l bit_entry f first_bit r bit-word le t
 
-  pub truth-finds : nat_le 1 l ≡ true → Finds b (k + 1) (f (first_bit (take 1 (drop k b)))) (l - 1) r → Finds b k (chain (truth_entry 1) f) l r
+  pub truth-finds : nat_le 1 l ≡ true → Finds b (k + 1) (f (first_bit (take 1 (drop k b)))) (l - 1) r
+      → Finds b k (chain (truth_entry 1) f) l r
   truth-finds le t = next-finds b k 1 l (truth_entry 1) f first_bit r truth-word le t
 
 -- the end of the fields
@@ -123,15 +156,20 @@ pub ruleset finds = (unsigned-finds, signed-finds, non_zero-finds, option-finds,
 
 -- ---- what a new reader answers then, over a stream that refuses at true ends alone
 
-module _ {R A : Type 0} {K : BitSource R} {e : ReadEntry A} {s t : R} {n : ℕ} {xs : List ℕ} {x r : Result A Error} {known : Option (List ℕ)} {reference_names : List GName} where
+module _ {R A : Type 0} {K : BitSource R} {e : ReadEntry A} {s t : R} {n : ℕ} {xs : List ℕ}
+    {x r : Result A Error} {known : Option (List ℕ)} {reference_names : List GName} where
   -- the bits are there
-  pub fields_there : TrueEnds K.may → K.state s ≡ new_reader_state known reference_names → known ≡ Some xs → Reads K e s r t → Finds (bits K.order xs) 0 e n x → n ≤ 8 * length xs → r ≡ x
+  pub fields_there : TrueEnds K.may → K.state s ≡ new_reader_state known reference_names → known ≡ Some xs
+      → Reads K e s r t → Finds (bits K.order xs) 0 e n x → n ≤ 8 * length xs → r ≡ x
   fields_there ends new told h found enough =
       let le : 0 + n ≤ length (bits K.order xs) = let len = length-bits K.order xs in omega arith in
-      new_answer ends xs reference_names (new ∙ ap (λ z. new_reader_state z reference_names) told) h ∙ ap sure_answer (found.there 0 le)
+      new_answer ends xs reference_names (new ∙ ap (λ z. new_reader_state z reference_names) told) h
+      ∙ ap sure_answer (found.there 0 le)
 
   -- they are not
-  pub fields_short : TrueEnds K.may → K.state s ≡ new_reader_state known reference_names → known ≡ Some xs → Reads K e s r t → Finds (bits K.order xs) 0 e n x → 8 * length xs < n → r ≡ Err EndOfInput
+  pub fields_short : TrueEnds K.may → K.state s ≡ new_reader_state known reference_names → known ≡ Some xs
+      → Reads K e s r t → Finds (bits K.order xs) 0 e n x → 8 * length xs < n → r ≡ Err EndOfInput
   fields_short ends new told h found few =
       let less : length (bits K.order xs) < 0 + n = let len = length-bits K.order xs in omega arith in
-      new_answer ends xs reference_names (new ∙ ap (λ z. new_reader_state z reference_names) told) h ∙ ap sure_answer (found.short 0 (omega arith) less)
+      new_answer ends xs reference_names (new ∙ ap (λ z. new_reader_state z reference_names) told) h
+      ∙ ap sure_answer (found.short 0 (omega arith) less)

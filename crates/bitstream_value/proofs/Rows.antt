@@ -31,12 +31,18 @@ four_bytes : List ℕ
 four_bytes = 177 ∷ 237 ∷ 59 ∷ 193 ∷ []
 
 high_run : read_run (map path_entry (replicate 15 two_sided)) 0 (bits High four_bytes)
-    ≡ (Ok 1, 2) ∷ (Ok 0, 4) ∷ (Ok 4, 7) ∷ (Ok 0, 9) ∷ (Ok 0, 11) ∷ (Ok 2, 13) ∷ (Ok 1, 15) ∷ (Ok 1, 17) ∷ (Ok 2, 19) ∷ (Ok 0, 21) ∷ (Ok 2, 23) ∷ (Ok 0, 25) ∷ (Ok 1, 27) ∷ (Ok 4, 30) ∷ (Ok 2, 32) ∷ []
+    ≡ (Ok 1, 2) ∷ (Ok 0, 4) ∷ (Ok 4, 7) ∷ (Ok 0, 9) ∷ (Ok 0, 11) ∷ (Ok 2, 13) ∷ (Ok 1, 15) ∷ (Ok 1, 17) ∷ (
+      Ok 2,
+      19,
+    ) ∷ (Ok 0, 21) ∷ (Ok 2, 23) ∷ (Ok 0, 25) ∷ (Ok 1, 27) ∷ (Ok 4, 30) ∷ (Ok 2, 32) ∷ []
 unfolding two_sided four_bytes path_entry chain digits
 high_run = refl
 
 low_run : read_run (map path_entry (replicate 14 two_sided)) 0 (bits Low four_bytes)
-    ≡ (Ok 1, 2) ∷ (Ok 3, 5) ∷ (Ok 1, 7) ∷ (Ok 0, 9) ∷ (Ok 2, 11) ∷ (Ok 1, 13) ∷ (Ok 0, 15) ∷ (Ok 0, 17) ∷ (Ok 1, 19) ∷ (Ok 0, 21) ∷ (Ok 1, 23) ∷ (Ok 2, 25) ∷ (Ok 4, 28) ∷ (Ok 3, 31) ∷ []
+    ≡ (Ok 1, 2) ∷ (Ok 3, 5) ∷ (Ok 1, 7) ∷ (Ok 0, 9) ∷ (Ok 2, 11) ∷ (Ok 1, 13) ∷ (Ok 0, 15) ∷ (Ok 0, 17) ∷ (
+      Ok 1,
+      19,
+    ) ∷ (Ok 0, 21) ∷ (Ok 1, 23) ∷ (Ok 2, 25) ∷ (Ok 4, 28) ∷ (Ok 3, 31) ∷ []
 unfolding two_sided four_bytes path_entry chain digits
 low_run = refl
 

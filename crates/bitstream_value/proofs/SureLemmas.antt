@@ -35,17 +35,25 @@ unfolding truth_entry
 truth-word = record { reads = λ p b. refl }
 
 -- a word whose number is then changed
-mapped-word : {A B : Type 0} (e : ReadEntry A) (n : ℕ) (g : List Bool → A) (f : A → B) → IsWord e n (λ w. Ok (g w)) → IsWord (chain e (λ a. gives (f a))) n (λ w. Ok (f (g w)))
+mapped-word : {A B : Type 0} (e : ReadEntry A) (n : ℕ) (g : List Bool → A) (f : A → B) → IsWord e n (λ w. Ok (g w))
+    → IsWord (chain e (λ a. gives (f a))) n (λ w. Ok (f (g w)))
 unfolding chain
-mapped-word e n g f h = record { reads = λ p b. rw (h.reads p b) ((map_takes n g f (λ w. Ok (f (g w))) (λ w _. refl)).reads p b) }
+mapped-word e n g f h = record {
+  reads = λ p b. rw (h.reads p b)
+      ((map_takes n g f (λ w. Ok (f (g w))) (λ w _. refl)).reads p b);
+}
 
-pub non_zero-word : {A : Type 0} (after : ℕ → A) (o : Order) (size n : ℕ) → n < size → IsWord (non_zero_entry after o size n) n (λ w. Ok (after (number o w)))
+pub non_zero-word : {A : Type 0} (after : ℕ → A) (o : Order) (size n : ℕ) → n < size
+    → IsWord (non_zero_entry after o size n) n (λ w. Ok (after (number o w)))
 unfolding non_zero_entry
-non_zero-word after o size n less = rw (lt-ltb n size less) (mapped-word (unsigned_entry o size n) n (number o) after (unsigned-word o size n (omega arith)))
+non_zero-word after o size n less = rw (lt-ltb n size less)
+    (mapped-word (unsigned_entry o size n) n (number o) after (unsigned-word o size n (omega arith)))
 
-pub option-word : {A : Type 0} (after : ℕ → A) (o : Order) (size n : ℕ) → n ≤ size → IsWord (option_entry after o size n) n (λ w. Ok (if_any after (number o w)))
+pub option-word : {A : Type 0} (after : ℕ → A) (o : Order) (size n : ℕ) → n ≤ size
+    → IsWord (option_entry after o size n) n (λ w. Ok (if_any after (number o w)))
 unfolding option_entry
-option-word after o size n le = mapped-word (unsigned_entry o size n) n (number o) (if_any after) (unsigned-word o size n le)
+option-word after o size n le = mapped-word (unsigned_entry o size n) n (number o) (if_any after)
+    (unsigned-word o size n le)
 
 -- ---- items
 
@@ -53,7 +61,8 @@ whole : {A : Type 0} (n : ℕ) (l : List A) → length l ≡ n → take n l ≡ 
 whole n l len = ap (λ k. take k l) (sym len) ∙ take-length l
 
 -- one word more
-words-more : (n k : ℕ) (u v : List Bool) → length u ≡ k * n → length v ≡ n → words n (suc k) (u ++ v) ≡ words n k u ++ v ∷ []
+words-more : (n k : ℕ) (u v : List Bool) → length u ≡ k * n → length v ≡ n → words n (suc k) (u ++ v) ≡ words n k u
+    ++ v ∷ []
 words-more n zero u v lu lv = rw (nil_from_length u (omega arith)) (ap (λ w. w ∷ []) (whole n v lv))
 words-more n (suc k) u v lu lv =
     let le : n ≤ length u = omega arith in
@@ -66,23 +75,31 @@ words-take n zero b = refl
 words-take n (suc k) b =
     let size : suc k * n ≡ n + k * n = omega arith in
     let first : take n (take (suc k * n) b) ≡ take n b = take-take n (suc k * n) b (omega arith) in
-    let rest : drop n (take (suc k * n) b) ≡ take (k * n) (drop n b) = ap (λ m. drop n (take m b)) size ∙ drop-take n (k * n) b in
+    let rest : drop n (take (suc k * n) b) ≡ take (k * n) (drop n b) = ap (λ m. drop n (take m b)) size
+    ∙ drop-take n (k * n) b in
     rw (first, rest) (ap (λ l. take n b ∷ l) (words-take n k (drop n b)))
 
-front-same : {A B : Type 0} (x : Front A) (f h : ℕ → A → Front B) → ((n : ℕ) (a : A) → f n a ≡ h n a) → front_then x f ≡ front_then x h
+front-same : {A B : Type 0} (x : Front A) (f h : ℕ → A → Front B) → ((n : ℕ) (a : A) → f n a ≡ h n a) → front_then x f
+    ≡ front_then x h
 front-same TooFew f h same = refl
 front-same (Takes n (Ok a)) f h same = ap (longer n) (same n a)
 front-same (Takes n (Err d)) f h same = refl
 
 -- so many items, of which each is a word, are one word
-pub items-word : {A : Type 0} {e : ReadEntry A} {n : ℕ} {g : List Bool → A} → IsWord e n (λ w. Ok (g w)) → (k : ℕ) → IsWord (items_entry e k) (k * n) (λ w. Ok (map g (words n k w)))
+pub items-word : {A : Type 0} {e : ReadEntry A} {n : ℕ} {g : List Bool → A} → IsWord e n (λ w. Ok (g w)) → (k : ℕ)
+    → IsWord (items_entry e k) (k * n) (λ w. Ok (map g (words n k w)))
 unfolding items_entry chain
-items-word {n = n} h zero = record { reads = λ p b. let none : zero * n ≡ 0 = omega arith in rw (none, le-leb 0 (length b) (omega arith)) refl }
+items-word {n = n} h zero = record {
+  reads = λ p b. let none : zero * n ≡ 0 = omega arith in
+      rw (none, le-leb 0 (length b) (omega arith)) refl;
+}
 items-word {e = e} {n = n} {g = g} h (suc k) = record {
   reads = λ p b.
-      let item : (m : ℕ) (items : _) → (chain e (λ x. gives (items ++ x ∷ []))).reads (p + m) (drop m b) ≡ word_front n (λ w. Ok (items ++ g w ∷ [])) (drop m b) =
+      let item : (m : ℕ) (items : _) → (chain e (λ x. gives (items ++ x ∷ []))).reads (p + m) (drop m b)
+      ≡ word_front n (λ w. Ok (items ++ g w ∷ [])) (drop m b) =
       λ m items. (mapped-word e n g (λ x. items ++ x ∷ []) h).reads (p + m) (drop m b) in
-      let both = chain_takes (k * n) n (λ w. map g (words n k w)) (λ items w. Ok (items ++ g w ∷ [])) (λ w. Ok (map g (words n (suc k) w)))
+      let both = chain_takes (k * n) n (λ w. map g (words n k w)) (λ items w. Ok (items ++ g w ∷ []))
+      (λ w. Ok (map g (words n (suc k) w)))
       (λ u v lu lv. ap Ok (ap (map g) (words-more n k u v lu lv) ∙ map-append g (words n k u) (v ∷ []))) in
       let size : suc k * n ≡ k * n + n = omega arith in
       rw ((items-word h k).reads p b, size)
@@ -91,21 +108,32 @@ items-word {e = e} {n = n} {g = g} h (suc k) = record {
 
 -- ---- what a new reader answers, over a stream that refuses at true ends alone
 
-module _ {R A : Type 0} {K : BitSource R} {e : ReadEntry A} {n : ℕ} {g : List Bool → Result A Error} {r : Result A Error} {s t : R} {xs : List ℕ} {reference_names : List GName} where
+module _ {R A : Type 0} {K : BitSource R} {e : ReadEntry A} {n : ℕ} {g : List Bool → Result A Error}
+    {r : Result A Error} {s t : R} {xs : List ℕ} {reference_names : List GName} where
   -- the bits are there
-  pub word_there : IsWord e n g → TrueEnds K.may → K.state s ≡ new_reader_state (Some xs) reference_names → Reads K e s r t → n ≤ 8 * length xs → r ≡ g (take n (bits K.order xs))
+  pub word_there : IsWord e n g → TrueEnds K.may → K.state s ≡ new_reader_state (Some xs) reference_names
+      → Reads K e s r t → n ≤ 8 * length xs → r ≡ g (take n (bits K.order xs))
   word_there word ends new h enough =
       let le : n ≤ length (bits K.order xs) = let len = length-bits K.order xs in omega arith in
-      new_answer ends xs reference_names new h ∙ rw (word.reads 0 (bits K.order xs), le-leb n (length (bits K.order xs)) le) refl
+      new_answer ends xs reference_names new h ∙ rw (
+        word.reads 0 (bits K.order xs),
+        le-leb n (length (bits K.order xs)) le,
+      ) refl
 
   -- they are not
-  pub word_short : IsWord e n g → TrueEnds K.may → K.state s ≡ new_reader_state (Some xs) reference_names → Reads K e s r t → 8 * length xs < n → r ≡ Err EndOfInput
+  pub word_short : IsWord e n g → TrueEnds K.may → K.state s ≡ new_reader_state (Some xs) reference_names
+      → Reads K e s r t → 8 * length xs < n → r ≡ Err EndOfInput
   word_short word ends new h few =
       let less : length (bits K.order xs) < n = let len = length-bits K.order xs in omega arith in
-      new_answer ends xs reference_names new h ∙ rw (word.reads 0 (bits K.order xs), lt-leb n (length (bits K.order xs)) less) refl
+      new_answer ends xs reference_names new h ∙ rw (
+        word.reads 0 (bits K.order xs),
+        lt-leb n (length (bits K.order xs)) less,
+      ) refl
 
 -- the items are there
-pub items_there : {R A : Type 0} {K : BitSource R} {e : ReadEntry A} {n : ℕ} {g : List Bool → A} {r : Result (List A) Error} {s t : R} {xs : List ℕ} {reference_names : List GName}
-    → IsWord e n (λ w. Ok (g w)) → (k : ℕ) → TrueEnds K.may → K.state s ≡ new_reader_state (Some xs) reference_names → Reads K (items_entry e k) s r t → k * n ≤ 8 * length xs → r ≡ Ok (map g (words n k (bits K.order xs)))
+pub items_there : {R A : Type 0} {K : BitSource R} {e : ReadEntry A} {n : ℕ} {g : List Bool → A}
+    {r : Result (List A) Error} {s t : R} {xs : List ℕ} {reference_names : List GName}
+    → IsWord e n (λ w. Ok (g w)) → (k : ℕ) → TrueEnds K.may → K.state s ≡ new_reader_state (Some xs) reference_names
+    → Reads K (items_entry e k) s r t → k * n ≤ 8 * length xs → r ≡ Ok (map g (words n k (bits K.order xs)))
 items_there {K = K} {n = n} {g = g} {xs = xs} word k ends new h enough =
     word_there (items-word word k) ends new h enough ∙ ap (λ l. Ok (map g l)) (words-take n k (bits K.order xs))

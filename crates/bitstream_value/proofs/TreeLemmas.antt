@@ -15,7 +15,8 @@ none = None
 abbrev some : List Bool → Option (List Bool)
 some w = Some w
 
-pub paths_apart : {S : Type 0} (t : Tree S) (u v x y : List Bool) (a b : S) → IsPath t u a → IsPath t v b → u ++ x ≡ v ++ y → (u ≡ v) × (a ≡ b)
+pub paths_apart : {S : Type 0} (t : Tree S) (u v x y : List Bool) (a b : S) → IsPath t u a → IsPath t v b → u ++ x ≡ v
+    ++ y → (u ≡ v) × (a ≡ b)
 paths_apart (leaf s) [] [] x y a b p q e = (refl, sym p ∙ q)
 paths_apart (leaf s) [] (c ∷ v) x y a b p q e = absurd q
 paths_apart (leaf s) (c ∷ u) v x y a b p q e = absurd p
@@ -35,7 +36,8 @@ pub path_entry-leaf : {S : Type 0} (x : S) → path_entry (leaf x) ≡ gives x
 unfolding path_entry
 path_entry-leaf x = refl
 
-pub path_entry-node : {S : Type 0} (a b : Tree S) → path_entry (node a b) ≡ chain bit_entry (λ c. if c then path_entry b else path_entry a)
+pub path_entry-node : {S : Type 0} (a b : Tree S) → path_entry (node a b)
+    ≡ chain bit_entry (λ c. if c then path_entry b else path_entry a)
 unfolding path_entry
 path_entry-node a b = refl
 
@@ -43,15 +45,21 @@ bit-front : (p : ℕ) (c : Bool) (bits : List Bool) → bit_entry.reads p (c ∷
 bit-front p c bits = rw (le-leb 1 (suc (length bits)) (omega arith)) refl
 
 -- a read of a branch, behind its bit
-path-step : {S : Type 0} (a b : Tree S) (p : ℕ) (c : Bool) (bits : List Bool) → (path_entry (node a b)).reads p (c ∷ bits) ≡ longer 1 ((if c then path_entry b else path_entry a).reads (p + 1) bits)
-path-step a b p c bits = rw path_entry-node (chain-ok bit_entry (λ d. if d then path_entry b else path_entry a) p (c ∷ bits) 1 c (bit-front p c bits))
+path-step : {S : Type 0} (a b : Tree S) (p : ℕ) (c : Bool) (bits : List Bool)
+    → (path_entry (node a b)).reads p (c ∷ bits) ≡ longer 1
+    ((if c then path_entry b else path_entry a).reads (p + 1) bits)
+path-step a b p c bits = rw path_entry-node (chain-ok bit_entry (λ d. if d then path_entry b else path_entry a) p
+    (c ∷ bits) 1 c (bit-front p c bits))
 
-pub path-reads : {S : Type 0} (t : Tree S) (w : List Bool) (s : S) (p : ℕ) (rest : List Bool) → IsPath t w s → (path_entry t).reads p (w ++ rest) ≡ Takes (length w) (Ok s)
+pub path-reads : {S : Type 0} (t : Tree S) (w : List Bool) (s : S) (p : ℕ) (rest : List Bool) → IsPath t w s
+    → (path_entry t).reads p (w ++ rest) ≡ Takes (length w) (Ok s)
 path-reads (leaf x) [] s p rest h = rw path_entry-leaf (ap (λ y. Takes 0 (Ok y)) h)
 path-reads (leaf x) (c ∷ w) s p rest h = absurd h
 path-reads (node a b) [] s p rest h = absurd h
-path-reads (node a b) (false ∷ w) s p rest h = rw (path-step a b p false (w ++ rest), path-reads a w s (p + 1) rest h) (ap (λ n. Takes n (Ok s)) (omega arith))
-path-reads (node a b) (true ∷ w) s p rest h = rw (path-step a b p true (w ++ rest), path-reads b w s (p + 1) rest h) (ap (λ n. Takes n (Ok s)) (omega arith))
+path-reads (node a b) (false ∷ w) s p rest h = rw (path-step a b p false (w ++ rest), path-reads a w s (p + 1) rest h)
+    (ap (λ n. Takes n (Ok s)) (omega arith))
+path-reads (node a b) (true ∷ w) s p rest h = rw (path-step a b p true (w ++ rest), path-reads b w s (p + 1) rest h)
+    (ap (λ n. Takes n (Ok s)) (omega arith))
 
 -- the bits that a read takes are the path to the leaf whose symbol it answers
 pub record TakesPath {S : Type 0} (t : Tree S) (bits : List Bool) (n : ℕ) (r : Result S Error) : Type 0 where
@@ -60,11 +68,13 @@ pub record TakesPath {S : Type 0} (t : Tree S) (bits : List Bool) (n : ℕ) (r :
   pub path : IsPath t (take n bits) symbol
   pub there : n ≤ length bits
 
-in_side : {S : Type 0} (a b : Tree S) (c : Bool) (w : List Bool) (s : S) → IsPath (if c then b else a) w s → IsPath (node a b) (c ∷ w) s
+in_side : {S : Type 0} (a b : Tree S) (c : Bool) (w : List Bool) (s : S) → IsPath (if c then b else a) w s
+    → IsPath (node a b) (c ∷ w) s
 in_side a b false w s h = h
 in_side a b true w s h = h
 
-behind : {S : Type 0} (a b : Tree S) (c : Bool) (bits : List Bool) (n : ℕ) (r : Result S Error) (f : Front S) → ((m : ℕ) → f ≡ Takes m r → TakesPath (if c then b else a) bits m r)
+behind : {S : Type 0} (a b : Tree S) (c : Bool) (bits : List Bool) (n : ℕ) (r : Result S Error) (f : Front S)
+    → ((m : ℕ) → f ≡ Takes m r → TakesPath (if c then b else a) bits m r)
     → longer 1 f ≡ Takes n r → TakesPath (node a b) (c ∷ bits) n r
 behind a b c bits n r TooFew h e = absurd cc
 behind a b c bits n r (Takes m x) h e =
@@ -75,11 +85,13 @@ behind a b c bits n r (Takes m x) h e =
     record {
       symbol = k.symbol;
       answer = k.answer;
-      path = subst (λ i. IsPath (node a b) (take i (c ∷ bits)) k.symbol) more (in_side a b c (take m bits) k.symbol k.path);
+      path = subst (λ i. IsPath (node a b) (take i (c ∷ bits)) k.symbol) more
+          (in_side a b c (take m bits) k.symbol k.path);
       there = let le = k.there in omega (arith, size);
     }
 
-pub path-taken : {S : Type 0} (t : Tree S) (p : ℕ) (bits : List Bool) (n : ℕ) (r : Result S Error) → (path_entry t).reads p bits ≡ Takes n r → TakesPath t bits n r
+pub path-taken : {S : Type 0} (t : Tree S) (p : ℕ) (bits : List Bool) (n : ℕ) (r : Result S Error)
+    → (path_entry t).reads p bits ≡ Takes n r → TakesPath t bits n r
 path-taken (leaf x) p bits n r e =
     let h = rw path_entry-leaf at e in
     let none : 0 ≡ n = cc in
@@ -92,10 +104,13 @@ path-taken (leaf x) p bits n r e =
     }
 path-taken (node a b) p [] n r e =
     let h = rw path_entry-node at e in
-    let none : (chain bit_entry (λ c. if c then path_entry b else path_entry a)).reads p [] ≡ TooFew = chain-none bit_entry (λ c. if c then path_entry b else path_entry a) p [] refl in
+    let none : (chain bit_entry (λ c. if c then path_entry b else path_entry a)).reads p [] ≡ TooFew =
+    chain-none bit_entry (λ c. if c then path_entry b else path_entry a) p [] refl in
     absurd (cc (h, none))
-path-taken (node a b) p (false ∷ bits) n r e = behind a b false bits n r ((path_entry a).reads (p + 1) bits) (λ m. path-taken a (p + 1) bits m r) (sym (path-step a b p false bits) ∙ e)
-path-taken (node a b) p (true ∷ bits) n r e = behind a b true bits n r ((path_entry b).reads (p + 1) bits) (λ m. path-taken b (p + 1) bits m r) (sym (path-step a b p true bits) ∙ e)
+path-taken (node a b) p (false ∷ bits) n r e = behind a b false bits n r ((path_entry a).reads (p + 1) bits)
+    (λ m. path-taken a (p + 1) bits m r) (sym (path-step a b p false bits) ∙ e)
+path-taken (node a b) p (true ∷ bits) n r e = behind a b true bits n r ((path_entry b).reads (p + 1) bits)
+    (λ m. path-taken b (p + 1) bits m r) (sym (path-step a b p true bits) ∙ e)
 
 -- ---- the first path
 
@@ -109,7 +124,8 @@ module _ {S : Type 0} (same : S → S → Bool) (s : S) where
   leaf_leads true x (c ∷ w) h e = absurd cc
   leaf_leads false x w h e = absurd cc
 
-  node_leads : (l r : Tree S) (w : List Bool) (a b : Option (List Bool)) → ((u : List Bool) → a ≡ Some u → Leads l u) → ((u : List Bool) → b ≡ Some u → Leads r u)
+  node_leads : (l r : Tree S) (w : List Bool) (a b : Option (List Bool)) → ((u : List Bool) → a ≡ Some u → Leads l u)
+      → ((u : List Bool) → b ≡ Some u → Leads r u)
       → or_else (option_map (λ u. false ∷ u) a) (option_map (λ u. true ∷ u) b) ≡ Some w → Leads (node l r) w
   unfolding Leads
   node_leads l r [] (Some u) b f g e = absurd cc
@@ -122,16 +138,25 @@ module _ {S : Type 0} (same : S → S → Bool) (s : S) where
 
   first_path_leads : (t : Tree S) (w : List Bool) → first_path same t s ≡ Some w → Leads t w
   first_path_leads (leaf x) w e = leaf_leads (same x s) x w refl e
-  first_path_leads (node l r) w e = node_leads l r w (first_path same l s) (first_path same r s) (first_path_leads l) (first_path_leads r) e
+  first_path_leads (node l r) w e = node_leads l r w (first_path same l s) (first_path same r s) (first_path_leads l)
+      (first_path_leads r) e
 
   -- there is one, where there is a leaf, and it does not come after that
   Comes : Tree S → List Bool → Type 0
   Comes t u = (w : List Bool) × (first_path same t s ≡ Some w) × ((w ≡ u) ⊎ IsBefore w u)
 
-  on_one_side : (l r : Tree S) (u : List Bool) (a : Option (List Bool)) → first_path same l s ≡ a → Comes r u → Comes (node l r) (true ∷ u)
+  on_one_side : (l r : Tree S) (u : List Bool) (a : Option (List Bool)) → first_path same l s ≡ a → Comes r u
+      → Comes (node l r) (true ∷ u)
   unfolding Comes
-  on_one_side l r u None e c =
-      (true ∷ c.0, rw (e, c.1) refl, elim c.2 [ inl same_path ↦ inl (ap (λ (w : List Bool). true ∷ w) same_path) | inr earlier ↦ inr earlier ])
+  on_one_side l r u None e c = (
+    true ∷ c.0,
+    rw (e, c.1) refl,
+    elim c.2 [
+      | inl same_path ↦
+          inl (ap (λ (w : List Bool). true ∷ w) same_path)
+      | inr earlier ↦ inr earlier
+    ],
+  )
   on_one_side l r u (Some w) e c = (false ∷ w, rw e refl, inr tt)
 
   first_path_comes : (t : Tree S) (u : List Bool) (x : S) → IsPath t u x → same x s ≡ true → Comes t u
@@ -140,20 +165,30 @@ module _ {S : Type 0} (same : S → S → Bool) (s : S) where
   first_path_comes (leaf y) (b ∷ u) x p h = absurd p
   first_path_comes (node l r) [] x p h = absurd p
   first_path_comes (node l r) (false ∷ u) x p h =
-      let c = first_path_comes l u x p h in
-      (false ∷ c.0, rw c.1 refl, elim c.2 [ inl same_path ↦ inl (ap (λ (w : List Bool). false ∷ w) same_path) | inr earlier ↦ inr earlier ])
-  first_path_comes (node l r) (true ∷ u) x p h = on_one_side l r u (first_path same l s) refl (first_path_comes r u x p h)
+      let c = first_path_comes l u x p h in (
+        false ∷ c.0,
+        rw c.1 refl,
+        elim c.2 [
+          | inl same_path ↦
+              inl (ap (λ (w : List Bool). false ∷ w) same_path)
+          | inr earlier ↦ inr earlier
+        ],
+      )
+  first_path_comes (node l r) (true ∷ u) x p h = on_one_side l r u (first_path same l s) refl
+      (first_path_comes r u x p h)
 
   pub first_path_is_first : (t : Tree S) (w : List Bool) → first_path same t s ≡ Some w → IsFirstPath same t s w
   unfolding Leads Comes
   first_path_is_first t w e =
       record {
         leads = first_path_leads t w e;
-        first = λ u x p h. let c = first_path_comes t u x p h in let same_path : c.0 ≡ w = cc (c.1, e) in subst (λ (v : List Bool). (v ≡ u) ⊎ IsBefore v u) same_path c.2;
+        first = λ u x p h. let c = first_path_comes t u x p h in let same_path : c.0 ≡ w = cc (c.1, e) in
+            subst (λ (v : List Bool). (v ≡ u) ⊎ IsBefore v u) same_path c.2;
       }
 
   -- there is none only if no leaf has the symbol
-  pub first_path_none : (t : Tree S) → first_path same t s ≡ None → (u : List Bool) (x : S) → IsPath t u x → same x s ≡ true → ⊥
+  pub first_path_none : (t : Tree S) → first_path same t s ≡ None → (u : List Bool) (x : S) → IsPath t u x → same x s
+      ≡ true → ⊥
   unfolding Comes
   first_path_none t e u x p h = let c = first_path_comes t u x p h in absurd (cc (c.1, e))
 
@@ -168,18 +203,23 @@ module _ {S : Type 0} (same : S → S → Bool) (s : S) where
   unfolding symbol_word
   word-none t e = rw e refl
 
-  has_leaf : (t : Tree S) (o : Option (List Bool)) → first_path same t s ≡ o → IsSome o → (w : List Bool) × (x : S) × IsPath t w x × (same x s ≡ true)
+  has_leaf : (t : Tree S) (o : Option (List Bool)) → first_path same t s ≡ o → IsSome o → (w : List Bool) × (x : S)
+      × IsPath t w x × (same x s ≡ true)
   has_leaf t None e h = absurd cc
   has_leaf t (Some w) e h = let k = (first_path_is_first same s t w e).leads in (w, k.0, k.1, k.2)
 
-  has_word : (t : Tree S) (o : Option (List Bool)) (w : List Bool) (x : S) → first_path same t s ≡ o → IsPath t w x → same x s ≡ true → IsSome o
+  has_word : (t : Tree S) (o : Option (List Bool)) (w : List Bool) (x : S) → first_path same t s ≡ o → IsPath t w x
+      → same x s ≡ true → IsSome o
   has_word t None w x e p h = absurd (first_path_none same s t e w x p h)
   has_word t (Some v) w x e p h = refl
 
   -- a symbol has a word exactly where a leaf has it
-  pub word_known : (t : Tree S) → IsSome (first_path same t s) ↔ ((w : List Bool) × (x : S) × IsPath t w x × (same x s ≡ true))
+  pub word_known : (t : Tree S) → IsSome (first_path same t s) ↔ ((w : List Bool) × (x : S) × IsPath t w x
+      × (same x s ≡ true))
   word_known t = (has_leaf t (first_path same t s) refl, λ k. has_word t (first_path same t s) k.0 k.1 refl k.2 k.3)
 
   -- and the word is read as that leaf's symbol
-  pub word_back : (t : Tree S) (w : List Bool) → first_path same t s ≡ Some w → (x : S) × (same x s ≡ true) × ((p : ℕ) (more : List Bool) → (path_entry t).reads p (w ++ more) ≡ Takes (length w) (Ok x))
-  word_back t w e = let k = (first_path_is_first same s t w e).leads in (k.0, k.2, λ p more. path-reads t w k.0 p more k.1)
+  pub word_back : (t : Tree S) (w : List Bool) → first_path same t s ≡ Some w → (x : S) × (same x s ≡ true)
+      × ((p : ℕ) (more : List Bool) → (path_entry t).reads p (w ++ more) ≡ Takes (length w) (Ok x))
+  word_back t w e = let k = (first_path_is_first same s t w e).leads in
+      (k.0, k.2, λ p more. path-reads t w k.0 p more k.1)

@@ -19,8 +19,10 @@ abbrev pub byte_gives : {A : Type 0} → A → ByteReadEntry A
 byte_gives a bytes = Takes 0 (Ok a)
 
 -- a read of bytes with errors of its own, which its entry answers too
-abbrev pub ByteReadsOwn : {R A E : Type 0} → ByteSource R → (Error → E → Type 0) → ByteReadEntry (Result A E) → R → Result A E → R → Type 0
-ByteReadsOwn K becomes entry old result new = OwnErrors becomes (λ answer. answer) (λ plain. ByteReads K entry old plain new) result
+abbrev pub ByteReadsOwn : {R A E : Type 0} → ByteSource R → (Error → E → Type 0) → ByteReadEntry (Result A E) → R
+    → Result A E → R → Type 0
+ByteReadsOwn K becomes entry old result new = OwnErrors becomes (λ answer. answer)
+    (λ plain. ByteReads K entry old plain new) result
 
 -- calls that write these bytes, a piece each, up to the first that answers an error; of no calls, nothing at all
 unfoldable pub ByteWritesAll : {S : Type 0} → ByteSink S → List (List ℕ) → S → Result (Unit {0}) Error → S → Type 0
@@ -30,8 +32,10 @@ ByteWritesAll {S} K (piece ∷ pieces) old result new =
     ⊎ ((mid : S) × ByteWrites {S = S} {T = Unit {0}} K piece old (Ok tt) mid × ByteWritesAll K pieces mid result new)
 
 -- such calls, and behind them, if all were done, this answer
-abbrev pub ByteWritesOwn : {S E : Type 0} → ByteSink S → (Error → E → Type 0) → List (List ℕ) → Result (Unit {0}) E → S → Result (Unit {0}) E → S → Type 0
-ByteWritesOwn K becomes pieces answer old result new = OwnErrors becomes (λ _. answer) (λ plain. ByteWritesAll K pieces old plain new) result
+abbrev pub ByteWritesOwn : {S E : Type 0} → ByteSink S → (Error → E → Type 0) → List (List ℕ) → Result (Unit {0}) E → S
+    → Result (Unit {0}) E → S → Type 0
+ByteWritesOwn K becomes pieces answer old result new =
+    OwnErrors becomes (λ _. answer) (λ plain. ByteWritesAll K pieces old plain new) result
 
 -- how many bytes the pieces have in all
 abbrev pub total_length : List (List ℕ) → ℕ
@@ -46,13 +50,17 @@ HasOneTotal writes = (o p : Order) → total_length (writes o) ≡ total_length 
 abbrev pub held_by : ℕ → ℕ → Result ℕ Error
 held_by most n = if nat_lt most n then Err CounterOverflow else Ok n
 
--- a count of the bytes of these calls, for a counter that holds `most` at most: their number, or the error that the calls
+-- a count of the bytes of these calls, for a counter that holds `most` at most: their number, or the error that the
+-- calls
 -- have on it
-abbrev pub CountsBytes : {C E : Type 0} → (C → ℕ) → ℕ → (Error → E → Type 0) → List (List ℕ) → Result (Unit {0}) E → Result C E → Type 0
-CountsBytes value most becomes pieces answer result = OwnAnswer becomes (in_place answer) (held_by most (total_length pieces)) (number_of value result)
+abbrev pub CountsBytes : {C E : Type 0} → (C → ℕ) → ℕ → (Error → E → Type 0) → List (List ℕ) → Result (Unit {0}) E
+    → Result C E → Type 0
+CountsBytes value most becomes pieces answer result = OwnAnswer becomes (in_place answer)
+    (held_by most (total_length pieces)) (number_of value result)
 
 -- a sink that keeps the number of bytes and nothing else, up to the greatest number of its type
-abbrev pub byte_counter_sink : {S : Type 0} → (count : S → ℕ) → (greatest : ℕ) → ((s : S) → count s ≤ greatest) → ByteSink S
+abbrev pub byte_counter_sink : {S : Type 0} → (count : S → ℕ) → (greatest : ℕ) → ((s : S) → count s ≤ greatest)
+    → ByteSink S
 byte_counter_sink count greatest within = record {
   order = High;
   appends = λ a x b. count b ≡ count a + length x;

@@ -6,17 +6,20 @@ use Rattle.bitstream_count.specs.declared.error.Error.TheVariants.{CounterOverfl
 use Rattle.bitstream_count.specs.Entry.{WriteEntry, result_then}
 use Rattle.bitstream_value.specs.Own.{OwnAnswer}
 
--- what a counter answers that has counted `len` bits and holds `most` at most: what it has counted behind these calls, or
+-- what a counter answers that has counted `len` bits and holds `most` at most: what it has counted behind these calls,
+-- or
 -- the first error
 abbrev pub counted_bits : ℕ → List WriteEntry → ℕ → Result ℕ Error
 counted_bits most [] len = Ok len
 counted_bits most (entry ∷ entries) len =
-    result_then (entry len) (λ word. if nat_lt most (len + length word) then Err CounterOverflow else counted_bits most entries (len + length word))
+    result_then (entry len) (λ word. if nat_lt most (len + length word) then Err CounterOverflow else counted_bits most
+    entries (len + length word))
 
 -- the length of the words of these calls behind `len` bits, or the first error
 abbrev pub run_length : List WriteEntry → ℕ → Result ℕ Error
 run_length [] len = Ok 0
-run_length (entry ∷ entries) len = result_then (entry len) (λ word. result_then (run_length entries (len + length word)) (λ more. Ok (length word + more)))
+run_length (entry ∷ entries) len = result_then (entry len) (λ word. result_then (run_length entries (len + length word))
+    (λ more. Ok (length word + more)))
 
 -- in both orders of bits, and at all places that are as far behind a whole byte, the words have one length
 abbrev pub HasOneLength : (Order → List WriteEntry) → Type 0
@@ -32,11 +35,15 @@ abbrev pub number_of : {C E : Type 0} → (C → ℕ) → Result C E → Result 
 number_of value (Ok x) = Ok (value x)
 number_of value (Err error) = Err error
 
--- a count of the bits of these calls on a new counter that holds `most` at most: their number, or the error that the calls
+-- a count of the bits of these calls on a new counter that holds `most` at most: their number, or the error that the
+-- calls
 -- have on it
-abbrev pub CountsBits : {C E : Type 0} → (C → ℕ) → ℕ → (Error → E → Type 0) → List WriteEntry → Result (Unit {0}) E → Result C E → Type 0
-CountsBits value most becomes entries answer result = OwnAnswer becomes (in_place answer) (counted_bits most entries 0) (number_of value result)
+abbrev pub CountsBits : {C E : Type 0} → (C → ℕ) → ℕ → (Error → E → Type 0) → List WriteEntry → Result (Unit {0}) E
+    → Result C E → Type 0
+CountsBits value most becomes entries answer result = OwnAnswer becomes (in_place answer) (counted_bits most entries 0)
+    (number_of value result)
 
 -- the number n, or an error exactly if it is above `most`
 abbrev pub IsNumberWithin : {C E : Type 0} → (C → ℕ) → ℕ → (Error → E → Type 0) → ℕ → Result C E → Type 0
-IsNumberWithin value most becomes n result = MatchResult result (λ x. (value x ≡ n) × (n ≤ most)) (λ error. (most < n) × becomes CounterOverflow error)
+IsNumberWithin value most becomes n result = MatchResult result (λ x. (value x ≡ n) × (n ≤ most)) (λ error. (most < n)
+    × becomes CounterOverflow error)

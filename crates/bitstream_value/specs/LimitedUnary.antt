@@ -12,4 +12,5 @@ limited_unary stop most (Some k) = if nat_lt k most then unary stop k else []
 unfoldable pub limited_tree : Bool → ℕ → ℕ → Tree (Option ℕ)
 limited_tree stop k zero = leaf None
 limited_tree stop k (suc m) =
-    if stop then node (limited_tree stop (k + 1) m) (leaf (Some k)) else node (leaf (Some k)) (limited_tree stop (k + 1) m)
+    if stop then node (limited_tree stop (k + 1) m) (leaf (Some k)) else node (leaf (Some k))
+    (limited_tree stop (k + 1) m)

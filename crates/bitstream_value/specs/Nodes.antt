@@ -51,7 +51,8 @@ abbrev pub HasSymbol : {S : Type 0} → (S → S → Bool) → S → List (Node 
 HasSymbol {S} same s nodes k = (x : S) × (slice_get nodes k ≡ Some (Leaf x)) × (same x s ≡ true)
 
 -- k is the first such place from `low` up to `end`
-pub record IsFirstPlace {S : Type 0} (same : S → S → Bool) (s : S) (nodes : List (Node S)) (low end k : ℕ) : Type 0 where
+pub record IsFirstPlace {S : Type 0} (same : S → S → Bool) (s : S) (nodes : List (Node S)) (low end k : ℕ) :
+    Type 0 where
   pub after : low ≤ k
   pub below : k < end
   pub has : HasSymbol same s nodes k

@@ -40,5 +40,6 @@ unfoldable pub option_vbr_entry : {A : Type 0} → (ℕ → A) → Order → ℕ
 option_vbr_entry after o field size = chain (vbr_entry o field size (2 ^ size)) (λ v. gives (if_any after v))
 
 -- what is made of a number is the same for the same number
-pub made-same : {A : Type 0} (make : (k : ℕ) → 0 < k → A) (m n : ℕ) (p : 0 < m) (q : 0 < n) → m ≡ n → make m p ≡ make n q
+pub made-same : {A : Type 0} (make : (k : ℕ) → 0 < k → A) (m n : ℕ) (p : 0 < m) (q : 0 < n) → m ≡ n → make m p
+    ≡ make n q
 made-same make m n p q e = subst (λ k. (r : 0 < k) → make m p ≡ make k r) e (λ r. ap (make m) (le_prop p r)) q

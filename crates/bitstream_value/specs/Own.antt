@@ -13,18 +13,23 @@ OwnAnswer becomes makes (Ok value) result = result ≡ makes value
 OwnAnswer becomes makes (Err error) result = IsErrAnd result (becomes error)
 
 -- A call with errors of its own: `plain` is what the calls of the stream answer, and `called` what they do to it.
-pub record OwnErrors {A B E : Type 0} (becomes : Error → E → Type 0) (makes : B → Result A E) (call : Result B Error → Type 0) (result : Result A E) : Type 0 where
+pub record OwnErrors {A B E : Type 0} (becomes : Error → E → Type 0) (makes : B → Result A E) (call : Result B Error
+    → Type 0) (result : Result A E) : Type 0 where
   pub plain : Result B Error
   pub called : call plain
   pub answer : OwnAnswer becomes makes plain result
 
 -- a read, whose entry answers its own errors too
-abbrev pub ReadsOwn : {R A E : Type 0} → BitSource R → (Error → E → Type 0) → ReadEntry (Result A E) → R → Result A E → R → Type 0
-ReadsOwn K becomes entry old result new = OwnErrors becomes (λ answer. answer) (λ plain. Reads K entry old plain new) result
+abbrev pub ReadsOwn : {R A E : Type 0} → BitSource R → (Error → E → Type 0) → ReadEntry (Result A E) → R → Result A E
+    → R → Type 0
+ReadsOwn K becomes entry old result new = OwnErrors becomes (λ answer. answer) (λ plain. Reads K entry old plain new)
+    result
 
 -- write calls in order, and behind them, if all were done, this answer
-abbrev pub WritesOwn : {S E : Type 0} → Sink S → (Error → E → Type 0) → List WriteEntry → Result (Unit {0}) E → S → Result (Unit {0}) E → S → Type 0
-WritesOwn K becomes entries answer old result new = OwnErrors becomes (λ _. answer) (λ plain. WritesAll K entries old plain new) result
+abbrev pub WritesOwn : {S E : Type 0} → Sink S → (Error → E → Type 0) → List WriteEntry → Result (Unit {0}) E → S
+    → Result (Unit {0}) E → S → Type 0
+WritesOwn K becomes entries answer old result new = OwnErrors becomes (λ _. answer)
+    (λ plain. WritesAll K entries old plain new) result
 
 -- an error of the stream, as it is
 abbrev pub same_error : Error → Error → Type 0

@@ -14,35 +14,6 @@ use bitstream_stream::write::BitWrite;
 
 /// A type whose values are written as bits. [`build`](crate::write::BitWriteExt::build) writes them
 /// to any sink.
-///
-/// # Examples
-///
-/// ```
-/// use bitstream_io::{BE, BitWrite, BitWriteExt, BitWriter, Bits, Error, LE, ToBitStream};
-///
-/// struct BlockHeader {
-///     last: bool,
-///     kind: u8,
-///     size: u32,
-/// }
-///
-/// impl ToBitStream for BlockHeader {
-///     type Error = Error;
-///
-///     fn to_writer<W: BitWrite>(&self, writer: &mut W) -> Result<(), Error> {
-///         writer.write_bit(self.last)?;
-///         writer.write::<Bits<7>, u8>(self.kind)?;
-///         writer.write::<Bits<24>, u32>(self.size)
-///     }
-/// }
-///
-/// let header = BlockHeader { last: false, kind: 0, size: 34 };
-/// let mut bytes = Vec::new(rt.alloc());
-/// BitWriter::<_, BE>::new(&mut bytes).build(&header)?;
-/// assert_eq!(rt; bytes.as_slice(), [0, 0, 0, 34].as_slice());
-/// assert_eq!(rt; header.bits::<u8>()?, 32);
-/// assert_eq!(rt; header.bits_len::<u32, LE>()?, 32);
-/// ```
 pub trait ToBitStream {
     /// The type of the errors of a write.
     type Error;
@@ -101,28 +72,6 @@ pub trait ToBitStream {
 
 /// A type whose values are written as bits with a context, which is lent.
 /// [`build_with`](crate::write::BitWriteExt::build_with) writes them to any sink.
-///
-/// # Examples
-///
-/// ```
-/// use bitstream_io::{BE, BitWrite, BitWriteExt, BitWriter, Error, ToBitStreamWith};
-///
-/// struct Level(u16);
-///
-/// impl ToBitStreamWith for Level {
-///     type Context = u32;
-///     type Error = Error;
-///
-///     fn to_writer<W: BitWrite>(&self, writer: &mut W, bits: &u32) -> Result<(), Error> {
-///         writer.write_var::<u16>(*bits, self.0)
-///     }
-/// }
-///
-/// let mut bytes = Vec::new(rt.alloc());
-/// BitWriter::<_, BE>::new(&mut bytes).build_with(&Level(0xb1e), &16)?;
-/// assert_eq!(rt; bytes.as_slice(), [0x0b, 0x1e].as_slice());
-/// assert_eq!(rt; Level(0xb1e).bits::<u8>(&12)?, 12);
-/// ```
 pub trait ToBitStreamWith {
     /// What is known before a value is written.
     type Context;

@@ -54,29 +54,6 @@ pub trait ToByteStream {
 
 /// A type whose values are written as whole bytes with a context, which is lent.
 /// [`build_with`](crate::byte_write::ByteWriteExt::build_with) writes them to any sink of bytes.
-///
-/// # Examples
-///
-/// ```
-/// use bitstream_io::{BE, ByteWrite, ByteWriteExt, ByteWriter, Error, ToByteStreamWith};
-///
-/// struct Port(u16);
-///
-/// impl ToByteStreamWith for Port {
-///     type Context = u32;
-///     type Error = Error;
-///
-///     fn to_writer<W: ByteWrite>(&self, writer: &mut W, padding: &u32) -> Result<(), Error> {
-///         writer.write(self.0)?;
-///         writer.pad(*padding)
-///     }
-/// }
-///
-/// let mut bytes = Vec::new(rt.alloc());
-/// ByteWriter::<_, BE>::new(&mut bytes).build_with(&Port(443), &2)?;
-/// assert_eq!(rt; bytes.as_slice(), [1, 187, 0, 0].as_slice());
-/// assert_eq!(rt; Port(443).bytes::<u8>(&2)?, 4);
-/// ```
 pub trait ToByteStreamWith {
     /// What is known before a value is written.
     type Context;

@@ -9,26 +9,6 @@ use bitstream_stream::byte_read::ByteRead;
 
 /// A type whose values are read from whole bytes. [`parse`](crate::byte_read::ByteReadExt::parse)
 /// reads them from any reader of bytes.
-///
-/// # Examples
-///
-/// ```
-/// use bitstream_io::{BE, ByteRead, ByteReadExt, ByteReader, Error, FromByteStream};
-///
-/// struct Port(u16);
-///
-/// impl FromByteStream for Port {
-///     type Error = Error;
-///
-///     fn from_reader<R: ByteRead>(reader: &mut R) -> Result<Port, Error> {
-///         Ok(Port(reader.read::<u16>()?))
-///     }
-/// }
-///
-/// let mut reader = ByteReader::<_, BE>::new([1, 187].as_slice());
-/// let port: Port = reader.parse()?;
-/// assert_eq!(rt; port.0, 443);
-/// ```
 pub trait FromByteStream: Sized {
     /// The type of the errors of a read.
     type Error;

@@ -9,34 +9,6 @@ use bitstream_stream::read::BitRead;
 
 /// A type whose values are read from bits. [`parse`](crate::read::BitReadExt::parse) reads them from
 /// any reader.
-///
-/// # Examples
-///
-/// ```
-/// use bitstream_io::{BE, BitRead, BitReadExt, BitReader, Bits, Error, FromBitStream};
-///
-/// struct BlockHeader {
-///     last: bool,
-///     kind: u8,
-///     size: u32,
-/// }
-///
-/// impl FromBitStream for BlockHeader {
-///     type Error = Error;
-///
-///     fn from_reader<R: BitRead>(reader: &mut R) -> Result<BlockHeader, Error> {
-///         Ok(BlockHeader {
-///             last: reader.read_bit()?,
-///             kind: reader.read::<Bits<7>, u8>()?,
-///             size: reader.read::<Bits<24>, u32>()?,
-///         })
-///     }
-/// }
-///
-/// let mut reader = BitReader::<_, BE>::new([0x84, 0, 0, 34].as_slice());
-/// let header: BlockHeader = reader.parse()?;
-/// assert_eq!(rt; (header.last, header.kind, header.size), (true, 4, 34));
-/// ```
 pub trait FromBitStream: Sized {
     /// The type of the errors of a read.
     type Error;
@@ -60,27 +32,6 @@ pub trait FromBitStream: Sized {
 
 /// A type whose values are read from bits with a context, which is lent.
 /// [`parse_with`](crate::read::BitReadExt::parse_with) reads them from any reader.
-///
-/// # Examples
-///
-/// ```
-/// use bitstream_io::{BE, BitRead, BitReadExt, BitReader, Error, FromBitStreamWith};
-///
-/// struct Level(u16);
-///
-/// impl FromBitStreamWith for Level {
-///     type Context = u32;
-///     type Error = Error;
-///
-///     fn from_reader<R: BitRead>(reader: &mut R, bits: &u32) -> Result<Level, Error> {
-///         Ok(Level(reader.read_var::<u16>(*bits)?))
-///     }
-/// }
-///
-/// let mut reader = BitReader::<_, BE>::new([0xb1, 0xed].as_slice());
-/// let level: Level = reader.parse_with(&12)?;
-/// assert_eq!(rt; level.0, 0xb1e);
-/// ```
 pub trait FromBitStreamWith: Sized {
     /// What is known before a value is read.
     type Context;

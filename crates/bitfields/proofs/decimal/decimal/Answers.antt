@@ -10,7 +10,8 @@ returns-then-value-digit c =
     let i = c.loop-byte.byte-index in
     let h : i < length c.args.text.now = omega arith in
     let r = digit_at c.args.text.now i ok h in
-    let more = one_more c.args.text.now i c.from-digit.result c.loop-byte.value ok h c.loop-byte.invariant (omega (arith, r, c.from-digit.ensures)) in
+    let more = one_more c.args.text.now i c.from-digit.result c.loop-byte.value ok h c.loop-byte.invariant
+    (omega (arith, r, c.from-digit.ensures)) in
     let least = digits_value-take-le 10 c.args.text.now (i + 1) (omega arith) in
     too_great c.args.text.now (2 ^ 128) ok (omega (arith, more, least))
 
@@ -20,4 +21,5 @@ loop-byte-preserved c =
     let i = c.loop-byte.byte-index in
     let h : i < length c.args.text.now = omega arith in
     let r = digit_at c.args.text.now i ok h in
-    one_more c.args.text.now i c.from-digit.result c.loop-byte.value ok h c.loop-byte.invariant (omega (arith, r, c.from-digit.ensures))
+    one_more c.args.text.now i c.from-digit.result c.loop-byte.value ok h c.loop-byte.invariant
+    (omega (arith, r, c.from-digit.ensures))

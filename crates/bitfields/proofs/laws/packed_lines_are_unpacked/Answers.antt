@@ -18,7 +18,8 @@ returns c = λ o fields input vs bytes layout spelt packs. (
     let n = length written in
     let place : 0 + n ≡ n = omega arith in (
       ap (unpacked o 1 fields 0) (packs ∙ write_run-append (field_writes o fields vs) (align ∷ []) 0)
-          ∙ unpacked-written o 1 fields vs 0 (write_run (align ∷ []) (0 + n)) each (values-Fit 1 fields (lines input) vs spelt)
+          ∙ unpacked-written o 1 fields vs 0 (write_run (align ∷ []) (0 + n)) each
+          (values-Fit 1 fields (lines input) vs spelt)
           ∙ ap (Unpacks vs) place,
       printed_lines-values 1 fields (lines input) vs each spelt,
     )

@@ -9,4 +9,5 @@ use Rattle.bitfields.proofs.laws.packing_is_a_write_run.Goals as goal
 
 pub returns-clause-accepted : goal.returns-clause-accepted
 returns-clause-accepted c = λ o fields vs at i h.
-    All-from_recursion (λ r. r ≡ None) (write_refusals (field_writes o fields vs ++ align ∷ []) at) (refusals-none o fields vs at (recursion_from_All IsField fields i) h)
+    All-from_recursion (λ r. r ≡ None) (write_refusals (field_writes o fields vs ++ align ∷ []) at)
+    (refusals-none o fields vs at (recursion_from_All IsField fields i) h)

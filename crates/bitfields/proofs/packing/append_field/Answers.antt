@@ -10,7 +10,10 @@ returns-in-Unsigned g c = rw c.in-Unsigned.is (rw c.first_unsigned.ensures.first
 pub returns-in-Signed : goal.returns-in-Signed
 returns-in-Signed g c =
     let fits : SFits w128 c.first_signed.result = search (rules, sfits_of) in
-    rw c.in-Signed.is (rw (to_z-of_z w128 c.first_signed.result fits, c.first_signed.ensures.first) at c.write_signed_var.ensures.writes)
+    rw c.in-Signed.is (rw (
+      to_z-of_z w128 c.first_signed.result fits,
+      c.first_signed.ensures.first,
+    ) at c.write_signed_var.ensures.writes)
 
 pub returns-in-Unary : goal.returns-in-Unary
 returns-in-Unary g c = rw c.in-Unary.is (rw c.first_unsigned-in-Unary.ensures.first at c.append_run.ensures)
@@ -21,7 +24,10 @@ returns-in-Variable g c = rw c.in-Variable.is (rw c.first_unsigned-in-Variable.e
 pub returns-in-SignedVariable : goal.returns-in-SignedVariable
 returns-in-SignedVariable g c =
     let fits : SFits w128 c.first_signed-in-SignedVariable.result = search (rules, sfits_of) in
-    rw c.in-SignedVariable.is (rw (to_z-of_z w128 c.first_signed-in-SignedVariable.result fits, c.first_signed-in-SignedVariable.ensures.first) at c.append_signed_groups.ensures)
+    rw c.in-SignedVariable.is (rw (
+      to_z-of_z w128 c.first_signed-in-SignedVariable.result fits,
+      c.first_signed-in-SignedVariable.ensures.first,
+    ) at c.append_signed_groups.ensures)
 
 pub returns-in-Padding : goal.returns-in-Padding
 returns-in-Padding g c = rw c.in-Padding.is c.pad.ensures.writes

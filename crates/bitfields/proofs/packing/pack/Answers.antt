@@ -16,11 +16,15 @@ returns-in-Ok g c =
     let fresh = c.new-writer.ensures in
     let added = c.in-Ok.ensures.adds (ap (λ (s : WriterState). s.failed) fresh) refl in
     let read = (value_expected c.in_ok-values.ensures.values) in
-    let place = first_name {m = w.port.stream.at.ghost_name} {n = c.new.result.at.ghost_name} (added.reference_names ∙ ap (λ (s : WriterState). s.port.reference_names) fresh) in
-    let bytes = PackedBytes-from g.E.Endianness.order c.args.layout.now c.deref.result.now _ _ _ (writer_state (λ l. g.W.Target.contents l.at.now) (λ l. l.at.ghost_name ∷ g.W.Target.reference_names l.at.now) w) w.few fresh added.grown in
+    let place = first_name {m = w.port.stream.at.ghost_name} {n = c.new.result.at.ghost_name} (added.reference_names
+    ∙ ap (λ (s : WriterState). s.port.reference_names) fresh) in
+    let bytes = PackedBytes-from g.E.Endianness.order c.args.layout.now c.deref.result.now _ _ _
+    (writer_state (λ l. g.W.Target.contents l.at.now) (λ l. l.at.ghost_name ∷ g.W.Target.reference_names l.at.now)
+    w) w.few fresh added.grown in
     let names = c.new.ensures.name in
     rw (read, ← c.new.ensures.value, ← c.deref.ensures.value)
-    (subst (λ l. PackedBytes g.E.Endianness.order c.args.layout.now c.deref.result.now (g.W.Target.contents c.new.result.at.now) (g.W.Target.contents l)) (search rules) bytes)
+    (subst (λ l. PackedBytes g.E.Endianness.order c.args.layout.now c.deref.result.now
+    (g.W.Target.contents c.new.result.at.now) (g.W.Target.contents l)) (search rules) bytes)
 
 pub returns : goal.returns
 returns g c =
@@ -29,12 +33,22 @@ returns g c =
     let fresh = c.new-writer.ensures in
     let fault = c.in-Err.ensures.adds (ap (λ (s : WriterState). s.failed) fresh) refl in
     let none = ap (λ (s : WriterState). 8 * s.port.sent + s.queued) fresh in
-    let place = first_name {m = w.port.stream.at.ghost_name} {n = c.new.result.at.ghost_name} (fault.reference_names ∙ ap (λ (s : WriterState). s.port.reference_names) fresh) in
+    let place = first_name {m = w.port.stream.at.ghost_name} {n = c.new.result.at.ghost_name} (fault.reference_names
+    ∙ ap (λ (s : WriterState). s.port.reference_names) fresh) in
     let tied = c.output-1.given.1 (sym c.new.ensures.name ∙ sym place) in
     let seen = MayRefuse-seen (λ l. l.at.now) g.W.Target.contents g.W.Target.refuses in
-    let refused = PackingRefused-from _ (MayRefuse g.W.Target.contents g.W.Target.refuses) c.args.layout.now c.deref.result.now _ _ _ c.in-Err.error _ seen none (filled o _ _ _ fresh) fault (c.new-in-Err.ensures ∙ ap (fault_of 0) c.write_reason.ensures) in
-    rw ((value_expected c.in_ok-values.ensures.values), tied, ← c.new.ensures.value, ← c.deref.ensures.value) (inr refused)
+    let refused = PackingRefused-from _ (MayRefuse g.W.Target.contents g.W.Target.refuses) c.args.layout.now
+    c.deref.result.now _ _ _ c.in-Err.error _ seen none (filled o _ _ _ fresh) fault (c.new-in-Err.ensures
+    ∙ ap (fault_of 0) c.write_reason.ensures) in
+    rw (
+      (value_expected c.in_ok-values.ensures.values),
+      tied,
+      ← c.new.ensures.value,
+      ← c.deref.ensures.value,
+    ) (inr refused)
 
 pub returns-in_err-values : goal.returns-in_err-values
 returns-in_err-values g c =
-    Packs-refused g.W.Target.contents (MayRefuse g.W.Target.contents g.W.Target.refuses) g.E.Endianness.order c.args.layout.now _ c.args.output.now c.from_residual.result c.in_err-values.field-0.0 c.from_residual.ensures.1 (fault_expected c.in_err-values.ensures.values)
+    Packs-refused g.W.Target.contents (MayRefuse g.W.Target.contents g.W.Target.refuses) g.E.Endianness.order
+    c.args.layout.now _ c.args.output.now c.from_residual.result c.in_err-values.field-0.0 c.from_residual.ensures.1
+    (fault_expected c.in_err-values.ensures.values)

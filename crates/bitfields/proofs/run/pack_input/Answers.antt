@@ -8,11 +8,16 @@ pub returns-in_err-pack : goal.returns-in_err-pack
 returns-in_err-pack g c =
     let known = g.R.Source.remaining in
     let reads : ReadToEnd (known c.args.input.now) c.deref.result.now (known c.read_rest.new.self) = search rules in
-    rw (result_err c.from_residual-in_err-pack.result c.from_residual-in_err-pack.ensures.1) (packing_fault reads _ refl c.in_err-pack.ensures)
+    rw (result_err c.from_residual-in_err-pack.result c.from_residual-in_err-pack.ensures.1)
+    (packing_fault reads _ refl c.in_err-pack.ensures)
 
 pub returns-in_err-flush : goal.returns-in_err-flush
 returns-in_err-flush g c =
     let known = g.R.Source.remaining in
     let reads : ReadToEnd (known c.args.input.now) c.deref.result.now (known c.read_rest.new.self) = search rules in
     rw (result_err c.from_residual-in_err-flush.result c.from_residual-in_err-flush.ensures.1)
-    (packing_unflushed reads _ refl c.in_ok-pack.ensures (record { kind = _; refused = c.in_err-flush.ensures.refused; reason = refl }))
+    (packing_unflushed reads _ refl c.in_ok-pack.ensures (record {
+      kind = _;
+      refused = c.in_err-flush.ensures.refused;
+      reason = refl;
+    }))

@@ -16,11 +16,14 @@ returns g c =
     let first = c.new.result in
     let last = c.unpack_from.new.reader.port.stream in
     let inside = MayRefuse-seen (λ l. l.at.now) source.remaining source.refuses in
-    let all = Unpacks-from _ may fields (source.remaining first.at.now) (first.at.ghost_name ∷ source.reference_names first.at.now) _ _ _ inside c.new-reader.ensures.state (rw c.fields.ensures.fields at c.in_ok-lines.ensures) in
+    let all = Unpacks-from _ may fields (source.remaining first.at.now)
+    (first.at.ghost_name ∷ source.reference_names first.at.now) _ _ _ inside c.new-reader.ensures.state
+    (rw c.fields.ensures.fields at c.in_ok-lines.ensures) in
     let place = first_name {m = last.at.ghost_name} {n = first.at.ghost_name} all.1 in
     let names = c.new.ensures.name in
     let result = Ok c.into_bytes.result.items in
-    let bytes : UnpacksBytes source.remaining may o fields c.args.input.now result last.at.now = rw (text, ← c.new.ensures.value) all.0 in
+    let bytes : UnpacksBytes source.remaining may o fields c.args.input.now result last.at.now =
+    rw (text, ← c.new.ensures.value) all.0 in
     record {
       unpacks = subst (λ l. UnpacksBytes source.remaining may o fields c.args.input.now result l) (search rules) bytes;
       said = said source.remaining may o fields c.args.input.now last.at.now result bytes;
@@ -35,12 +38,15 @@ returns-in_err-lines g c =
     let first = c.new.result in
     let last = c.unpack_from.new.reader.port.stream in
     let inside = MayRefuse-seen (λ l. l.at.now) source.remaining source.refuses in
-    let all = Unpacks-from _ may fields (source.remaining first.at.now) (first.at.ghost_name ∷ source.reference_names first.at.now) _ _ _ inside c.new-reader.ensures.state (rw c.fields.ensures.fields at c.in_err-lines.ensures) in
+    let all = Unpacks-from _ may fields (source.remaining first.at.now)
+    (first.at.ghost_name ∷ source.reference_names first.at.now) _ _ _ inside c.new-reader.ensures.state
+    (rw c.fields.ensures.fields at c.in_err-lines.ensures) in
     let place = first_name {m = last.at.ghost_name} {n = first.at.ghost_name} all.1 in
     let names = c.new.ensures.name in
     let result = seen (λ v. v.items) c.from_residual.result in
     let bytes : UnpacksBytes source.remaining may o fields c.args.input.now result last.at.now =
-    UnpacksBytes-exit source.remaining may o fields c.args.input.now last.at.now (λ v. v.items) c.from_residual.result c.in_err-lines.field-0.0 c.from_residual.ensures.1 (rw (← c.new.ensures.value) all.0) in
+    UnpacksBytes-exit source.remaining may o fields c.args.input.now last.at.now (λ v. v.items) c.from_residual.result
+    c.in_err-lines.field-0.0 c.from_residual.ensures.1 (rw (← c.new.ensures.value) all.0) in
     record {
       unpacks = subst (λ l. UnpacksBytes source.remaining may o fields c.args.input.now result l) (search rules) bytes;
       said = said source.remaining may o fields c.args.input.now last.at.now result bytes;

@@ -11,20 +11,24 @@ pub loop-index-preserved : goal.loop-index-preserved
 loop-index-preserved g c =
     let i = c.loop-index.index in
     let h : i < length c.args.fields.now = omega arith in
-    let printed : string_bytes c.print_field.new.lines ≡ string_bytes c.loop-index.lines ++ printed_lines (value_list c.in-Ok.value) = search rules in
+    let printed : string_bytes c.print_field.new.lines ≡ string_bytes c.loop-index.lines
+    ++ printed_lines (value_list c.in-Ok.value) = search rules in
     Unpacking-more g.R.BitRead.source c.args.fields.now i _ _ _ _ _ _ _ h c.loop-index.invariant c.in-Ok.ensures printed
 
 pub returns-then-is_err : goal.returns-then-is_err
 returns-then-is_err g c =
     let i = c.loop-index.index in
     let h : i < length c.args.fields.now = omega arith in
-    Unpacking-memory_refused g.R.BitRead.source c.args.fields.now i _ _ _ _ _ c.in-Ok.value _ h c.loop-index.invariant c.in-Ok.ensures (c.print_field.ensures.some (search rules)) c.new.ensures
+    Unpacking-memory_refused g.R.BitRead.source c.args.fields.now i _ _ _ _ _ c.in-Ok.value _ h c.loop-index.invariant
+    c.in-Ok.ensures (c.print_field.ensures.some (search rules)) c.new.ensures
 
 pub returns-in-Err : goal.returns-in-Err
 returns-in-Err g c =
     let i = c.loop-index.index in
     let h : i < length c.args.fields.now = omega arith in
-    Unpacking-err g.R.BitRead.source c.args.fields.now i _ _ _ _ _ c.in-Err.error _ h c.loop-index.invariant c.in-Err.ensures (c.new-in-Err.ensures ∙ ap (fault (i + 1)) c.read_reason.ensures)
+    Unpacking-err g.R.BitRead.source c.args.fields.now i _ _ _ _ _ c.in-Err.error _ h c.loop-index.invariant
+    c.in-Err.ensures (c.new-in-Err.ensures ∙ ap (fault (i + 1)) c.read_reason.ensures)
 
 pub returns : goal.returns
-returns g c = Unpacking-end g.R.BitRead.source c.args.fields.now c.loop-index.index _ _ _ (omega arith) c.loop-index.invariant
+returns g c = Unpacking-end g.R.BitRead.source c.args.fields.now c.loop-index.index _ _ _ (omega arith)
+    c.loop-index.invariant

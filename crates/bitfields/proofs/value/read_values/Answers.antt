@@ -8,5 +8,6 @@ loop-index-preserved c =
     let i = c.loop-index.index in
     let h : i < length c.args.fields.now = omega arith in
     let pushed : c.push_value.new.values.items ≡ c.loop-index.values.items ++ value_list c.in-Ok.value = search rules in
-    let more = one_value c.args.fields.now i _ c.loop-index.values.items _ c.in-Ok.value h c.loop-index.invariant (sym c.in-Ok.ensures.value) in
+    let more = one_value c.args.fields.now i _ c.loop-index.values.items _ c.in-Ok.value h c.loop-index.invariant
+    (sym c.in-Ok.ensures.value) in
     rw pushed (search (rules, more))

@@ -5,4 +5,5 @@ use Rattle.bitfields.proofs.value.read_values.Given as goal
 
 abbrev pub invariant-loop-index : goal.invariant-loop-index
 invariant-loop-index l =
-    values_of 1 l.fields (map (λ x. x.now) l.fn.lines) ≡ after l.values.items (values_of (l.index + 1) (drop l.index l.fields) (map (λ x. x.now) l.rest))
+    values_of 1 l.fields (map (λ x. x.now) l.fn.lines)
+    ≡ after l.values.items (values_of (l.index + 1) (drop l.index l.fields) (map (λ x. x.now) l.rest))

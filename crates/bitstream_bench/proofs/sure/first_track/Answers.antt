@@ -7,9 +7,11 @@ use Rattle.bitstream_bench.proofs.sure.first_track.Goals as goal
 pub returns-clause-there : goal.returns-clause-there
 returns-clause-there c =
     let word = non_zero-word _ Low 8 4 (omega arith) in
-    rw (← c.new.ensures.bytes) (λ enough. rw (word_there word slice_ends c.new-reader.ensures.state c.read_var.ensures.reads enough) refl)
+    rw (← c.new.ensures.bytes) (λ enough. rw (word_there word slice_ends c.new-reader.ensures.state
+    c.read_var.ensures.reads enough) refl)
 
 pub returns-clause-short : goal.returns-clause-short
 returns-clause-short c =
     let word = non_zero-word _ Low 8 4 (omega arith) in
-    rw (← c.new.ensures.bytes) (λ few. word_short word slice_ends c.new-reader.ensures.state c.read_var.ensures.reads few)
+    rw (← c.new.ensures.bytes) (λ few. word_short word slice_ends c.new-reader.ensures.state c.read_var.ensures.reads
+    few)

@@ -7,7 +7,8 @@ use Rattle.bitstream_bench.proofs.sure.first_words.Goals as goal
 pub returns-clause-there : goal.returns-clause-there
 returns-clause-there c =
     let word = unsigned-word High 16 9 (omega arith) in
-    rw (← c.new.ensures.bytes) (λ enough. items_there word 3 slice_ends c.new-reader.ensures.state c.read.ensures.reads enough)
+    rw (← c.new.ensures.bytes) (λ enough. items_there word 3 slice_ends c.new-reader.ensures.state c.read.ensures.reads
+    enough)
 
 pub returns-clause-short : goal.returns-clause-short
 returns-clause-short c =

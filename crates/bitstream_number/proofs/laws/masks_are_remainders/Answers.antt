@@ -9,5 +9,6 @@ returns g c =
     let size = g.U.Numeric.BITS_SIZE in
     let n = c.args.bits in
     let all = ap u.value c.ALL.ensures ∙ law.ALL_law in
-    let shifted : u.value c.shr.result ≡ u.value c.ALL.result / 2 ^ (size - n) = law.shr_law _ _ _ c.shr.ensures ∙ ap (λ w. u.value c.ALL.result / 2 ^ (w - n)) c.BITS_SIZE.ensures in
+    let shifted : u.value c.shr.result ≡ u.value c.ALL.result / 2 ^ (size - n) = law.shr_law _ _ _ c.shr.ensures
+    ∙ ap (λ w. u.value c.ALL.result / 2 ^ (w - n)) c.BITS_SIZE.ensures in
     masked-is _ n _ _ (mask-is size n _ _ c.requires.within all shifted) (law.and_law _ _ _ c.bitand.ensures)

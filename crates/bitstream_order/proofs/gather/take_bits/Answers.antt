@@ -9,7 +9,8 @@ use Rattle.bitstream_order.proofs.gather.take_bits.Goals as goal
 pub put-requires-clause-small : goal.put-requires-clause-small
 put-requires-clause-small g c =
     let room = c.requires.room in
-    rw c.front.ensures (first_below g.E.Endianness.order _ g.U.Numeric.BITS_SIZE c.args.n c.of_bytes-value.ensures.below (omega arith))
+    rw c.front.ensures (first_below g.E.Endianness.order _ g.U.Numeric.BITS_SIZE c.args.n c.of_bytes-value.ensures.below
+    (omega arith))
 
 pub returns-in-Ok-clause-takes : goal.returns-in-Ok-clause-takes
 returns-in-Ok-clause-takes g c =
@@ -20,7 +21,9 @@ returns-in-Ok-clause-takes g c =
     let items = c.buffer-bytes.ensures in
     let value = c.as_bytes_mut.ensures.value in
     let long : length buf ≡ g.U.Primitive.BYTES = c.fetch_front.ensures.len ∙ ap length value ∙ items in
-    let is = c.of_bytes-value.ensures.word ∙ ap (bits g.E.Endianness.order) (g.met.U.Bytes.Buffer.items_law buf ∙ sym (take-append-drop count buf)) in
-    takes_bits g.E.Endianness.order c.args.done _ c.args.n g.U.Numeric.BITS_SIZE _ _ _ _ (take count buf) (drop count buf) _ _ c.requires.below c.of_bytes-value.ensures.below
+    let is = c.of_bytes-value.ensures.word ∙ ap (bits g.E.Endianness.order) (g.met.U.Bytes.Buffer.items_law buf
+    ∙ sym (take-append-drop count buf)) in
+    takes_bits g.E.Endianness.order c.args.done _ c.args.n g.U.Numeric.BITS_SIZE _ _ _ _ (take count buf)
+    (drop count buf) _ _ c.requires.below c.of_bytes-value.ensures.below
     (length-take-le count buf (omega arith)) (omega arith) c.in-Ok.ensures.fetches is c.front.ensures c.put.ensures
     (c.byte_behind-left.ensures (unused c.args.n) (omega arith) (omega arith))

@@ -17,7 +17,9 @@ loop-bytes-init g c =
     let queued = c.args.queued in
     let queue = c.args.queue in
     let byte : queue < 256 = search rules in
-    let last = last_queue o size _ queued queue _ _ _ (omega (arith, few, whole, least)) c.requires.small c.BITS_SIZE.ensures (ap g.U.UnsignedInteger.value c.ZERO.ensures ∙ laws.ZERO_value_law) (laws.byte_law _ _ c.from_u8.ensures byte) c.put-before.ensures in
+    let last = last_queue o size _ queued queue _ _ _ (omega (arith, few, whole, least)) c.requires.small
+    c.BITS_SIZE.ensures (ap g.U.UnsignedInteger.value c.ZERO.ensures
+    ∙ laws.ZERO_value_law) (laws.byte_law _ _ c.from_u8.ensures byte) c.put-before.ensures in
     record {
       shifts = subst (λ v. Shifts o queued queue [] [] v) (sym last) (shifts_none o queued queue);
       rest = refl;
@@ -38,13 +40,18 @@ loop-bytes-preserved g c =
     let whole = g.met.U.Numeric.size_law in
     let least = g.met.U.Numeric.least_law in
     let step : at + size - at ≡ size = omega arith in
-    let len : length made ≡ size = ap length (c.copy_from_slice-in-loop-bytes.ensures.after ∙ c.as_bytes.ensures) ∙ c.to_bytes-shifted.ensures.len ∙ sym c.BYTES-in-loop-bytes.ensures in
+    let len : length made ≡ size = ap length (c.copy_from_slice-in-loop-bytes.ensures.after ∙ c.as_bytes.ensures)
+    ∙ c.to_bytes-shifted.ensures.len ∙ sym c.BYTES-in-loop-bytes.ensures in
     let was = c.of_bytes-value.ensures.word ∙ ap (bits o) (g.met.U.Bytes.Buffer.items_law part) in
-    let is = sym c.to_bytes-shifted.ensures.bits ∙ ap (bits o) (sym (c.copy_from_slice-in-loop-bytes.ensures.after ∙ c.as_bytes.ensures)) in
+    let is = sym c.to_bytes-shifted.ensures.bits ∙ ap (bits o) (sym (c.copy_from_slice-in-loop-bytes.ensures.after
+    ∙ c.as_bytes.ensures)) in
     record {
-      shifts = shifts_part o c.args.queued c.args.queue _ _ at size (at + size - at) c.args.bytes.now xs part made step within len c.loop-bytes.invariant.rest c.copy_from_slice.ensures.after
-          c.loop-bytes.invariant.shifts (shifts_as o c.args.queued _ _ _ _ _ _ was is (shifts_word o _ c.args.queued _ _ _ (omega (arith, few, whole, least)) c.carry.ensures));
-      rest = drop-put_mid at (at + size - at) xs made (at + size) (omega arith) within (len ∙ sym step) ∙ drop_more at size xs c.args.bytes.now c.loop-bytes.invariant.rest;
+      shifts = shifts_part o c.args.queued c.args.queue _ _ at size (at + size - at) c.args.bytes.now xs part made step
+          within len c.loop-bytes.invariant.rest c.copy_from_slice.ensures.after
+          c.loop-bytes.invariant.shifts (shifts_as o c.args.queued _ _ _ _ _ _ was is
+          (shifts_word o _ c.args.queued _ _ _ (omega (arith, few, whole, least)) c.carry.ensures));
+      rest = drop-put_mid at (at + size - at) xs made (at + size) (omega arith) within (len ∙ sym step)
+          ∙ drop_more at size xs c.args.bytes.now c.loop-bytes.invariant.rest;
       len = search rules;
       within = search rules;
     }

@@ -10,7 +10,8 @@ invariant-loop-bytes g l =
     let size = g.U.Numeric.BITS_SIZE in
     let left = piece g.E.Endianness.order size (g.U.UnsignedInteger.value l.before) (size - l.queued) l.queued in
     record {
-      shifts : Shifts g.E.Endianness.order l.queued l.queue (bits g.E.Endianness.order (take l.at l.initial.bytes)) (bits g.E.Endianness.order (take l.at l.bytes)) left;
+      shifts : Shifts g.E.Endianness.order l.queued l.queue (bits g.E.Endianness.order (take l.at l.initial.bytes))
+          (bits g.E.Endianness.order (take l.at l.bytes)) left;
       rest : drop l.at l.bytes ≡ drop l.at l.initial.bytes;
       len : length l.bytes ≡ length l.initial.bytes;
       within : l.at ≤ length l.bytes;

@@ -7,8 +7,10 @@ pub returns-then-first-queued-clause-takes : goal.returns-then-first-queued-clau
 returns-then-first-queued-clause-takes g c =
     let o = g.E.Endianness.order in
     let few = c.requires in
-    lead_ends o c.args.stop _ _ 0 c.args.queue c.args.queued c.lead-first.result c.lead-first.result _ c.rest.result c.rest-then-first-queued.result _
-    (omega arith) c.lead-first.ensures c.if-first-queued.true refl (omega arith) c.rest.ensures c.rest-then-first-queued.ensures (between_none o _ _)
+    lead_ends o c.args.stop _ _ 0 c.args.queue c.args.queued c.lead-first.result c.lead-first.result _ c.rest.result
+    c.rest-then-first-queued.result _
+    (omega arith) c.lead-first.ensures c.if-first-queued.true refl (omega arith) c.rest.ensures
+    c.rest-then-first-queued.ensures (between_none o _ _)
 
 pub loop-byte-init : goal.loop-byte-init
 loop-byte-init g c =
@@ -19,7 +21,8 @@ loop-byte-init g c =
     let turn = c.add.ensures in
     record {
       small = omega arith;
-      takes = all_others o c.args.stop _ _ 0 c.args.queue c.args.queued c.args.queued _ (omega arith) (omega arith) (omega arith) (between_none o _ _);
+      takes = all_others o c.args.stop _ _ 0 c.args.queue c.args.queued c.args.queued _ (omega arith) (omega arith)
+          (omega arith) (between_none o _ _);
       turns = omega arith;
       fetched = omega arith;
     }
@@ -40,15 +43,19 @@ returns-in_default-clause-takes g c =
     let inv = c.loop-byte.invariant in
     let lead = c.lead-lead.ensures in
     let long : 2 ^ 32 ≤ c.loop-byte.count + c.lead-lead.result = omega (arith, c.in_default.ensures) in
-    lead_long o c.args.stop _ _ c.loop-byte.count c.in_ok-byte.byte 8 c.lead-lead.result _ (omega arith) (lead_of_byte o c.args.stop c.in_ok-byte.byte _ lead) (omega arith) inv.small long
+    lead_long o c.args.stop _ _ c.loop-byte.count c.in_ok-byte.byte 8 c.lead-lead.result _ (omega arith)
+    (lead_of_byte o c.args.stop c.in_ok-byte.byte _ lead) (omega arith) inv.small long
     (byte_waits o _ _ c.in_ok-byte.byte _ _ _ inv.takes c.in_ok-byte.ensures)
 
 pub returns-then-lead-lt8-clause-takes : goal.returns-then-lead-lt8-clause-takes
 returns-then-lead-lt8-clause-takes g c =
     let o = g.E.Endianness.order in
     let less = c.if-lead-lt8.true in
-    lead_ends o c.args.stop _ _ c.loop-byte.count c.in_ok-byte.byte 8 c.lead-lead.result c.in-Some.more _ c.rest-then-lead-lt8.result c.rest-then-lead-lt8-2.result _
-    (omega arith) c.lead-lead.ensures less (omega arith) (search rules) c.rest-then-lead-lt8.ensures c.rest-then-lead-lt8-2.ensures (byte_waits o _ _ c.in_ok-byte.byte _ _ _ c.loop-byte.invariant.takes c.in_ok-byte.ensures)
+    lead_ends o c.args.stop _ _ c.loop-byte.count c.in_ok-byte.byte 8 c.lead-lead.result c.in-Some.more _
+    c.rest-then-lead-lt8.result c.rest-then-lead-lt8-2.result _
+    (omega arith) c.lead-lead.ensures less (omega arith) (search rules) c.rest-then-lead-lt8.ensures
+    c.rest-then-lead-lt8-2.ensures (byte_waits o _ _ c.in_ok-byte.byte _ _ _ c.loop-byte.invariant.takes
+    c.in_ok-byte.ensures)
 
 pub loop-byte-preserved : goal.loop-byte-preserved
 loop-byte-preserved g c =
@@ -64,7 +71,8 @@ loop-byte-preserved g c =
     let turn = c.add-in-loop-byte.ensures in
     record {
       small = search rules;
-      takes = all_others o c.args.stop _ _ c.loop-byte.count c.in_ok-byte.byte 8 c.in-Some.more _ (omega arith) (omega arith) (omega arith) (byte_waits o _ _ c.in_ok-byte.byte _ _ _ inv.takes c.in_ok-byte.ensures);
+      takes = all_others o c.args.stop _ _ c.loop-byte.count c.in_ok-byte.byte 8 c.in-Some.more _ (omega arith)
+          (omega arith) (omega arith) (byte_waits o _ _ c.in_ok-byte.byte _ _ _ inv.takes c.in_ok-byte.ensures);
       turns = omega arith;
       fetched = omega arith;
     }

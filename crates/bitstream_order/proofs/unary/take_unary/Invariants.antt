@@ -14,7 +14,8 @@ invariant-loop-byte g l =
     let now = port_state g.S.Source.remaining g.S.Source.reference_names l.port in
     record {
       small : l.count < 2 ^ 32;
-      takes : TakesBetween o (word o l.queued (first_part o l.queue 8 l.queued)) first (replicate l.count (not l.stop)) [] now;
+      takes : TakesBetween o (word o l.queued (first_part o l.queue 8 l.queued)) first (replicate l.count (not l.stop))
+          [] now;
       turns : l.turns.count + fetched_count l.fn.port ≡ l.fn.turns.count + fetched_count l.port + 1;
       fetched : fetched_count l.fn.port ≤ fetched_count l.port;
     }

@@ -8,14 +8,17 @@ returns-in-Ok-clause-word g c = λ o len.
     let h = c.in-Some.ensures in
     let is : c.in-Some.count ≡ c.args.bits = h.1 ∙ c.unknown.ensures in
     let some : 0 < c.args.bits = subst (λ (n : ℕ). 0 < n) c.unknown.ensures h.0 in
-    signed-accepts o _ _ _ len some (subst (λ (n : ℕ). HoldsSigned g.S.Numeric.BITS_SIZE n (g.S.Numeric.integer c.args.value)) is c.in-Ok.ensures.0)
+    signed-accepts o _ _ _ len some (subst (λ (n : ℕ). HoldsSigned g.S.Numeric.BITS_SIZE n
+    (g.S.Numeric.integer c.args.value)) is c.in-Ok.ensures.0)
 
 pub returns-in-Err-clause-refusal : goal.returns-in-Err-clause-refusal
 returns-in-Err-clause-refusal g c = λ o len.
     let h = c.in-Some.ensures in
     let is : c.in-Some.count ≡ c.args.bits = h.1 ∙ c.unknown.ensures in
     let some : 0 < c.args.bits = subst (λ (n : ℕ). 0 < n) c.unknown.ensures h.0 in
-    signed-refuses o _ _ _ len _ some (subst (λ (n : ℕ). RefusesSigned g.S.Numeric.BITS_SIZE n (g.S.Numeric.integer c.args.value) c.in-Err.refused) is c.in-Err.ensures)
+    signed-refuses o _ _ _ len _ some (subst (λ (n : ℕ). RefusesSigned g.S.Numeric.BITS_SIZE n
+    (g.S.Numeric.integer c.args.value) c.in-Err.refused) is c.in-Err.ensures)
 
 pub returns-in-None-clause-refusal : goal.returns-in-None-clause-refusal
-returns-in-None-clause-refusal g c = λ o len. signed-none o _ _ _ len (sym c.unknown.ensures ∙ none_of _ c.in-None.ensures)
+returns-in-None-clause-refusal g c = λ o len. signed-none o _ _ _ len (sym c.unknown.ensures
+    ∙ none_of _ c.in-None.ensures)

@@ -10,12 +10,16 @@ returns-then-stop-clause-word g c = λ o.
 
 pub returns-else-stop-clause-word : goal.returns-else-stop-clause-word
 returns-else-stop-clause-word g c = λ o.
-    ones_others g.U.Numeric.BITS_SIZE c.args.n _ _ c.requires (ap g.U.UnsignedInteger.value c.ALL.ensures ∙ g.met.U.UnsignedInteger.ALL_law)
-    (c.shr_default.ensures ∙ ap (λ w. g.U.UnsignedInteger.value c.ALL.result / 2 ^ (w - c.args.n)) c.BITS_SIZE.ensures) o
+    ones_others g.U.Numeric.BITS_SIZE c.args.n _ _ c.requires (ap g.U.UnsignedInteger.value c.ALL.ensures
+    ∙ g.met.U.UnsignedInteger.ALL_law)
+    (c.shr_default.ensures ∙ ap (λ w. g.U.UnsignedInteger.value c.ALL.result / 2 ^ (w - c.args.n)) c.BITS_SIZE.ensures)
+    o
     ∙ ap (λ stop. replicate c.args.n (not stop)) (sym c.if-stop.false)
 
 pub returns-else-stop-clause-below : goal.returns-else-stop-clause-below
 returns-else-stop-clause-below g c =
-    let is = ones_number g.U.Numeric.BITS_SIZE c.args.n _ _ c.requires (ap g.U.UnsignedInteger.value c.ALL.ensures ∙ g.met.U.UnsignedInteger.ALL_law)
-    (c.shr_default.ensures ∙ ap (λ w. g.U.UnsignedInteger.value c.ALL.result / 2 ^ (w - c.args.n)) c.BITS_SIZE.ensures) in
+    let is = ones_number g.U.Numeric.BITS_SIZE c.args.n _ _ c.requires (ap g.U.UnsignedInteger.value c.ALL.ensures
+    ∙ g.met.U.UnsignedInteger.ALL_law)
+    (c.shr_default.ensures ∙ ap (λ w. g.U.UnsignedInteger.value c.ALL.result / 2 ^ (w - c.args.n)) c.BITS_SIZE.ensures)
+    in
     omega (arith, is, pow_pos c.args.n)

@@ -6,12 +6,17 @@ pub returns-then-is_negative : goal.returns-then-is_negative
 returns-then-is_negative g c =
     let law = g.met.S.Unsigned.UnsignedInteger in
     let size = g.S.Numeric.BITS_SIZE in
-    let some : 1 ≤ size = let bytes = g.met.S.Numeric.size_law in let least = g.met.S.Numeric.least_law in omega (arith, bytes, least) in
-    negative_place size _ _ _ _ _ g.met.S.SignedInteger.same_size_law some ((g.met.S.SignedInteger.fits_law _).0 c.known.ensures) (c.if-is_negative.ensures.0 refl)
+    let some : 1 ≤ size = let bytes = g.met.S.Numeric.size_law in let least = g.met.S.Numeric.least_law in
+    omega (arith, bytes, least) in
+    negative_place size _ _ _ _ _ g.met.S.SignedInteger.same_size_law some
+    ((g.met.S.SignedInteger.fits_law _).0 c.known.ensures) (c.if-is_negative.ensures.0 refl)
     (rw c.BITS_SIZE.ensures at c.as_negative.ensures) (law.shl_law _ _ _ c.shl.ensures) (law.not_law _ _ c.not.ensures)
 
 pub returns-else-is_negative : goal.returns-else-is_negative
 returns-else-is_negative g c =
     let size = g.S.Numeric.BITS_SIZE in
-    let some : 1 ≤ size = let bytes = g.met.S.Numeric.size_law in let least = g.met.S.Numeric.least_law in omega (arith, bytes, least) in
-    other_place size _ _ _ _ g.met.S.SignedInteger.same_size_law some ((g.met.S.SignedInteger.fits_law _).0 c.known.ensures) c.as_non_negative.ensures (g.met.S.Unsigned.UnsignedInteger.shl_law _ _ _ c.shl-else-is_negative.ensures)
+    let some : 1 ≤ size = let bytes = g.met.S.Numeric.size_law in let least = g.met.S.Numeric.least_law in
+    omega (arith, bytes, least) in
+    other_place size _ _ _ _ g.met.S.SignedInteger.same_size_law some
+    ((g.met.S.SignedInteger.fits_law _).0 c.known.ensures) c.as_non_negative.ensures
+    (g.met.S.Unsigned.UnsignedInteger.shl_law _ _ _ c.shl-else-is_negative.ensures)

@@ -2,4 +2,6 @@ use Rattle.bitstream_value.proofs.LengthLemmas.{counted_as_appended}
 use Rattle.bitstream_value.proofs.laws.bits_are_those_appended.Goals as goal
 
 pub returns : goal.returns
-returns g c = λ value old new bits n one aligned written counted far. counted_as_appended g.W.BitWrite.sink g.C.Counter.value g.C.Counter.greatest _ (λ o. g.T.ToBitStream.writes o value) _ old new bits n one aligned written counted far
+returns g c = λ value old new bits n one aligned written counted far. counted_as_appended g.W.BitWrite.sink
+    g.C.Counter.value g.C.Counter.greatest _ (λ o. g.T.ToBitStream.writes o value) _ old new bits n one aligned written
+    counted far

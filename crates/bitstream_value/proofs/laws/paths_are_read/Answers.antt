@@ -8,4 +8,5 @@ pub returns-clause-back : goal.returns-clause-back
 returns-clause-back g c = path-reads
 
 pub returns-clause-taken : goal.returns-clause-taken
-returns-clause-taken g c = λ t p bits n answer e. let k = path-taken t p bits n answer e in (k.there, (k.symbol, k.answer, k.path))
+returns-clause-taken g c = λ t p bits n answer e. let k = path-taken t p bits n answer e in
+    (k.there, (k.symbol, k.answer, k.path))

@@ -9,7 +9,8 @@ pub returns-in_err-read_unsigned_var : goal.returns-in_err-read_unsigned_var
 returns-in_err-read_unsigned_var g c = record {
   reads =
       Reads-same (none-then g.R.BitRead.source.order 8 (refuses c.args.error) refl)
-      (exit (λ _. refuses c.args.error) c.from_residual.result c.from_residual.ensures.1 c.in_err-read_unsigned_var.ensures.reads);
+      (exit (λ _. refuses c.args.error) c.from_residual.result c.from_residual.ensures.1
+      c.in_err-read_unsigned_var.ensures.reads);
 }
 
 pub returns : goal.returns
@@ -17,5 +18,6 @@ returns g c = record {
   reads =
       let fine = Reads-fine (unsigned-on_failed g.R.BitRead.source.order 8 0) c.in_ok-read_unsigned_var.ensures.reads in
       Reads-same (none-then g.R.BitRead.source.order 8 (refuses c.args.error) refl)
-      (Reads-chain-ok _ (λ _. refuses c.args.error) c.in_ok-read_unsigned_var.ensures.reads (Reads-refuses c.args.error _ fine c.requires));
+      (Reads-chain-ok _ (λ _. refuses c.args.error) c.in_ok-read_unsigned_var.ensures.reads
+      (Reads-refuses c.args.error _ fine c.requires));
 }

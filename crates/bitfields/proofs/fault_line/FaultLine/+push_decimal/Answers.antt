@@ -13,11 +13,15 @@ front_most n range =
     let ten : 10 ^ 20 ≡ 10 * 10 ^ 19 = refl in
     length-decimal-le 19 (n / 10) (lit< tt) (omega arith) (omega arith)
 
-joined : (n : ℕ) (old mid new : List ℕ) → 10 ≤ n → n < 2 ^ 64 → mid ≡ old ++ decimal (n / 10) → new ≡ mid ++ (48 + n % 10) ∷ [] → new ≡ old ++ decimal n
-joined n old mid new high range first last = last ∙ ap (λ line. line ++ (48 + n % 10) ∷ []) first ∙ append_assoc old (decimal (n / 10)) ((48 + n % 10) ∷ []) ∙ ap (λ digits. old ++ digits) (sym (decimal_step n high range))
+joined : (n : ℕ) (old mid new : List ℕ) → 10 ≤ n → n < 2 ^ 64 → mid ≡ old ++ decimal (n / 10) → new ≡ mid
+    ++ (48 + n % 10) ∷ [] → new ≡ old ++ decimal n
+joined n old mid new high range first last = last ∙ ap (λ line. line ++ (48 + n % 10) ∷ []) first
+    ∙ append_assoc old (decimal (n / 10)) ((48 + n % 10) ∷ [])
+    ∙ ap (λ digits. old ++ digits) (sym (decimal_step n high range))
 
 within : (n : ℕ) (old new : List ℕ) → n < 2 ^ 64 → new ≡ old ++ decimal n → length new ≤ length old + 20
-within n old new range text = let whole = simp length-append at (ap length text) in let digits = most n range in omega arith
+within n old new range text = let whole = simp length-append at (ap length text) in let digits = most n range in
+    omega arith
 
 pub push-requires : goal.push-requires
 push-requires t c = omega arith
@@ -36,5 +40,6 @@ push-requires-2 t c =
 
 pub returns : goal.returns
 returns t c =
-    let text = joined c.args.number _ _ _ (omega arith) c.ranges.number.fits c.push_decimal.ensures.text c.push-2.ensures in
+    let text = joined c.args.number _ _ _ (omega arith) c.ranges.number.fits c.push_decimal.ensures.text
+    c.push-2.ensures in
     record { text = text; most = within c.args.number _ _ c.ranges.number.fits text }

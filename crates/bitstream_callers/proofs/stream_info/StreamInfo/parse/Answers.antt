@@ -9,7 +9,9 @@ found : (block : List ℕ) → Finds (bits High block) 0 (stream_info_entry High
 found block = search finds depth 12
 
 pub returns-clause-there : goal.returns-clause-there
-returns-clause-there c = λ enough. fields_there slice_ends c.new-2.ensures.state (ap Some c.new.ensures.bytes) c.read.ensures (found _) (omega arith)
+returns-clause-there c = λ enough. fields_there slice_ends c.new-2.ensures.state (ap Some c.new.ensures.bytes)
+    c.read.ensures (found _) (omega arith)
 
 pub returns-clause-short : goal.returns-clause-short
-returns-clause-short c = λ few. fields_short slice_ends c.new-2.ensures.state (ap Some c.new.ensures.bytes) c.read.ensures (found _) (omega arith)
+returns-clause-short c = λ few. fields_short slice_ends c.new-2.ensures.state (ap Some c.new.ensures.bytes)
+    c.read.ensures (found _) (omega arith)

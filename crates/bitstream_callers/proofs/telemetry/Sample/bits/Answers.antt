@@ -5,4 +5,5 @@ use Rattle.bitstream_callers.specs.Telemetry.{sample_writes}
 use Rattle.bitstream_callers.proofs.telemetry.Sample.bits.Goals as goal
 
 pub returns : goal.returns
-returns c = c.into_written.ensures ∙ counted _ (sample_writes High c.args.self.now) _ _ refl c.new-counter.ensures c.in_ok-write.ensures
+returns c = c.into_written.ensures ∙ counted _ (sample_writes High c.args.self.now) _ _ refl c.new-counter.ensures
+    c.in_ok-write.ensures

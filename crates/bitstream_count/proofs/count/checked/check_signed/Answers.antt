@@ -14,7 +14,8 @@ returns-then-eq-2 g c =
     let within : c.args.bits ≤ g.S.Numeric.BITS_SIZE = omega arith in
     let sign : (integer c.shr-above.result ≡ pos 0) ⊎ (integer c.shr-above.result ≡ negsuc 0) = elim c.if-eq.branch [
       | then-eq w ↦ inl ((same _ _).0 (sym c.eq.ensures ∙ w.if-eq.true) ∙ zero)
-      | else-eq w ↦ inr ((same _ _).0 (sym w.eq-else-eq.ensures ∙ sym w.value-is ∙ c.if-eq-2.true) ∙ w.negative_one.ensures)
+      | else-eq w ↦ inr ((same _ _).0 (sym w.eq-else-eq.ensures ∙ sym w.value-is ∙ c.if-eq-2.true)
+          ∙ w.negative_one.ensures)
     ] in
     ((within, FitsSignedBits-int_shr _ _ _ (g.met.S.SignedInteger.shr_law _ _ _ c.shr-above.ensures) sign), refl)
 
@@ -33,7 +34,10 @@ returns-else-eq-2 g c =
     elim c.if-eq.branch [
       | then-eq w ↦ absurd (apart (sym w.if-eq.true ∙ sym w.value-is ∙ c.if-eq-2.false))
       | else-eq w ↦
-          let some : integer c.shr-above.result ≢ pos 0 = λ e. apart (sym ((same _ _).1 (e ∙ sym zero)) ∙ sym c.eq.ensures ∙ w.if-eq.false) in
-          let other : integer c.shr-above.result ≢ negsuc 0 = λ e. apart (sym ((same _ _).1 (e ∙ sym w.negative_one.ensures)) ∙ sym w.eq-else-eq.ensures ∙ sym w.value-is ∙ c.if-eq-2.false) in
+          let some : integer c.shr-above.result ≢ pos 0 =
+          λ e. apart (sym ((same _ _).1 (e ∙ sym zero)) ∙ sym c.eq.ensures ∙ w.if-eq.false) in
+          let other : integer c.shr-above.result ≢ negsuc 0 =
+          λ e. apart (sym ((same _ _).1 (e ∙ sym w.negative_one.ensures)) ∙ sym w.eq-else-eq.ensures
+          ∙ sym w.value-is ∙ c.if-eq-2.false) in
           (within, ExceedsSignedBits-int_shr _ _ _ shifted some other)
     ]

@@ -7,8 +7,10 @@ use Rattle.bitstream_io.proofs.script.laws.write_runs_join.Goals as goal
 
 pub returns-clause-words : goal.returns-clause-words
 returns-clause-words c o first second len =
-    ap (λ es. write_run es len) (entries-append None o first second) ∙ write_run-append (write_entries None o first) (write_entries None o second) len
+    ap (λ es. write_run es len) (entries-append None o first second)
+    ∙ write_run-append (write_entries None o first) (write_entries None o second) len
 
 pub returns-clause-answers : goal.returns-clause-answers
 returns-clause-answers c o first second len =
-    ap (λ es. write_refusals es len) (entries-append None o first second) ∙ write_refusals-append (write_entries None o first) (write_entries None o second) len
+    ap (λ es. write_refusals es len) (entries-append None o first second)
+    ∙ write_refusals-append (write_entries None o first) (write_entries None o second) len

@@ -25,9 +25,12 @@ loop-i-preserved g c =
     let calls-are : take (i + 1) calls ≡ take i calls ++ call ∷ [] =
     take_more calls i Bit c.loop-i-test.true in
     let fits : i < length answers = omega arith in
-    subst (λ (l : List ReadCall). ReadsEach K l old (take (i + 1) (set answers i (Some c.make.result))) new) (sym calls-are)
-    (subst (λ (l : List (Option (Result Answer Error))). ReadsEach K (take i calls ++ call ∷ []) old l new) (sym (take_more_set answers i (Some c.make.result) fits))
-    (each_more K (take i calls) (take i answers) old c.loop-i.reader call c.make.result (Some c.make.result) new c.loop-i.invariant refl c.make.ensures.reads))
+    subst (λ (l : List ReadCall). ReadsEach K l old (take (i + 1) (set answers i (Some c.make.result))) new)
+    (sym calls-are)
+    (subst (λ (l : List (Option (Result Answer Error))). ReadsEach K (take i calls ++ call ∷ []) old l new)
+    (sym (take_more_set answers i (Some c.make.result) fits))
+    (each_more K (take i calls) (take i answers) old c.loop-i.reader call c.make.result (Some c.make.result) new
+    c.loop-i.invariant refl c.make.ensures.reads))
 
 pub returns-clause-each : goal.returns-clause-each
 returns-clause-each g c =
@@ -36,11 +39,14 @@ returns-clause-each g c =
     let answers = c.loop-i.answers in
     let every : c.loop-i.i ≡ length calls = omega arith in
     let same : c.loop-i.i ≡ length answers = omega arith in
-    subst (λ (l : List ReadCall). ReadsEach K l c.args.reader.now answers c.loop-i.reader) (ap (λ (n : ℕ). take n calls) every ∙ take-length calls)
-    (subst (λ (l : List (Option (Result Answer Error))). ReadsEach K (take c.loop-i.i calls) c.args.reader.now l c.loop-i.reader) (ap (λ (n : ℕ). take n answers) same ∙ take-length answers) c.loop-i.invariant)
+    subst (λ (l : List ReadCall). ReadsEach K l c.args.reader.now answers c.loop-i.reader)
+    (ap (λ (n : ℕ). take n calls) every ∙ take-length calls)
+    (subst (λ (l : List (Option (Result Answer Error))). ReadsEach K (take c.loop-i.i calls) c.args.reader.now l
+    c.loop-i.reader) (ap (λ (n : ℕ). take n answers) same ∙ take-length answers) c.loop-i.invariant)
 
 pub returns-clause-run : goal.returns-clause-run
-returns-clause-run g c bytes known = run_of g.R.BitRead.source c.args.calls.now _ _ _ (returns-clause-each g c) bytes known
+returns-clause-run g c bytes known = run_of g.R.BitRead.source c.args.calls.now _ _ _ (returns-clause-each g c) bytes
+    known
 
 pub returns-clause-back : goal.returns-clause-back
 returns-clause-back g c written len typed stands same =

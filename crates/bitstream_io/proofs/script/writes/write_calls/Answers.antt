@@ -22,12 +22,17 @@ loop-i-preserved g c =
     let answer = c.err.result in
     let old = c.args.writer.now in
     let new = c.make.new.writer in
-    let entries-are : write_entries K.limit K.order (take (i + 1) calls) ≡ write_entries K.limit K.order (take i calls) ++ limited K.limit (write_entry K.order call) ∷ [] =
-    ap (write_entries K.limit K.order) (take_more calls i call c.loop-i-test.true ∙ ap (λ (x : WriteCall). take i calls ++ x ∷ []) (sym c.index-calls-i.is)) ∙ entries-append K.limit K.order (take i calls) (call ∷ []) in
+    let entries-are : write_entries K.limit K.order (take (i + 1) calls) ≡ write_entries K.limit K.order (take i calls)
+    ++ limited K.limit (write_entry K.order call) ∷ [] =
+    ap (write_entries K.limit K.order) (take_more calls i call c.loop-i-test.true
+    ∙ ap (λ (x : WriteCall). take i calls ++ x ∷ []) (sym c.index-calls-i.is))
+    ∙ entries-append K.limit K.order (take i calls) (call ∷ []) in
     let fits : i < length answers = omega arith in
     subst (λ (es : List WriteEntry). WritesRun K es old (take (i + 1) (set answers i answer)) new) (sym entries-are)
-    (subst (λ (l : List (Option Error)). WritesRun K (write_entries K.limit K.order (take i calls) ++ limited K.limit (write_entry K.order call) ∷ []) old l new) (sym (take_more_set answers i answer fits))
-    (run_more K (write_entries K.limit K.order (take i calls)) (write_entry K.order call) old c.loop-i.writer new (take i answers) answer c.make.result c.loop-i.invariant c.make.ensures.writes c.err.ensures.value))
+    (subst (λ (l : List (Option Error)). WritesRun K (write_entries K.limit K.order (take i calls)
+    ++ limited K.limit (write_entry K.order call) ∷ []) old l new) (sym (take_more_set answers i answer fits))
+    (run_more K (write_entries K.limit K.order (take i calls)) (write_entry K.order call) old c.loop-i.writer new
+    (take i answers) answer c.make.result c.loop-i.invariant c.make.ensures.writes c.err.ensures.value))
 
 pub returns-clause-appends : goal.returns-clause-appends
 returns-clause-appends g c =
@@ -36,8 +41,11 @@ returns-clause-appends g c =
     let answers = c.loop-i.answers in
     let every : c.loop-i.i ≡ length calls = omega arith in
     let same : c.loop-i.i ≡ length answers = omega arith in
-    subst (λ (l : List WriteCall). WritesRun K (write_entries K.limit K.order l) c.args.writer.now answers c.loop-i.writer) (ap (λ (n : ℕ). take n calls) every ∙ take-length calls)
-    (subst (λ (l : List (Option Error)). WritesRun K (write_entries K.limit K.order (take c.loop-i.i calls)) c.args.writer.now l c.loop-i.writer) (ap (λ (n : ℕ). take n answers) same ∙ take-length answers) c.loop-i.invariant)
+    subst (λ (l : List WriteCall). WritesRun K (write_entries K.limit K.order l) c.args.writer.now answers
+    c.loop-i.writer) (ap (λ (n : ℕ). take n calls) every ∙ take-length calls)
+    (subst (λ (l : List (Option Error)). WritesRun K (write_entries K.limit K.order (take c.loop-i.i calls))
+    c.args.writer.now l c.loop-i.writer) (ap (λ (n : ℕ). take n answers) same
+    ∙ take-length answers) c.loop-i.invariant)
 
 pub returns-clause-counts : goal.returns-clause-counts
 returns-clause-counts g c o = counts g.W.BitWrite.sink o c.args.calls.now _ _ _ (returns-clause-appends g c)

@@ -8,4 +8,5 @@ returns g c =
     let whole = g.met.U.Numeric.size_law in
     let least = g.met.U.Numeric.least_law in
     behind_byte_high size (g.U.UnsignedInteger.value c.args.value) c.args.n _ _ _ (omega arith) c.shl_default.ensures
-    (g.met.U.UnsignedInteger.shr_law _ _ _ c.shr.ensures ∙ ap (λ w. g.U.UnsignedInteger.value c.shl_default.result / 2 ^ (w - 8)) c.BITS_SIZE.ensures) c.low_byte.ensures
+    (g.met.U.UnsignedInteger.shr_law _ _ _ c.shr.ensures
+    ∙ ap (λ w. g.U.UnsignedInteger.value c.shl_default.result / 2 ^ (w - 8)) c.BITS_SIZE.ensures) c.low_byte.ensures

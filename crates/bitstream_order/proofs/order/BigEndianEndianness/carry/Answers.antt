@@ -10,5 +10,7 @@ returns g c =
     let least = g.met.U.Numeric.least_law in
     let few = c.requires.few in
     let before = g.U.UnsignedInteger.value c.args.before in
-    carry_high size c.args.k before (g.U.UnsignedInteger.value c.args.value) _ _ _ (omega arith) (laws.known_law _ c.known.ensures)
-    (laws.shl_law _ _ _ c.shl.ensures ∙ ap (λ w. before * 2 ^ (w - c.args.k) % 2 ^ size) c.BITS_SIZE.ensures) (laws.shr_law _ _ _ c.shr.ensures) (laws.or_law _ _ _ c.bitor.ensures)
+    carry_high size c.args.k before (g.U.UnsignedInteger.value c.args.value) _ _ _ (omega arith)
+    (laws.known_law _ c.known.ensures)
+    (laws.shl_law _ _ _ c.shl.ensures ∙ ap (λ w. before * 2 ^ (w - c.args.k) % 2 ^ size) c.BITS_SIZE.ensures)
+    (laws.shr_law _ _ _ c.shr.ensures) (laws.or_law _ _ _ c.bitor.ensures)

@@ -10,5 +10,6 @@ returns g c =
     let least = g.met.U.Numeric.least_law in
     let few = c.requires.few in
     let byte : c.args.queue < 256 = search rules in
-    behind_low size c.args.queued c.args.queue (g.U.UnsignedInteger.value c.args.value) _ _ _ c.requires.small (omega arith) (laws.byte_law _ _ c.from_u8.ensures byte)
+    behind_low size c.args.queued c.args.queue (g.U.UnsignedInteger.value c.args.value) _ _ _ c.requires.small
+    (omega arith) (laws.byte_law _ _ c.from_u8.ensures byte)
     (laws.shl_law _ _ _ c.shl.ensures) (laws.or_law _ _ _ c.bitor.ensures)

@@ -12,4 +12,5 @@ returns-then-stop c =
 pub returns-else-stop : goal.returns-else-stop
 returns-else-stop c =
     let byte : c.args.byte < 256 = search rules in
-    c.trailing_ones.ensures ∙ trailing_ones_is c.args.byte byte ∙ ap (λ s. lead s (word Low 8 c.args.byte)) (sym c.if-stop.false)
+    c.trailing_ones.ensures ∙ trailing_ones_is c.args.byte byte
+    ∙ ap (λ s. lead s (word Low 8 c.args.byte)) (sym c.if-stop.false)

@@ -8,7 +8,9 @@ returns-clause-word g c =
     let law = g.met.U.UnsignedInteger in
     let v = c.from_le_bytes-value.result in
     let below = law.known_law v c.known.ensures in
-    ap (λ n. word Low n (g.U.UnsignedInteger.value v)) g.met.U.Numeric.size_law ∙ sym (bits-bytes Low g.U.Primitive.BYTES (g.U.UnsignedInteger.value v)) ∙ ap (bits Low) (sym (law.le_law v below) ∙ c.from_le_bytes-value.ensures)
+    ap (λ n. word Low n (g.U.UnsignedInteger.value v)) g.met.U.Numeric.size_law
+    ∙ sym (bits-bytes Low g.U.Primitive.BYTES (g.U.UnsignedInteger.value v))
+    ∙ ap (bits Low) (sym (law.le_law v below) ∙ c.from_le_bytes-value.ensures)
 
 pub returns-clause-below : goal.returns-clause-below
 returns-clause-below g c = g.met.U.UnsignedInteger.known_law _ c.known.ensures

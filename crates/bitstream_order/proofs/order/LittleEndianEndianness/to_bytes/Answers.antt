@@ -8,4 +8,6 @@ returns-clause-bits g c =
     let law = g.met.U.UnsignedInteger in
     let v = c.args.value in
     let below = law.known_law v c.known.ensures in
-    ap (bits Low) (c.to_le_bytes.ensures.bytes ∙ law.le_law v below) ∙ bits-bytes Low g.U.Primitive.BYTES (g.U.UnsignedInteger.value v) ∙ ap (λ n. word Low n (g.U.UnsignedInteger.value v)) (sym g.met.U.Numeric.size_law)
+    ap (bits Low) (c.to_le_bytes.ensures.bytes ∙ law.le_law v below)
+    ∙ bits-bytes Low g.U.Primitive.BYTES (g.U.UnsignedInteger.value v)
+    ∙ ap (λ n. word Low n (g.U.UnsignedInteger.value v)) (sym g.met.U.Numeric.size_law)

@@ -2,4 +2,10 @@ use Rattle.std.specs.IoError.{error_kind}
 use Rattle.bitstream_order.proofs.port.Port.flush.Given as goal
 
 abbrev pub ghost-note_write : goal.ghost-note_write
-ghost-note_write g a = record { kind = error_kind a._error.now; wanted = a._wanted; before = g.S.Target.contents a._before.now.value; after = g.S.Target.contents a._after.now }
+ghost-note_write g a = record {
+  kind = error_kind a._error.now;
+  wanted = a._wanted;
+  before =
+      g.S.Target.contents a._before.now.value;
+  after = g.S.Target.contents a._after.now;
+}

@@ -2,4 +2,10 @@ use Rattle.std.specs.IoError.{error_kind}
 use Rattle.bitstream_order.proofs.port.Port.seek.Given as goal
 
 abbrev pub ghost-note_read : goal.ghost-note_read
-ghost-note_read g a = record { kind = error_kind a._error.now; wanted = a._wanted; before = g.S.Source.remaining a._before.now.value; after = g.S.Source.remaining a._after.now }
+ghost-note_read g a = record {
+  kind = error_kind a._error.now;
+  wanted = a._wanted;
+  before =
+      g.S.Source.remaining a._before.now.value;
+  after = g.S.Source.remaining a._after.now;
+}

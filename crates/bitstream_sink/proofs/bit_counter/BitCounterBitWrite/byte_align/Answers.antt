@@ -6,4 +6,7 @@ use Rattle.bitstream_sink.proofs.bit_counter.BitCounterBitWrite.byte_align.Goals
 pub returns : goal.returns
 returns g c =
     let value = g.N.Counter.value in
-    record { writes = reordered High g.E.Endianness.order (λ a. a.bits) (λ w. value w.count) g.N.Counter.greatest g.N.Counter.full (λ w. w.within) _ _ _ _ _ refl c.byte_align.ensures.writes }
+    record {
+      writes = reordered High g.E.Endianness.order (λ a. a.bits) (λ w. value w.count) g.N.Counter.greatest
+          g.N.Counter.full (λ w. w.within) _ _ _ _ _ refl c.byte_align.ensures.writes;
+    }

@@ -5,4 +5,8 @@ use Rattle.bitstream_sink.proofs.bit_counter.BitCounterBitWrite.write_signed_cou
 pub returns : goal.returns
 returns g c =
     let value = g.N.Counter.value in
-    record { writes = reordered High g.E.Endianness.order (λ a. a.bits) (λ w. value w.count) g.N.Counter.greatest g.N.Counter.full (λ w. w.within) _ _ _ _ _ (same-signed High g.E.Endianness.order g.S.Numeric.BITS_SIZE _ _ _) c.write_signed_counted.ensures.writes }
+    record {
+      writes = reordered High g.E.Endianness.order (λ a. a.bits) (λ w. value w.count) g.N.Counter.greatest
+          g.N.Counter.full (λ w. w.within) _ _ _ _ _ (same-signed High g.E.Endianness.order g.S.Numeric.BITS_SIZE _ _ _)
+          c.write_signed_counted.ensures.writes;
+    }

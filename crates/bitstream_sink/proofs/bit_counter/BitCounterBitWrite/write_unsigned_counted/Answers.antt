@@ -5,4 +5,9 @@ use Rattle.bitstream_sink.proofs.bit_counter.BitCounterBitWrite.write_unsigned_c
 pub returns : goal.returns
 returns g c =
     let value = g.N.Counter.value in
-    record { writes = reordered High g.E.Endianness.order (λ a. a.bits) (λ w. value w.count) g.N.Counter.greatest g.N.Counter.full (λ w. w.within) _ _ _ _ _ (same-unsigned High g.E.Endianness.order g.U.Numeric.BITS_SIZE _ _ _) c.write_unsigned_counted.ensures.writes }
+    record {
+      writes = reordered High g.E.Endianness.order (λ a. a.bits) (λ w. value w.count) g.N.Counter.greatest
+          g.N.Counter.full (λ w. w.within) _ _ _ _ _ (same-unsigned High g.E.Endianness.order g.U.Numeric.BITS_SIZE _ _
+          _)
+          c.write_unsigned_counted.ensures.writes;
+    }

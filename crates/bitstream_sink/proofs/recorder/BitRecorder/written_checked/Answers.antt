@@ -5,4 +5,5 @@ use Rattle.bitstream_sink.proofs.recorder.BitRecorder.written_checked.Goals as g
 
 pub returns-clause-bits : goal.returns-clause-bits
 returns-clause-bits g c =
-    subst (λ (n : ℕ). Counts g.N.Counter.value g.N.Counter.greatest n c.value_of.result) (c.bits.ensures ∙ recorded_count g.E.Endianness.order c.args.self.now) c.value_of.ensures
+    subst (λ (n : ℕ). Counts g.N.Counter.value g.N.Counter.greatest n c.value_of.result) (c.bits.ensures
+    ∙ recorded_count g.E.Endianness.order c.args.self.now) c.value_of.ensures

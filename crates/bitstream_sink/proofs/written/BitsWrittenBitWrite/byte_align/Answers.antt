@@ -10,10 +10,17 @@ pub returns-in_err-self : goal.returns-in_err-self
 returns-in_err-self g c =
     let value = g.N.Counter.value in
     let zeros = to_boundary (value c.args.self.now.count) in
-    record { writes = overflowed High (λ w. value w.count) g.N.Counter.greatest g.N.Counter.full (λ w. w.within) _ _ _ _ _ zeros refl (length-replicate zeros false) (exit_is _ c.from_residual.ensures.1) (c.in_err-self.ensures) refl }
+    record {
+      writes = overflowed High (λ w. value w.count) g.N.Counter.greatest g.N.Counter.full (λ w. w.within) _ _ _ _
+          _ zeros refl (length-replicate zeros false) (exit_is _ c.from_residual.ensures.1) (c.in_err-self.ensures)
+          refl;
+    }
 
 pub returns : goal.returns
 returns g c =
     let value = g.N.Counter.value in
     let zeros = to_boundary (value c.args.self.now.count) in
-    record { writes = counted High (λ w. value w.count) g.N.Counter.greatest g.N.Counter.full (λ w. w.within) _ _ _ _ _ zeros _ refl (length-replicate zeros false) refl c.in_ok-self.ensures.0 }
+    record {
+      writes = counted High (λ w. value w.count) g.N.Counter.greatest g.N.Counter.full (λ w. w.within) _ _ _ _ _
+          zeros _ refl (length-replicate zeros false) refl c.in_ok-self.ensures.0;
+    }

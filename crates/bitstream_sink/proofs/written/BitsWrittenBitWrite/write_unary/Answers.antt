@@ -4,4 +4,7 @@ use Rattle.bitstream_count.proofs.UnaryLemmas.{length-unary}
 use Rattle.bitstream_sink.proofs.written.BitsWrittenBitWrite.write_unary.Goals as goal
 
 pub returns : goal.returns
-returns g c = record { writes = c.add.ensures _ _ refl (length-unary (g.S.Width.BITS == 1) c.args.value ∙ ap (λ n. n + 1) (sym c.from.ensures)) }
+returns g c = record {
+  writes = c.add.ensures _ _ refl (length-unary (g.S.Width.BITS == 1) c.args.value
+      ∙ ap (λ n. n + 1) (sym c.from.ensures));
+}

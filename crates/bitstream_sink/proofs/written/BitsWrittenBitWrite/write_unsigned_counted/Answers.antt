@@ -5,7 +5,14 @@ use Rattle.bitstream_stream.proofs.SinkLemmas.{refuses, exit_is}
 use Rattle.bitstream_sink.proofs.written.BitsWrittenBitWrite.write_unsigned_counted.Goals as goal
 
 pub returns-in_err-check : goal.returns-in_err-check
-returns-in_err-check g c = record { writes = refuses _ _ _ _ _ refl (rw (← c.bits-bits.ensures.value) (c.in_err-check.ensures.refusal _ _)) (exit_is _ c.from_residual.ensures.1) }
+returns-in_err-check g c = record {
+  writes = refuses _ _ _ _ _ refl
+      (rw (← c.bits-bits.ensures.value) (c.in_err-check.ensures.refusal _ _)) (exit_is _ c.from_residual.ensures.1);
+}
 
 pub returns : goal.returns
-returns g c = record { writes = c.add.ensures _ (word High c.bits-bits.result (g.U.UnsignedInteger.value c.args.value)) (rw (← c.bits-bits.ensures.value) (c.in_ok-check.ensures.word High _)) (length-word High _ _ ∙ sym c.from.ensures) }
+returns g c = record {
+  writes = c.add.ensures _ (word High c.bits-bits.result (g.U.UnsignedInteger.value c.args.value))
+      (rw (← c.bits-bits.ensures.value) (c.in_ok-check.ensures.word High _)) (length-word High _ _
+      ∙ sym c.from.ensures);
+}

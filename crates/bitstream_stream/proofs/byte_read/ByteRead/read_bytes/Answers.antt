@@ -10,8 +10,10 @@ pub returns-in_err-byte : goal.returns-in_err-byte
 returns-in_err-byte g c =
     record {
       reads = rw (seen_err _ c.from_residual.result c.from_residual.ensures.1)
-          (bytes_stop c.loop-i.i 1 _ (take c.loop-i.i c.loop-i.buf) _ c.args.self.now c.loop-i.self c.read.new.self (omega arith) c.loop-i.invariant c.in_err-byte.ensures.reads);
+          (bytes_stop c.loop-i.i 1 _ (take c.loop-i.i c.loop-i.buf) _ c.args.self.now c.loop-i.self c.read.new.self
+          (omega arith) c.loop-i.invariant c.in_err-byte.ensures.reads);
     }
 
 pub loop-i-preserved : goal.loop-i-preserved
-loop-i-preserved g c = byte_put c.loop-i.i c.loop-i.buf c.in_ok-byte.byte c.args.self.now c.loop-i.self c.read.new.self (omega arith) c.loop-i.invariant c.in_ok-byte.ensures.reads
+loop-i-preserved g c = byte_put c.loop-i.i c.loop-i.buf c.in_ok-byte.byte c.args.self.now c.loop-i.self c.read.new.self
+    (omega arith) c.loop-i.invariant c.in_ok-byte.ensures.reads

@@ -13,7 +13,10 @@ loop-at-init g c = record {
 
 pub returns-in_err-grow : goal.returns-in_err-grow
 returns-in_err-grow g c =
-    record { reads = rw (seen_err _ c.from_residual.result c.from_residual.ensures.1) (bytes_starved _ c.args.bytes _ c.args.self.now c.loop-at.self c.loop-at-test.true c.loop-at.invariant.reads) }
+    record {
+      reads = rw (seen_err _ c.from_residual.result c.from_residual.ensures.1)
+          (bytes_starved _ c.args.bytes _ c.args.self.now c.loop-at.self c.loop-at-test.true c.loop-at.invariant.reads);
+    }
 
 pub returns-in_err-read_bytes : goal.returns-in_err-read_bytes
 returns-in_err-read_bytes g c =
@@ -27,7 +30,9 @@ returns-in_err-read_bytes g c =
     let fits : length c.read_bytes.new.buf ≡ length all - at = search rules in
     record {
       reads = rw (seen_err _ c.from_residual-in_err-read_bytes.result c.from_residual-in_err-read_bytes.ensures.1)
-          (bytes_stop at _ c.args.bytes items _ c.args.self.now c.loop-at.self c.read_bytes.new.self (omega (arith, size, fits, c.read_bytes.auto.buf, c.min.ensures, inv.within)) inv.reads c.in_err-read_bytes.ensures.reads);
+          (bytes_stop at _ c.args.bytes items _ c.args.self.now c.loop-at.self c.read_bytes.new.self
+          (omega (arith, size, fits, c.read_bytes.auto.buf, c.min.ensures, inv.within)) inv.reads
+          c.in_err-read_bytes.ensures.reads);
     }
 
 pub loop-at-preserved : goal.loop-at-preserved
@@ -41,9 +46,11 @@ loop-at-preserved g c =
     let is = c.as_mut_slice.ensures.value ∙ c.in_ok-grow.ensures in
     let size : length all ≡ end = grown_length items all end is (omega (arith, inv.len)) in
     let fits : length part ≡ length all - at = search rules in
-    let made = grown_part c.grow.new.buf.len at items _ all c.grow.new.buf.items part (sym c.as_mut_slice.ensures.len) is inv.len fits in
+    let made = grown_part c.grow.new.buf.len at items _ all c.grow.new.buf.items part (sym c.as_mut_slice.ensures.len)
+    is inv.len fits in
     record {
       len = ap length made ∙ length-append items part ∙ omega (arith, size, fits, inv.len);
       within = omega (arith, c.min.ensures, inv.within);
-      reads = bytes_then at _ end items part _ c.args.self.now c.loop-at.self c.read_bytes.new.self (omega (arith, size, fits, c.read_bytes.auto.buf)) made inv.reads c.in_ok-read_bytes.ensures.reads;
+      reads = bytes_then at _ end items part _ c.args.self.now c.loop-at.self c.read_bytes.new.self
+          (omega (arith, size, fits, c.read_bytes.auto.buf)) made inv.reads c.in_ok-read_bytes.ensures.reads;
     }

@@ -16,4 +16,8 @@ returns g c =
     let some : 0 < length c.args.buf.now = search rules in
     let before = port_state g.R.Source.remaining g.R.Source.reference_names c.args.self.now.port in
     let after = port_state g.R.Source.remaining g.R.Source.reference_names c.fetch.new.self in
-    record { reads = bytes_fetched {K = byte_reader_source g.R.Source.remaining g.R.Source.refuses g.R.Source.reference_names g.E.Endianness.order} (length c.args.buf.now) c.fetch.new.buf c.fetch.result before after _ _ refl refl len some c.fetch.ensures.fetches }
+    record {
+      reads = bytes_fetched {K = byte_reader_source g.R.Source.remaining g.R.Source.refuses
+          g.R.Source.reference_names g.E.Endianness.order} (length c.args.buf.now) c.fetch.new.buf c.fetch.result before
+          after _ _ refl refl len some c.fetch.ensures.fetches;
+    }

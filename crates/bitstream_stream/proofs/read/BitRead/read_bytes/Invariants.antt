@@ -7,5 +7,6 @@ use Rattle.bitstream_stream.proofs.read.BitRead.read_bytes.Given as goal
 abbrev pub invariant-loop-at : goal.invariant-loop-at
 invariant-loop-at g l = record {
   len : length l.buf ≡ length l.initial.buf;
-  reads : Reads g.Self.BitRead.source (bytes_entry g.Self.BitRead.source.order l.at) l.fn.self (Ok (take l.at l.buf)) l.self;
+  reads : Reads g.Self.BitRead.source (bytes_entry g.Self.BitRead.source.order l.at) l.fn.self (Ok (take l.at l.buf))
+      l.self;
 }

@@ -5,7 +5,11 @@ use Rattle.bitstream_stream.proofs.read.BitRead.read_to_vec.Goals as goal
 
 pub returns-in_err-read_unsigned_var : goal.returns-in_err-read_unsigned_var
 returns-in_err-read_unsigned_var g c =
-    record { reads = seen_stops _ c.from_residual.result c.from_residual.ensures.1 (Reads-growing (stops-front _ 0 _ _ _ _ (omega arith) (stops-none _ 8 _ _ _ c.in_err-read_unsigned_var.ensures.reads))) }
+    record {
+      reads = seen_stops _ c.from_residual.result c.from_residual.ensures.1
+          (Reads-growing (stops-front _ 0 _ _ _ _ (omega arith)
+          (stops-none _ 8 _ _ _ c.in_err-read_unsigned_var.ensures.reads)));
+    }
 
 pub loop-at-init : goal.loop-at-init
 loop-at-init g c = record {
@@ -16,7 +20,10 @@ loop-at-init g c = record {
 
 pub returns-in_default : goal.returns-in_default
 returns-in_default g c =
-    record { reads = lacks-more _ c.loop-at.at c.args.bytes _ _ _ _ c.loop-at-test.true (Reads-growing c.loop-at.invariant.reads) c.fail.ensures }
+    record {
+      reads = lacks-more _ c.loop-at.at c.args.bytes _ _ _ _ c.loop-at-test.true
+          (Reads-growing c.loop-at.invariant.reads) c.fail.ensures;
+    }
 
 pub returns-in_err-read_bytes : goal.returns-in_err-read_bytes
 returns-in_err-read_bytes g c =
@@ -29,7 +36,14 @@ returns-in_err-read_bytes g c =
     let fits : length c.read_bytes.new.buf ≡ length all - at = search rules in
     record {
       reads = seen_stops _ c.from_residual-in_err-read_bytes.result c.from_residual-in_err-read_bytes.ensures.1
-          (Reads-growing (stops-more _ at _ c.args.bytes _ _ _ _ _ (omega (arith, size, fits, c.read_bytes.auto.buf, c.min.ensures, inv.within)) inv.reads c.in_err-read_bytes.ensures.reads));
+          (Reads-growing (stops-more _ at _ c.args.bytes _ _ _ _ _ (omega (
+            arith,
+            size,
+            fits,
+            c.read_bytes.auto.buf,
+            c.min.ensures,
+            inv.within,
+          )) inv.reads c.in_err-read_bytes.ensures.reads));
     }
 
 pub loop-at-preserved : goal.loop-at-preserved
@@ -43,9 +57,11 @@ loop-at-preserved g c =
     let is = c.as_mut_slice.ensures.value ∙ c.in-Ok.ensures in
     let size : length all ≡ end = grown_length items all end is (omega (arith, inv.len)) in
     let fits : length part ≡ length all - at = search rules in
-    let made = grown_part c.grow.new.buf.len at items _ all c.grow.new.buf.items part (sym c.as_mut_slice.ensures.len) is inv.len fits in
+    let made = grown_part c.grow.new.buf.len at items _ all c.grow.new.buf.items part (sym c.as_mut_slice.ensures.len)
+    is inv.len fits in
     record {
       len = ap length made ∙ length-append items part ∙ omega (arith, size, fits, inv.len);
       within = omega (arith, c.min.ensures, inv.within);
-      reads = reads-more _ at _ end items part _ _ _ _ (omega (arith, size, fits, c.read_bytes.auto.buf)) made inv.reads c.in_ok-read_bytes.ensures.reads;
+      reads = reads-more _ at _ end items part _ _ _ _ (omega (arith, size, fits, c.read_bytes.auto.buf)) made inv.reads
+          c.in_ok-read_bytes.ensures.reads;
     }

@@ -19,7 +19,12 @@ sub-mask-requires g c =
     let m = c.BITS-payload.result - 1 in
     let size = g.U.Numeric.BITS_SIZE in
     let less : m < size = omega (arith, c.BITS-payload.ensures, c.requires.within) in
-    law.can_sub_value_law _ _ (omega (arith, unit, half_is _ m size _ one less (law.shl_law _ _ _ c.shl.ensures), pow_pos m))
+    law.can_sub_value_law _ _ (omega (
+      arith,
+      unit,
+      half_is _ m size _ one less (law.shl_law _ _ _ c.shl.ensures),
+      pow_pos m,
+    ))
 
 pub loop-shift-init : goal.loop-shift-init
 loop-shift-init g c =
@@ -32,7 +37,8 @@ loop-shift-init g c =
     let size = g.U.Numeric.BITS_SIZE in
     let less : m < size = omega (arith, c.BITS-payload.ensures, c.requires.within) in
     record {
-      mask = mask_below m size _ _ _ _ less one unit (law.shl_law _ _ _ c.shl.ensures) (law.sub_value_law _ _ _ c.sub-mask.ensures);
+      mask = mask_below m size _ _ _ _ less one unit (law.shl_law _ _ _ c.shl.ensures)
+          (law.sub_value_law _ _ _ c.sub-mask.ensures);
       told = rw none (told-start g.Self.BitRead.source g.F.Width.BITS size (2 ^ size) _);
       below = omega (arith, none);
       sound = λ some. absurd (omega arith);
@@ -45,10 +51,12 @@ returns-in_err-group g c =
     let law = g.met.U.UnsignedInteger in
     let size = g.U.Numeric.BITS_SIZE in
     let m = c.BITS-payload.result - 1 in
-    let begins : c.loop-shift.shift < size = let less = c.loop-shift-test.true in let is = c.BITS_SIZE.ensures in omega (arith, less, is) in
+    let begins : c.loop-shift.shift < size = let less = c.loop-shift-test.true in let is = c.BITS_SIZE.ensures in
+    omega (arith, less, is) in
     record {
       reads = seen_stops _ c.from_residual.result c.from_residual.ensures.1
-          (told-stop K g.F.Width.BITS size (2 ^ size) c.requires.some (omega (arith, c.requires.within)) _ _ _ _ _ begins c.loop-shift.invariant.told _ c.in_err-group.ensures.reads);
+          (told-stop K g.F.Width.BITS size (2 ^ size) c.requires.some (omega (arith, c.requires.within)) _ _ _ _ _
+          begins c.loop-shift.invariant.told _ c.in_err-group.ensures.reads);
     }
 
 pub returns-in_err-read_unsigned : goal.returns-in_err-read_unsigned
@@ -58,7 +66,8 @@ returns-in_err-read_unsigned g c =
     let size = g.U.Numeric.BITS_SIZE in
     let within = c.requires.within in
     let inv = c.loop-shift.invariant in
-    let begins : c.loop-shift.shift < size = let less = c.loop-shift-test.true in let is = c.BITS_SIZE.ensures in omega (arith, less, is) in
+    let begins : c.loop-shift.shift < size = let less = c.loop-shift-test.true in let is = c.BITS_SIZE.ensures in
+    omega (arith, less, is) in
     let short : field ≤ 8 = let most = c.if-BITS-gt8.false in let is = c.BITS.ensures in omega (arith, most, is) in
     record {
       reads = seen_stops _ c.from_residual-in_err-read_unsigned.result c.from_residual-in_err-read_unsigned.ensures.1
@@ -68,8 +77,10 @@ returns-in_err-read_unsigned g c =
 
 -- the group that this turn read, and what became of its digits
 turn : (g : Over) (c : After-eq g)
-    → Turn g.Self.BitRead.source g.F.Width.BITS g.U.Numeric.BITS_SIZE (c.BITS-payload.result - 1) c.args.self.now c.loop-shift.self c.if-BITS-gt8.self (g.U.UnsignedInteger.value c.loop-shift.value) c.loop-shift.shift
-    (g.U.UnsignedInteger.value c.if-BITS-gt8.group) (g.U.UnsignedInteger.value c.bitand-digits.result) (g.U.UnsignedInteger.value c.shl-placed.result) (g.U.UnsignedInteger.value c.bitor_assign.new.self)
+    → Turn g.Self.BitRead.source g.F.Width.BITS g.U.Numeric.BITS_SIZE (c.BITS-payload.result - 1) c.args.self.now
+    c.loop-shift.self c.if-BITS-gt8.self (g.U.UnsignedInteger.value c.loop-shift.value) c.loop-shift.shift
+    (g.U.UnsignedInteger.value c.if-BITS-gt8.group) (g.U.UnsignedInteger.value c.bitand-digits.result)
+    (g.U.UnsignedInteger.value c.shl-placed.result) (g.U.UnsignedInteger.value c.bitor_assign.new.self)
 turn g c =
     let law = g.met.U.UnsignedInteger in
     let wide = c.requires.some in
@@ -87,7 +98,9 @@ turn g c =
         | else-BITS-gt8+in_ok-read_unsigned w ↦
             let most = w.if-BITS-gt8.false in
             rw (w.group-is, w.self-is)
-            (short_group-takes g.Self.BitRead.source.order g.F.Width.BITS g.U.Numeric.BITS_SIZE _ _ (omega (arith, most, c.BITS.ensures)) (omega (arith, within)) (λ byte. law.byte_law _ _ w.from_u8-group.ensures byte) w.in_ok-read_unsigned.ensures.reads)
+            (short_group-takes g.Self.BitRead.source.order g.F.Width.BITS g.U.Numeric.BITS_SIZE _ _
+            (omega (arith, most, c.BITS.ensures)) (omega (arith, within))
+            (λ byte. law.byte_law _ _ w.from_u8-group.ensures byte) w.in_ok-read_unsigned.ensures.reads)
       ];
       low = masked-is _ _ _ _ inv.mask (law.and_law _ _ _ c.bitand-digits.ensures);
       shifted = law.shl_law _ _ _ c.shl-placed.ensures;
@@ -99,26 +112,40 @@ returns-then-eq-2 g c =
     let law = g.met.U.UnsignedInteger in
     let last = (law.eq_value_law _ _).0 (sym c.eq.ensures ∙ c.if-eq.true) in
     let same = (law.eq_value_law _ _).0 (sym c.eq-then-eq.ensures ∙ c.if-eq-2.true) in
-    record { reads = turn-ends (turn g (goal.at.returns-then-eq-2 g c).After-eq) last (sym (law.shr_law _ _ _ c.shr.ensures) ∙ same) }
+    record {
+      reads = turn-ends (turn g (goal.at.returns-then-eq-2 g c).After-eq) last
+          (sym (law.shr_law _ _ _ c.shr.ensures) ∙ same);
+    }
 
 pub returns-else-eq-2 : goal.returns-else-eq-2
 returns-else-eq-2 g c =
     let law = g.met.U.UnsignedInteger in
     let last = (law.eq_value_law _ _).0 (sym c.eq.ensures ∙ c.if-eq.true) in
-    record { reads = turn-overflows (turn g (goal.at.returns-else-eq-2 g c).After-eq) last (λ back. apart (sym ((law.eq_value_law _ _).1 (law.shr_law _ _ _ c.shr.ensures ∙ back)) ∙ sym c.eq-then-eq.ensures ∙ c.if-eq-2.false)) }
+    record {
+      reads = turn-overflows (turn g (goal.at.returns-else-eq-2 g c).After-eq) last
+          (λ back. apart (sym ((law.eq_value_law _ _).1 (law.shr_law _ _ _ c.shr.ensures ∙ back))
+          ∙ sym c.eq-then-eq.ensures ∙ c.if-eq-2.false));
+    }
 
 pub loop-shift-preserved : goal.loop-shift-preserved
 loop-shift-preserved g c =
     let done = turn g (goal.at.loop-shift-preserved g c).After-eq in
     record {
       mask = c.loop-shift.invariant.mask;
-      told = turn-told done (λ e. apart (sym ((g.met.U.UnsignedInteger.eq_value_law _ _).1 e) ∙ sym c.eq.ensures ∙ c.if-eq.false));
+      told = turn-told done (λ e. apart (sym ((g.met.U.UnsignedInteger.eq_value_law _ _).1 e) ∙ sym c.eq.ensures
+          ∙ c.if-eq.false));
       below = turn-below done;
-      sound = λ _. Reads-fine (unsigned-on_failed g.Self.BitRead.source.order g.U.Numeric.BITS_SIZE g.F.Width.BITS) done.read;
+      sound = λ _. Reads-fine (unsigned-on_failed g.Self.BitRead.source.order g.U.Numeric.BITS_SIZE g.F.Width.BITS)
+          done.read;
     }
 
 pub returns : goal.returns
 returns g c =
     let size = g.U.Numeric.BITS_SIZE in
-    let past : size ≤ c.loop-shift.shift = let most = c.loop-shift-test.false in let is = c.BITS_SIZE.ensures in omega (arith, most, is) in
-    record { reads = told-end g.Self.BitRead.source g.F.Width.BITS size (2 ^ size) _ _ _ _ past (c.loop-shift.invariant.sound (omega (arith, past, c.requires.some, c.requires.within))) c.loop-shift.invariant.told }
+    let past : size ≤ c.loop-shift.shift = let most = c.loop-shift-test.false in let is = c.BITS_SIZE.ensures in
+    omega (arith, most, is) in
+    record {
+      reads = told-end g.Self.BitRead.source g.F.Width.BITS size (2 ^ size) _ _ _ _ past
+          (c.loop-shift.invariant.sound (omega (arith, past, c.requires.some, c.requires.within)))
+          c.loop-shift.invariant.told;
+    }

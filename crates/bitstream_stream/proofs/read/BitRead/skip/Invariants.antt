@@ -5,4 +5,5 @@ use Rattle.bitstream_stream.proofs.read.BitRead.skip.Given as goal
 
 -- the bits that are no whole 128, and so many 128 behind them
 abbrev pub invariant-loop-done : goal.invariant-loop-done
-invariant-loop-done g l = Reads g.Self.BitRead.source (skip_entry (l.bits % 128 + 128 * l._done)) l.fn.self (Ok tt) l.self
+invariant-loop-done g l = Reads g.Self.BitRead.source (skip_entry (l.bits % 128 + 128 * l._done)) l.fn.self (Ok tt)
+    l.self

@@ -13,14 +13,26 @@ use Rattle.bitstream_stream.proofs.reader.BitReader.ask_place.Goals as goal
 pub returns-in-Some-clause-asks : goal.returns-in-Some-clause-asks
 returns-in-Some-clause-asks g c =
     AsksPlace.was_done c.in-Some.place c.if-self.false
-    (means_here _ c.args.to _ c.in-Ok.at c.args.self.now.queued _ c.requires c.in-Ok.ensures.answer (length-word _ _ _) c.in-Some.ensures)
-    refl (record { same = asked _ _ _ _ _ _ _ c.in-Ok.ensures.places; position = c.in-Ok.ensures.stays; bytes = c.in-Ok.ensures.bytes })
+    (means_here _ c.args.to _ c.in-Ok.at c.args.self.now.queued _ c.requires c.in-Ok.ensures.answer (length-word _ _ _)
+    c.in-Some.ensures)
+    refl (record {
+      same = asked _ _ _ _ _ _ _ c.in-Ok.ensures.places;
+      position = c.in-Ok.ensures.stays;
+      bytes =
+          c.in-Ok.ensures.bytes;
+    })
 
 pub returns-in-None-clause-asks : goal.returns-in-None-clause-asks
 returns-in-None-clause-asks g c =
     AsksPlace.was_rejected c.if-self.false
-    (means_here _ c.args.to _ c.in-Ok.at c.args.self.now.queued _ c.requires c.in-Ok.ensures.answer (length-word _ _ _) c.in-None.ensures)
-    refl (record { same = asked _ _ _ _ _ _ _ c.in-Ok.ensures.places; position = c.in-Ok.ensures.stays; bytes = c.in-Ok.ensures.bytes })
+    (means_here _ c.args.to _ c.in-Ok.at c.args.self.now.queued _ c.requires c.in-Ok.ensures.answer (length-word _ _ _)
+    c.in-None.ensures)
+    refl (record {
+      same = asked _ _ _ _ _ _ _ c.in-Ok.ensures.places;
+      position = c.in-Ok.ensures.stays;
+      bytes =
+          c.in-Ok.ensures.bytes;
+    })
 
 pub returns-in-Err-clause-asks : goal.returns-in-Err-clause-asks
 returns-in-Err-clause-asks g c =

@@ -24,8 +24,10 @@ returns-in-Ok-clause-reads g c =
     let len : length made ≡ n = search rules in
     let taken = c.add_bytes.ensures ∙ ap (λ k. c.args.self.now.taken.count + 8 * k) len in
     reads-number o made n _ _ (AreBytes-from made (λ i. (c.type_inv.buf i).fits)) len
-    (was_done (answered o (8 * n) queued queue (8 * n) _ queued _ _ _ _ _ p new c.requires.fine c.requires.fine (omega arith) taken
-    (word_of_bytes o queued queue queue n made made p new len c.in-Ok.ensures.fetches (shifts_aligned o queued queue (bits o made) c.requires.none))))
+    (was_done (answered o (8 * n) queued queue (8 * n) _ queued _ _ _ _ _ p new c.requires.fine c.requires.fine
+    (omega arith) taken
+    (word_of_bytes o queued queue queue n made made p new len c.in-Ok.ensures.fetches
+    (shifts_aligned o queued queue (bits o made) c.requires.none))))
 
 pub returns-in-Err-clause-reads : goal.returns-in-Err-clause-reads
 returns-in-Err-clause-reads g c =
@@ -41,7 +43,8 @@ returns-in-Err-clause-reads g c =
     let empty : word o queued queue ≡ word o queued 0 = rw c.requires.none (word-none o _ ∙ sym (word-none o 0)) in
     let nothing = takes_none o queued 0 queued p (pow_pos queued) refl in
     stops-number o n _ _ _
-    (was_refused (stopped o _ (8 * n) queued queue (8 * n) queued 0 (length c.fetch.new.buf) _ _ _ _ _ _ p p new c.requires.fine (omega arith) (omega (arith, few, some)) (omega (arith, few, some)) (omega (arith, few, same))
+    (was_refused (stopped o _ (8 * n) queued queue (8 * n) queued 0 (length c.fetch.new.buf) _ _ _ _ _ _ p p new
+    c.requires.fine (omega arith) (omega (arith, few, some)) (omega (arith, few, some)) (omega (arith, few, same))
     (record {
       bytes = nothing.bytes;
       loses = nothing.loses;

@@ -24,7 +24,14 @@ returns-in_err-fetch_bytes-clause-reads g c =
     let inv = c.loop-at.invariant.1 in
     let len : length c.fetch_bytes.new.buf ≡ c.min.result = search rules in
     seen_stops _ c.from_residual.result c.from_residual.ensures.1
-    (stops-more g.E.Endianness.order c.loop-at.at _ _ _ _ _ _ _ (omega (arith, len, c.fetch_bytes.auto.buf, inv.len, c.min.ensures, inv.within)) inv.reads c.in_err-fetch_bytes.ensures.reads)
+    (stops-more g.E.Endianness.order c.loop-at.at _ _ _ _ _ _ _ (omega (
+      arith,
+      len,
+      c.fetch_bytes.auto.buf,
+      inv.len,
+      c.min.ensures,
+      inv.within,
+    )) inv.reads c.in_err-fetch_bytes.ensures.reads)
 
 pub loop-at-preserved : goal.loop-at-preserved
 loop-at-preserved g c =
@@ -39,7 +46,9 @@ loop-at-preserved g c =
       record {
         len = search rules;
         within = search rules;
-        reads = reads-more g.E.Endianness.order at _ end (take at buf) part _ _ _ _ sum (take-put_mid at _ buf part end (ap (λ n. at + n) (sym len)) inv.within) inv.reads c.in_ok-fetch_bytes.ensures.reads;
+        reads = reads-more g.E.Endianness.order at _ end (take at buf) part _ _ _ _ sum
+            (take-put_mid at _ buf part end (ap (λ n. at + n) (sym len)) inv.within) inv.reads
+            c.in_ok-fetch_bytes.ensures.reads;
         fine = c.in_ok-fetch_bytes.ensures.fine;
         queued = c.in_ok-fetch_bytes.ensures.queued ∙ inv.queued;
         requests = search rules;
@@ -51,5 +60,7 @@ pub returns-clause-asks : goal.returns-clause-asks
 returns-clause-asks g c =
     let inv = c.loop-at.invariant.1 in
     let queued = c.args.self.now.queued in
-    let all = pieces-all c.args.most queued c.loop-at.invariant.0 (length c.loop-at.buf) c.loop-at.at (λ none. let waiting = c.requires.waiting in omega (arith, none, waiting)) c.loop-at-test.false inv.within inv.reaches in
+    let all = pieces-all c.args.most queued c.loop-at.invariant.0 (length c.loop-at.buf) c.loop-at.at
+    (λ none. let waiting = c.requires.waiting in omega (arith, none, waiting)) c.loop-at-test.false inv.within
+    inv.reaches in
     inv.requests ∙ ap (λ n. requests_made c.args.self.now + n) (sym all ∙ ap (pieces c.args.most queued) inv.len)

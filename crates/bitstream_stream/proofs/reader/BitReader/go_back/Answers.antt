@@ -7,9 +7,11 @@ use Rattle.bitstream_stream.proofs.reader.BitReader.go_back.Goals as goal
 pub returns-in-Some : goal.returns-in-Some
 returns-in-Some g c =
     let kept : to_z w64 (of_z w64 c.args.back) ≡ c.args.back = search rules in
-    goes_back c.in_ok-end.ensures (ap (λ n. place_of (bit_meant c.in_ok-end.end 0 (End n))) (sym kept) ∙ sym c.in-Some.ensures) c.go_to.ensures
+    goes_back c.in_ok-end.ensures (ap (λ n. place_of (bit_meant c.in_ok-end.end 0 (End n))) (sym kept)
+    ∙ sym c.in-Some.ensures) c.go_to.ensures
 
 pub returns-in-None : goal.returns-in-None
 returns-in-None g c =
     let kept : to_z w64 (of_z w64 c.args.back) ≡ c.args.back = search rules in
-    none_back c.in_ok-end.ensures (ap (λ n. place_of (bit_meant c.in_ok-end.end 0 (End n))) (sym kept) ∙ sym c.in-None.ensures) c.fail.ensures
+    none_back c.in_ok-end.ensures (ap (λ n. place_of (bit_meant c.in_ok-end.end 0 (End n))) (sym kept)
+    ∙ sym c.in-None.ensures) c.fail.ensures

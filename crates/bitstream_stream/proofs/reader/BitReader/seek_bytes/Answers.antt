@@ -20,8 +20,11 @@ returns-in-Ok g c =
       fetched = seeks.fetched;
       refusals = seeks.refusals ∙ ap (λ r. r.port.refusals.list) same;
       reference_names = seeks.reference_names ∙ ap (λ r. g.R.Source.reference_names (port_stream r.port)) same;
-      moves = subst (λ r. SeekMoves {E = Error} (g.R.SeekSource.position (port_stream r.port)) (g.R.SeekSource.position (port_stream c.seek.new.self)) (g.R.SeekSource.bytes (port_stream r.port)) c.args.to (Ok c.in-Ok.at)) same c.in-Ok.ensures.moves;
-      bytes = subst (λ r. Keeps (g.R.SeekSource.bytes (port_stream r.port)) (g.R.SeekSource.bytes (port_stream c.seek.new.self))) same c.in-Ok.ensures.bytes;
+      moves = subst (λ r. SeekMoves {E = Error} (g.R.SeekSource.position (port_stream r.port))
+          (g.R.SeekSource.position (port_stream c.seek.new.self)) (g.R.SeekSource.bytes (port_stream r.port)) c.args.to
+          (Ok c.in-Ok.at)) same c.in-Ok.ensures.moves;
+      bytes = subst (λ r. Keeps (g.R.SeekSource.bytes (port_stream r.port))
+          (g.R.SeekSource.bytes (port_stream c.seek.new.self))) same c.in-Ok.ensures.bytes;
     }
 
 pub returns-in-Err : goal.returns-in-Err

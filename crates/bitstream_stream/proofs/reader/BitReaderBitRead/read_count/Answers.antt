@@ -15,11 +15,13 @@ pub unreachable-requires : goal.unreachable-requires
 unreachable-requires g c =
     let max : c.MAX.result < 2 ^ 32 = search rules in
     let is = c.MAX.ensures in
-    count_never_above _ g.C.Count.MAX _ _ (omega (arith, max, is)) c.requires.full (c.count_bits.ensures.width ∙ ap count_width is) c.in_ok-number.ensures.reads c.in-None.ensures
+    count_never_above _ g.C.Count.MAX _ _ (omega (arith, max, is)) c.requires.full (c.count_bits.ensures.width
+    ∙ ap count_width is) c.in_ok-number.ensures.reads c.in-None.ensures
 
 pub returns-clause-reads : goal.returns-clause-reads
 returns-clause-reads g c =
-    count-was_done _ g.C.Count.MAX _ _ _ (c.count_bits.ensures.width ∙ ap count_width c.MAX.ensures) c.count_bits.ensures.bound c.in-Some.ensures.1 c.in_ok-number.ensures.reads
+    count-was_done _ g.C.Count.MAX _ _ _ (c.count_bits.ensures.width ∙ ap count_width c.MAX.ensures)
+    c.count_bits.ensures.bound c.in-Some.ensures.1 c.in_ok-number.ensures.reads
 
 pub returns-clause-asks : goal.returns-clause-asks
 returns-clause-asks g c = rw (c.count_bits.ensures.width, c.MAX.ensures) at c.in_ok-number.ensures.asks

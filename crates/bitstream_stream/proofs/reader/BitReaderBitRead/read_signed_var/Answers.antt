@@ -11,7 +11,8 @@ returns-then-bits-eq0-clause-reads g c = signed-bare _ _ _ _ (omega arith) c.if-
 pub returns-in_err-word-clause-reads : goal.returns-in_err-word-clause-reads
 returns-in_err-word-clause-reads g c =
     rw (← g.met.S.SignedInteger.same_size_law)
-    (signed-stops _ _ _ (omega arith) (seen_is _ g.S.Numeric.integer c.from_residual.result c.from_residual.ensures.1) c.in_err-word.ensures.reads)
+    (signed-stops _ _ _ (omega arith) (seen_is _ g.S.Numeric.integer c.from_residual.result c.from_residual.ensures.1)
+    c.in_err-word.ensures.reads)
 
 pub signed_of-requires-clause-within : goal.signed_of-requires-clause-within
 signed_of-requires-clause-within g c =

@@ -9,7 +9,8 @@ returns-then-self-clause-reads g c = unary-failed _ _ c.if-self.true
 
 pub invariant_of-self : goal.invariant_of-self
 invariant_of-self g c =
-    let f = lead_fetched g.E.Endianness.order c.args.self.now.queued _ _ c.in-Ok-Some.run'.count c.in-Ok-Some.run'.waiting _ _ _ (rw c.in-Ok-Some.field-0-is at c.in-Ok-Some.ensures.takes) in
+    let f = lead_fetched g.E.Endianness.order c.args.self.now.queued _ _ c.in-Ok-Some.run'.count
+    c.in-Ok-Some.run'.waiting _ _ _ (rw c.in-Ok-Some.field-0-is at c.in-Ok-Some.ensures.takes) in
     let few : c.in-Ok-Some.run'.waiting < 8 = rw c.in-Ok-Some.field-0-is at c.in-Ok-Some.ensures.few in
     let back = c.args.self.now.back c.if-self.false in
     let taken = c.add.ensures in
@@ -38,13 +39,15 @@ returns-in-Ok-Some-clause-reads g c =
     let stop = c.BITS-stop.result == 1 in
     let few : c.in-Ok-Some.run'.count < 2 ^ 32 = search rules in
     unary-as stop _ (ap (λ n. n == 1) c.BITS-stop.ensures)
-    (was_done (lead_answered g.E.Endianness.order stop _ _ _ _ _ _ _ c.in-Ok-Some.run'.count _ _ _ c.if-self.false refl few c.add.ensures (rw c.in-Ok-Some.field-0-is at c.in-Ok-Some.ensures.takes)))
+    (was_done (lead_answered g.E.Endianness.order stop _ _ _ _ _ _ _ c.in-Ok-Some.run'.count _ _ _ c.if-self.false refl
+    few c.add.ensures (rw c.in-Ok-Some.field-0-is at c.in-Ok-Some.ensures.takes)))
 
 pub returns-in-Ok-None-clause-reads : goal.returns-in-Ok-None-clause-reads
 returns-in-Ok-None-clause-reads g c =
     let stop = c.BITS-stop.result == 1 in
     unary-as stop _ (ap (λ n. n == 1) c.BITS-stop.ensures)
-    (was_done (lead_too_long g.E.Endianness.order stop _ _ _ _ _ _ _ _ c.if-self.false c.add-in-Ok-None.ensures (rw c.in-Ok-None.field-0-is at c.in-Ok-None.ensures.takes)))
+    (was_done (lead_too_long g.E.Endianness.order stop _ _ _ _ _ _ _ _ c.if-self.false c.add-in-Ok-None.ensures
+    (rw c.in-Ok-None.field-0-is at c.in-Ok-None.ensures.takes)))
 
 pub returns-in-Err-clause-reads : goal.returns-in-Err-clause-reads
 returns-in-Err-clause-reads g c =

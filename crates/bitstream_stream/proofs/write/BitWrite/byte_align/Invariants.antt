@@ -8,7 +8,9 @@ use Rattle.bitstream_stream.proofs.write.BitWrite.byte_align.Given as goal
 abbrev pub invariant-loop-self : goal.invariant-loop-self
 invariant-loop-self g l =
     let K = g.Self.BitWrite.sink in
-    (k : ℕ) × Begun K l.fn.self (replicate k false) l.self × (k + to_boundary (K.len l.self) ≡ to_boundary (K.len l.fn.self)) × IsWithin K.limit (K.len l.fn.self + to_boundary (K.len l.fn.self))
+    (k : ℕ) × Begun K l.fn.self (replicate k false) l.self
+    × (k + to_boundary (K.len l.self) ≡ to_boundary (K.len l.fn.self))
+    × IsWithin K.limit (K.len l.fn.self + to_boundary (K.len l.fn.self))
 
 abbrev pub decreases-loop-self : goal.decreases-loop-self
 decreases-loop-self g l = to_boundary (g.Self.BitWrite.sink.len l.self)

@@ -11,4 +11,7 @@ number_of false n h = h
 pub returns : goal.returns
 returns g c =
     let K = g.Self.BitWrite.sink in
-    record { writes = restate K _ _ _ _ _ (unsigned-bit K.order c.args.bit _ _ (K.len c.args.self.now) (omega arith) (number_of c.args.bit _ c.from.ensures)) c.write_unsigned_var.ensures.writes }
+    record {
+      writes = restate K _ _ _ _ _ (unsigned-bit K.order c.args.bit _ _ (K.len c.args.self.now) (omega arith)
+          (number_of c.args.bit _ c.from.ensures)) c.write_unsigned_var.ensures.writes;
+    }

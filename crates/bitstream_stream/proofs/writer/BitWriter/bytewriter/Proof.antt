@@ -35,14 +35,23 @@ bytewriter_spec 𝓤 𝓛 𝓜 𝓡 wired X Y LX LY gs ds ge de gd dd ms me md =
     let inst = bounded (a_type ∷ a_type ∷ []) (X, (Y, tt)) (dcons ds (dcons de (dcons dd dnil))) in
     let R : RattleType = param 0 X in let E : RattleType = param 1 Y in let Self : RattleType = BitWriterOf R E in
     let Made : Lfts 3 → RattleType = λ κs. ByteWriterOf (LentOf (named_lft 3 0 tt κs) R) E in
-    let made_laws = λ (κs : Lfts 3). let at = named_lft 3 0 tt κs in byte_writer_laws (LentOf at R) E (lent_laws at R (param_laws 0 X LX)) (param_laws 1 Y LY) in
+    let made_laws = λ (κs : Lfts 3). let at = named_lft 3 0 tt κs in
+    byte_writer_laws (LentOf at R) E (lent_laws at R (param_laws 0 X LX)) (param_laws 1 Y LY) in
     let sink = (writes.ghosts X Y gs ds ge de gd dd).sink in let lent = targets.ghosts X gs ds in
-    proved 𝓛 (f.ended X Y gs ds ge de gd dd) (stayed X Y R Self Made) (f.clauses X Y gs ds ge de gd dd 𝓛 𝓜.mem 𝓡.returns) 𝓜 𝓡 (Goes-spent_ref 𝓛 3 (0 ∷ []) tt (plain (λ _. Self)), tt)
-    (#self inst) (inst_fn inst code.function) (code.unfolded 𝓤 𝓛.H 𝓜 𝓡 wired (X, (Y, tt)) ds de dd) (λ κs. (mut_vals, tt)) (λ κs. (mut_Tells (named 0) κs.0 Self, tt)) (λ κs qs bounds a gh are.
-    walk X Y R Self Made (λ writer. (sink.failed writer ≡ false) × (sink.len writer % 8 ≡ 0)) writer_stream writer_with (λ κs. byte_writer_name)
-    (λ κs writer stream. byte_writer_state lent.contents lent.reference_names writer ≡ new_port_state (gs.contents stream) (byte_writer_name writer ∷ gs.reference_names stream)) 𝓛 κs qs bounds a.0 𝓜 𝓡
+    proved 𝓛 (f.ended X Y gs ds ge de gd dd) (stayed X Y R Self Made)
+    (f.clauses X Y gs ds ge de gd dd 𝓛 𝓜.mem 𝓡.returns) 𝓜 𝓡 (Goes-spent_ref 𝓛 3 (0 ∷ []) tt (plain (λ _. Self)), tt)
+    (#self inst) (inst_fn inst code.function) (code.unfolded 𝓤 𝓛.H 𝓜 𝓡 wired (X, (Y, tt)) ds de dd)
+    (λ κs. (mut_vals, tt)) (λ κs. (mut_Tells (named 0) κs.0 Self, tt)) (λ κs qs bounds a gh are.
+    walk X Y R Self Made (λ writer. (sink.failed writer ≡ false) × (sink.len writer % 8 ≡ 0)) writer_stream writer_with
+    (λ κs. byte_writer_name)
+    (λ κs writer stream. byte_writer_state lent.contents lent.reference_names writer
+    ≡ new_port_state (gs.contents stream) (byte_writer_name writer ∷ gs.reference_names stream)) 𝓛 κs qs bounds a.0
+    𝓜 𝓡
     -- [of the code: how many lifetimes, which outlives which, the kinds, how many givens; two lifetimes; five types]
     _ _ _ _ _ _ _ _ _ _ _
-    (λ p v is. (((part_laws X Y R Self Made (param_laws 0 X LX) κs).lawful 𝓛).typed p (v ∷ []) is).0) (λ m v is. (((option_laws (Made κs) (made_laws κs)).lawful 𝓛).typed m (v ∷ []) is).0)
-    (lends.met 𝓤 𝓛 𝓜 𝓡 (code.calls-bitstream_stream::writer::BitWriter::writer 𝓡.env wired) X Y LX LY gs ds ge de gd dd ms me md)
-    (makes.met 𝓤 𝓛 𝓜 𝓡 (code.calls-bitstream_stream::writer::BitWriter::byte_writer_of 𝓡.env wired) X Y LX LY gs ds ge de gd dd ms me md))
+    (λ p v is. (((part_laws X Y R Self Made (param_laws 0 X LX) κs).lawful 𝓛).typed p (v ∷ []) is).0)
+    (λ m v is. (((option_laws (Made κs) (made_laws κs)).lawful 𝓛).typed m (v ∷ []) is).0)
+    (lends.met 𝓤 𝓛 𝓜 𝓡 (code.calls-bitstream_stream::writer::BitWriter::writer 𝓡.env wired) X Y LX LY gs ds ge de gd dd
+    ms me md)
+    (makes.met 𝓤 𝓛 𝓜 𝓡 (code.calls-bitstream_stream::writer::BitWriter::byte_writer_of 𝓡.env wired) X Y LX LY gs ds ge
+    de gd dd ms me md))

@@ -4,17 +4,24 @@ use Rattle.bitstream_stream.proofs.writer.BitWriter.push.Goals as goal
 
 pub invariant_of-self-clause-small : goal.invariant_of-self-clause-small
 invariant_of-self-clause-small g c =
-    queue_small g.E.Endianness.order c.args.self.now.queued c.args.self.now.queue c.args.n (g.U.UnsignedInteger.value c.args.value) _ _ c.args.self.now.small c.cut-part.ensures c.put-self.ensures
+    queue_small g.E.Endianness.order c.args.self.now.queued c.args.self.now.queue c.args.n
+    (g.U.UnsignedInteger.value c.args.value) _ _ c.args.self.now.small c.cut-part.ensures c.put-self.ensures
 
 pub returns-then-self-n-lt8-clause-pushes : goal.returns-then-self-n-lt8-clause-pushes
 returns-then-self-n-lt8-clause-pushes g c =
-    pushed_queue _ g.E.Endianness.order c.args.self.now.queued c.args.self.now.queue c.args.n (g.U.UnsignedInteger.value c.args.value) _ _ _ _ _ c.args.self.now.small c.cut-part.ensures c.put-self.ensures c.requires.sound
+    pushed_queue _ g.E.Endianness.order c.args.self.now.queued c.args.self.now.queue c.args.n
+    (g.U.UnsignedInteger.value c.args.value) _ _ _ _ _ c.args.self.now.small c.cut-part.ensures c.put-self.ensures
+    c.requires.sound
 
 pub returns-in-Ok-clause-pushes : goal.returns-in-Ok-clause-pushes
 returns-in-Ok-clause-pushes g c =
-    pushed_bytes _ g.E.Endianness.order c.args.self.now.queued c.args.self.now.queue c.args.n (g.U.UnsignedInteger.value c.args.value) c.in-Ok.gone _ _ _ _ _ c.in-Ok.ensures.sends c.in-Ok.ensures.within c.cut-self.ensures c.requires.sound
+    pushed_bytes _ g.E.Endianness.order c.args.self.now.queued c.args.self.now.queue c.args.n
+    (g.U.UnsignedInteger.value c.args.value) c.in-Ok.gone _ _ _ _ _ c.in-Ok.ensures.sends c.in-Ok.ensures.within
+    c.cut-self.ensures c.requires.sound
 
 pub returns-in-Err-clause-pushes : goal.returns-in-Err-clause-pushes
 returns-in-Err-clause-pushes g c =
     pushes_lost _ g.E.Endianness.order _ _ _ _ _ _ c.refuse.ensures.answer c.refuse.ensures.fails
-    (pushed_fault _ g.E.Endianness.order c.args.self.now.queued c.args.self.now.queue c.args.n (g.U.UnsignedInteger.value c.args.value) _ _ _ _ _ _ _ c.in-Err.ensures.sends c.args.self.now.few (omega arith) refl)
+    (pushed_fault _ g.E.Endianness.order c.args.self.now.queued c.args.self.now.queue c.args.n
+    (g.U.UnsignedInteger.value c.args.value) _ _ _ _ _ _ _ c.in-Err.ensures.sends c.args.self.now.few (omega arith)
+    refl)

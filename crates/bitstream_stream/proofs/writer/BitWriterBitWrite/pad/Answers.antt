@@ -24,7 +24,9 @@ returns-in_err-push g c =
     record {
       writes = inner (writer_state g.W.Target.contents g.W.Target.reference_names) (queue_sink may o) _ _ _ _
           (pushes_writes may o _ _ _ _ _ c.if-self.false refl
-          (zeros-stop may o first c.args.bits _ _ _ c.from_residual.result c.from_residual.ensures.1 (omega (arith, c.if-bits-le128.false, c.args.self.now.few)) (pushes_zeros may o first _ (Err _) _ c.in_err-push.ensures.pushes)));
+          (zeros-stop may o first c.args.bits _ _ _ c.from_residual.result c.from_residual.ensures.1
+          (omega (arith, c.if-bits-le128.false, c.args.self.now.few))
+          (pushes_zeros may o first _ (Err _) _ c.in_err-push.ensures.pushes)));
     }
 
 pub returns-in_err-push_zeros : goal.returns-in_err-push_zeros
@@ -36,8 +38,10 @@ returns-in_err-push_zeros g c =
     record {
       writes = inner (writer_state g.W.Target.contents g.W.Target.reference_names) (queue_sink may o) _ _ _ _
           (pushes_writes may o _ _ _ _ _ c.if-self.false refl
-          (zeros-stop may o (first + whole) c.args.bits _ _ _ c.from_residual-in_err-push_zeros.result c.from_residual-in_err-push_zeros.ensures.1 (omega (arith, c.if-bits-le128.false, c.args.self.now.few))
-          (zeros-behind may o first whole (first + whole) _ _ _ (Err _) refl (pushes_zeros may o first _ (Ok tt) _ c.in_ok-push.ensures.pushes) c.in_err-push_zeros.ensures)));
+          (zeros-stop may o (first + whole) c.args.bits _ _ _ c.from_residual-in_err-push_zeros.result
+          c.from_residual-in_err-push_zeros.ensures.1 (omega (arith, c.if-bits-le128.false, c.args.self.now.few))
+          (zeros-behind may o first whole (first + whole) _ _ _ (Err _) refl
+          (pushes_zeros may o first _ (Ok tt) _ c.in_ok-push.ensures.pushes) c.in_err-push_zeros.ensures)));
     }
 
 pub returns : goal.returns
@@ -52,6 +56,7 @@ returns g c =
       writes = inner (writer_state g.W.Target.contents g.W.Target.reference_names) (queue_sink may o) _ _ _ _
           (pushes_writes may o _ _ _ _ _ c.if-self.false refl
           (zeros-behind may o (first + whole) last c.args.bits _ _ _ _ (omega (arith, c.args.self.now.few))
-          (zeros-behind may o first whole (first + whole) _ _ _ (Ok tt) refl (pushes_zeros may o first _ (Ok tt) _ c.in_ok-push.ensures.pushes) c.in_ok-push_zeros.ensures)
+          (zeros-behind may o first whole (first + whole) _ _ _ (Ok tt) refl
+          (pushes_zeros may o first _ (Ok tt) _ c.in_ok-push.ensures.pushes) c.in_ok-push_zeros.ensures)
           (pushes_zeros may o last _ _ _ c.push-3.ensures.pushes)));
     }

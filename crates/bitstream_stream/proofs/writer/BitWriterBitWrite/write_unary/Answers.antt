@@ -11,7 +11,8 @@ use Rattle.bitstream_stream.proofs.writer.BitWriterBitWrite.write_unary.Goals as
 
 pub loop-done-init : goal.loop-done-init
 loop-done-init g c = record {
-  wrote = appended_none (queue_sink (MayRefuse g.W.Target.contents g.W.Target.refuses) g.E.Endianness.order) _ c.if-self.false;
+  wrote = appended_none (queue_sink (MayRefuse g.W.Target.contents g.W.Target.refuses) g.E.Endianness.order) _
+      c.if-self.false;
   none = λ _. refl;
 }
 
@@ -22,8 +23,11 @@ returns-in_err-push-clause-writes g c =
     let stop = c.BITS-stop.result == 1 in
     let n = c.args.value in
     inner (writer_state g.W.Target.contents g.W.Target.reference_names) (queue_sink may o) _ _ _ _
-    (pushes_writes may o (unary stop n) _ _ _ _ c.if-self.false (ap (λ k. Ok (unary (k == 1) n)) (sym c.BITS-stop.ensures))
-    (others-stop may o stop (64 * c.loop-done._done) 64 n c.others.result _ _ _ _ c.from_residual.result (omega (arith, c.loop-done-test.true)) c.others.ensures.word c.from_residual.ensures.1 c.loop-done.invariant.wrote c.in_err-push.ensures.pushes))
+    (pushes_writes may o (unary stop n) _ _ _ _ c.if-self.false
+    (ap (λ k. Ok (unary (k == 1) n)) (sym c.BITS-stop.ensures))
+    (others-stop may o stop (64 * c.loop-done._done) 64 n c.others.result _ _ _ _ c.from_residual.result
+    (omega (arith, c.loop-done-test.true)) c.others.ensures.word c.from_residual.ensures.1
+    c.loop-done.invariant.wrote c.in_err-push.ensures.pushes))
 
 pub loop-done-preserved : goal.loop-done-preserved
 loop-done-preserved g c =
@@ -31,7 +35,8 @@ loop-done-preserved g c =
     let stop = c.BITS-stop.result == 1 in
     let done = c.loop-done._done in
     record {
-      wrote = others-behind may g.E.Endianness.order stop (64 * done) 64 (64 * (done + 1)) c.others.result _ _ _ (omega arith) c.others.ensures.word c.loop-done.invariant.wrote c.in_ok-push.ensures.pushes;
+      wrote = others-behind may g.E.Endianness.order stop (64 * done) 64 (64 * (done + 1)) c.others.result _ _ _
+          (omega arith) c.others.ensures.word c.loop-done.invariant.wrote c.in_ok-push.ensures.pushes;
       none = λ first. absurd (omega (arith, first));
     }
 
@@ -44,6 +49,8 @@ returns-clause-writes g c =
     let last = n % 64 in
     let sum : 64 * c.loop-done._done + last ≡ n = omega (arith, c.loop-done.auto._done-end, c.loop-done-test.false) in
     inner (writer_state g.W.Target.contents g.W.Target.reference_names) (queue_sink may o) _ _ _ _
-    (pushes_writes may o (unary stop n) _ _ _ _ c.if-self.false (ap (λ k. Ok (unary (k == 1) n)) (sym c.BITS-stop.ensures))
+    (pushes_writes may o (unary stop n) _ _ _ _ c.if-self.false
+    (ap (λ k. Ok (unary (k == 1) n)) (sym c.BITS-stop.ensures))
     (lead-behind may o stop (64 * c.loop-done._done) last n c.put.result _ _ _ c.push-2.result sum
-    (lead_word stop o last c.others-2.result c.from.result c.put.result c.others-2.ensures.below c.others-2.ensures.word c.from.ensures c.put.ensures) c.loop-done.invariant.wrote c.push-2.ensures.pushes))
+    (lead_word stop o last c.others-2.result c.from.result c.put.result c.others-2.ensures.below c.others-2.ensures.word
+    c.from.ensures c.put.ensures) c.loop-done.invariant.wrote c.push-2.ensures.pushes))

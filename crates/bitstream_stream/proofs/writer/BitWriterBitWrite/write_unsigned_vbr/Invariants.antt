@@ -12,7 +12,8 @@ invariant-loop-group g l =
     let u = g.U.UnsignedInteger in
     record {
       room : l.bits + g.F.Width.BITS ≤ g.U.Numeric.BITS_SIZE;
-      groups : GroupsGathered (queue_sink (MayRefuse target.contents target.refuses) g.E.Endianness.order) g.F.Width.BITS (u.value l.fn.value) (state l.fn.self) (u.value l.rest) (state l.self) l.bits (u.value l.word);
+      groups : GroupsGathered (queue_sink (MayRefuse target.contents target.refuses) g.E.Endianness.order)
+          g.F.Width.BITS (u.value l.fn.value) (state l.fn.self) (u.value l.rest) (state l.self) l.bits (u.value l.word);
     }
 
 abbrev pub decreases-loop-group : goal.decreases-loop-group

@@ -3,12 +3,16 @@ use Rattle.bitstream_value.proofs.NonZeroLemmas.{non_zero-stops, non_zero-was_do
 use Rattle.bitstream_value.proofs.integer.non_zero.read_non_zero_fixed.Goals as goal
 
 pub returns-in_err-base : goal.returns-in_err-base
-returns-in_err-base g c = record { reads = non_zero-stops g.N.NonZeroInteger.after _ _ _ c.requires c.from_residual.ensures.1 c.in_err-base.ensures.reads }
+returns-in_err-base g c = record {
+  reads = non_zero-stops g.N.NonZeroInteger.after _ _ _ c.requires
+      c.from_residual.ensures.1 c.in_err-base.ensures.reads;
+}
 
 pub next-requires : goal.next-requires
 next-requires g c = next_fits g.B.Width.BITS _ _ c.requires (unsigned-below _ _ _ _ c.in_ok-base.ensures.reads)
 
 pub returns : goal.returns
 returns g c = record {
-  reads = non_zero-was_done g.N.NonZeroInteger.after _ _ _ _ _ c.requires (g.met.N.NonZeroInteger.after_law _ _ c.next.ensures) c.in_ok-base.ensures.reads;
+  reads = non_zero-was_done g.N.NonZeroInteger.after _ _ _ _ _ c.requires
+      (g.met.N.NonZeroInteger.after_law _ _ c.next.ensures) c.in_ok-base.ensures.reads;
 }

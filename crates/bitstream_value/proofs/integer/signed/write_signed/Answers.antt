@@ -2,4 +2,7 @@ use Rattle.bitstream_stream.proofs.WriteParts.{all_one}
 use Rattle.bitstream_value.proofs.integer.signed.write_signed.Goals as goal
 
 pub returns : goal.returns
-returns g c = record { writes = all_one g.W.BitWrite.sink _ _ _ _ (rw c.bits.ensures.value at c.write_signed_var.ensures.writes) }
+returns g c = record {
+  writes = all_one g.W.BitWrite.sink _ _ _ _
+      (rw c.bits.ensures.value at c.write_signed_var.ensures.writes);
+}

@@ -23,19 +23,39 @@ pub returns-in-U128 : goal.returns-in-U128
 returns-in-U128 g c = record { writes = rw c.in-U128.is c.write_unsigned_var-in-U128.ensures.writes }
 
 pub returns-in-I8 : goal.returns-in-I8
-returns-in-I8 g c = record { writes = rw c.in-I8.is (of_value g.W.BitWrite.sink (signed g.W.BitWrite.sink.order 8 c.in-I8.bits) _ _ _ w8 c.in-I8.value c.write_signed_var.ensures.writes (search sfits_of)) }
+returns-in-I8 g c =
+    record {
+      writes = rw c.in-I8.is (of_value g.W.BitWrite.sink (signed g.W.BitWrite.sink.order 8 c.in-I8.bits) _ _ _ w8
+          c.in-I8.value c.write_signed_var.ensures.writes (search sfits_of));
+    }
 
 pub returns-in-I16 : goal.returns-in-I16
-returns-in-I16 g c = record { writes = rw c.in-I16.is (of_value g.W.BitWrite.sink (signed g.W.BitWrite.sink.order 16 c.in-I16.bits) _ _ _ w16 c.in-I16.value c.write_signed_var-in-I16.ensures.writes (search sfits_of)) }
+returns-in-I16 g c =
+    record {
+      writes = rw c.in-I16.is (of_value g.W.BitWrite.sink (signed g.W.BitWrite.sink.order 16 c.in-I16.bits) _ _ _
+          w16 c.in-I16.value c.write_signed_var-in-I16.ensures.writes (search sfits_of));
+    }
 
 pub returns-in-I32 : goal.returns-in-I32
-returns-in-I32 g c = record { writes = rw c.in-I32.is (of_value g.W.BitWrite.sink (signed g.W.BitWrite.sink.order 32 c.in-I32.bits) _ _ _ w32 c.in-I32.value c.write_signed_var-in-I32.ensures.writes (search sfits_of)) }
+returns-in-I32 g c =
+    record {
+      writes = rw c.in-I32.is (of_value g.W.BitWrite.sink (signed g.W.BitWrite.sink.order 32 c.in-I32.bits) _ _ _
+          w32 c.in-I32.value c.write_signed_var-in-I32.ensures.writes (search sfits_of));
+    }
 
 pub returns-in-I64 : goal.returns-in-I64
-returns-in-I64 g c = record { writes = rw c.in-I64.is (of_value g.W.BitWrite.sink (signed g.W.BitWrite.sink.order 64 c.in-I64.bits) _ _ _ w64 c.in-I64.value c.write_signed_var-in-I64.ensures.writes (search sfits_of)) }
+returns-in-I64 g c =
+    record {
+      writes = rw c.in-I64.is (of_value g.W.BitWrite.sink (signed g.W.BitWrite.sink.order 64 c.in-I64.bits) _ _ _
+          w64 c.in-I64.value c.write_signed_var-in-I64.ensures.writes (search sfits_of));
+    }
 
 pub returns-in-I128 : goal.returns-in-I128
-returns-in-I128 g c = record { writes = rw c.in-I128.is (of_value g.W.BitWrite.sink (signed g.W.BitWrite.sink.order 128 c.in-I128.bits) _ _ _ w128 c.in-I128.value c.write_signed_var-in-I128.ensures.writes (search sfits_of)) }
+returns-in-I128 g c = record {
+  writes = rw c.in-I128.is
+      (of_value g.W.BitWrite.sink (signed g.W.BitWrite.sink.order 128 c.in-I128.bits) _ _ _ w128 c.in-I128.value
+      c.write_signed_var-in-I128.ensures.writes (search sfits_of));
+}
 
 pub returns-in-Unary0 : goal.returns-in-Unary0
 returns-in-Unary0 g c = record { writes = rw c.in-Unary0.is c.write_unary.ensures.writes }
@@ -50,10 +70,18 @@ pub returns-in-Vbr8 : goal.returns-in-Vbr8
 returns-in-Vbr8 g c = record { writes = rw c.in-Vbr8.is c.write_unsigned_vbr-in-Vbr8.ensures.writes }
 
 pub returns-in-SignedVbr4 : goal.returns-in-SignedVbr4
-returns-in-SignedVbr4 g c = record { writes = rw c.in-SignedVbr4.is (of_value g.W.BitWrite.sink (signed_vbr g.W.BitWrite.sink.order 4) _ _ _ w64 c.in-SignedVbr4.value c.write_signed_vbr.ensures.writes (search sfits_of)) }
+returns-in-SignedVbr4 g c = record {
+  writes = rw c.in-SignedVbr4.is
+      (of_value g.W.BitWrite.sink (signed_vbr g.W.BitWrite.sink.order 4) _ _ _ w64 c.in-SignedVbr4.value
+      c.write_signed_vbr.ensures.writes (search sfits_of));
+}
 
 pub returns-in-SignedVbr8 : goal.returns-in-SignedVbr8
-returns-in-SignedVbr8 g c = record { writes = rw c.in-SignedVbr8.is (of_value g.W.BitWrite.sink (signed_vbr g.W.BitWrite.sink.order 8) _ _ _ w64 c.in-SignedVbr8.value c.write_signed_vbr-in-SignedVbr8.ensures.writes (search sfits_of)) }
+returns-in-SignedVbr8 g c = record {
+  writes = rw c.in-SignedVbr8.is
+      (of_value g.W.BitWrite.sink (signed_vbr g.W.BitWrite.sink.order 8) _ _ _ w64 c.in-SignedVbr8.value
+      c.write_signed_vbr-in-SignedVbr8.ensures.writes (search sfits_of));
+}
 
 pub returns-in-Bytes : goal.returns-in-Bytes
 returns-in-Bytes g c = record { writes = rw (c.in-Bytes.is, ← c.as_slice.ensures) c.write_bytes.ensures.writes }

@@ -7,4 +7,5 @@ returns-in-None g c =
     let u = g.Self.UnsignedInteger in
     let h = c.in-None.ensures in
     let past : g.Self.Numeric.BITS_SIZE ≤ c.args.rhs = omega (arith, h) in
-    ap u.value c.ZERO.ensures ∙ g.met.Self.UnsignedInteger.ZERO_value_law ∙ sym (shl_past (u.value c.args.self) g.Self.Numeric.BITS_SIZE c.args.rhs past)
+    ap u.value c.ZERO.ensures ∙ g.met.Self.UnsignedInteger.ZERO_value_law
+    ∙ sym (shl_past (u.value c.args.self) g.Self.Numeric.BITS_SIZE c.args.rhs past)

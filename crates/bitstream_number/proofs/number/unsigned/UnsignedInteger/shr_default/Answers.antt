@@ -9,4 +9,5 @@ returns-in-None g c =
     let h = c.in-None.ensures in
     let past : g.Self.Numeric.BITS_SIZE ≤ c.args.rhs = omega (arith, h) in
     let below = g.met.Self.UnsignedInteger.known_law x c.known.ensures in
-    ap u.value c.ZERO.ensures ∙ g.met.Self.UnsignedInteger.ZERO_value_law ∙ sym (shr_past (u.value x) g.Self.Numeric.BITS_SIZE c.args.rhs below past)
+    ap u.value c.ZERO.ensures ∙ g.met.Self.UnsignedInteger.ZERO_value_law
+    ∙ sym (shr_past (u.value x) g.Self.Numeric.BITS_SIZE c.args.rhs below past)

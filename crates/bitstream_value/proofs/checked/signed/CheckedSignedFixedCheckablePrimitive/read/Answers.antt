@@ -4,11 +4,17 @@ use Rattle.bitstream_value.proofs.checked.signed.CheckedSignedFixedCheckablePrim
 
 pub returns-in_err-value : goal.returns-in_err-value
 returns-in_err-value g c =
-    record { reads = signed_checked-stops _ c.args.count _ _ _ c.from_residual.result c.from_residual.ensures.1 (rw c.from.ensures at c.in_err-value.ensures.reads) }
+    record {
+      reads = signed_checked-stops _ c.args.count _ _ _ c.from_residual.result c.from_residual.ensures.1
+          (rw c.from.ensures at c.in_err-value.ensures.reads);
+    }
 
 pub of-requires : goal.of-requires
 of-requires g c = signed-holds _ _ _ (rw c.from.ensures at c.in_ok-value.ensures.reads)
 
 pub returns : goal.returns
 returns g c =
-    record { reads = signed_checked-was_done c.args.count _ _ _ c.of.ensures.count (ap g.S.Numeric.integer c.of.ensures.value) (rw c.from.ensures at c.in_ok-value.ensures.reads) }
+    record {
+      reads = signed_checked-was_done c.args.count _ _ _ c.of.ensures.count
+          (ap g.S.Numeric.integer c.of.ensures.value) (rw c.from.ensures at c.in_ok-value.ensures.reads);
+    }

@@ -5,4 +5,7 @@ use Rattle.bitstream_value.proofs.checked.unsigned.CheckedUnsignedCheckable.writ
 pub returns : goal.returns
 returns g c =
     let parts = c.into_count_value-count.ensures in
-    record { writes = writes-held g.W.BitWrite.sink _ _ refl parts.count (ap g.U.UnsignedInteger.value parts.value) parts.holds c.write_unsigned_counted.ensures.writes }
+    record {
+      writes = writes-held g.W.BitWrite.sink _ _ refl parts.count (ap g.U.UnsignedInteger.value parts.value)
+          parts.holds c.write_unsigned_counted.ensures.writes;
+    }

@@ -5,6 +5,7 @@ use Rattle.bitstream_value.proofs.huffman.tree.join.joined.Given as goal
 -- the nodes of the first table, and those of the second so far
 abbrev pub invariant-loop-node : goal.invariant-loop-node
 invariant-loop-node g l = record {
-  nodes_are : l.nodes.items ≡ l.fn.first.nodes.items ++ map (moved (length l.fn.first.nodes.items)) (take l.node-index l.fn.second.nodes.items);
+  nodes_are : l.nodes.items ≡ l.fn.first.nodes.items ++ map (moved (length l.fn.first.nodes.items))
+      (take l.node-index l.fn.second.nodes.items);
   size : l.len ≡ length l.fn.first.nodes.items;
 }

@@ -6,5 +6,6 @@ use Rattle.bitstream_value.proofs.integer.array.ArrayInteger.read_var.Given as g
 -- the items before place i were read
 abbrev pub invariant-loop-i : goal.invariant-loop-i
 invariant-loop-i g l =
-    Reads g.R.BitRead.source (items_entry (g.I.Integer.reads g.R.BitRead.source.order (g.C.Count.number l.bits)) l.i) l.initial.reader (Ok (take l.i l.items)) l.reader
+    Reads g.R.BitRead.source (items_entry (g.I.Integer.reads g.R.BitRead.source.order (g.C.Count.number l.bits)) l.i)
+    l.initial.reader (Ok (take l.i l.items)) l.reader
     × (length l.items ≡ g.row.SIZE)

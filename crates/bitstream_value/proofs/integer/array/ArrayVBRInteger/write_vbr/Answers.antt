@@ -20,9 +20,12 @@ returns-in_err-write_vbr g c =
     let x = get_or xs k c.item-item.result in
     let fits : k < length xs = omega arith in
     record {
-      writes = subst (λ (es : List WriteEntry). WritesAll K es c.args.writer.now c.from_residual.result c.write_vbr.new.writer) (sym (flat_map-split f xs k c.item-item.result fits))
-          (all_append K (flat_map f (take k xs)) (f x ++ flat_map f (drop (k + 1) xs)) c.args.writer.now c.loop-item.writer c.from_residual.result c.write_vbr.new.writer c.loop-item.invariant
-          (all_stop K (f x) (flat_map f (drop (k + 1) xs)) c.loop-item.writer _ c.from_residual.result c.write_vbr.new.writer (p.1 ∙ ap Err p.2) c.in_err-write_vbr.ensures.writes));
+      writes = subst (λ (es : List WriteEntry). WritesAll K es c.args.writer.now c.from_residual.result
+          c.write_vbr.new.writer) (sym (flat_map-split f xs k c.item-item.result fits))
+          (all_append K (flat_map f (take k xs)) (f x ++ flat_map f (drop (k + 1) xs)) c.args.writer.now
+          c.loop-item.writer c.from_residual.result c.write_vbr.new.writer c.loop-item.invariant
+          (all_stop K (f x) (flat_map f (drop (k + 1) xs)) c.loop-item.writer _ c.from_residual.result
+          c.write_vbr.new.writer (p.1 ∙ ap Err p.2) c.in_err-write_vbr.ensures.writes));
     }
 
 pub loop-item-preserved : goal.loop-item-preserved
@@ -33,8 +36,10 @@ loop-item-preserved g c =
     let k = c.loop-item.item-index in
     let x = get_or xs k c.item-item.result in
     let fits : k < length xs = omega arith in
-    subst (λ (es : List WriteEntry). WritesAll K es c.args.writer.now (Ok tt) c.write_vbr.new.writer) (sym (flat_map-take f xs k c.item-item.result fits))
-    (all_append K (flat_map f (take k xs)) (f x) c.args.writer.now c.loop-item.writer (Ok tt) c.write_vbr.new.writer c.loop-item.invariant c.in_ok-write_vbr.ensures.writes)
+    subst (λ (es : List WriteEntry). WritesAll K es c.args.writer.now (Ok tt) c.write_vbr.new.writer)
+    (sym (flat_map-take f xs k c.item-item.result fits))
+    (all_append K (flat_map f (take k xs)) (f x) c.args.writer.now c.loop-item.writer (Ok tt) c.write_vbr.new.writer
+    c.loop-item.invariant c.in_ok-write_vbr.ensures.writes)
 
 pub returns : goal.returns
 returns g c =
@@ -42,4 +47,7 @@ returns g c =
     let f = g.I.VBRInteger.writes_vbr K.order g.F.Width.BITS in
     let xs = c.args.self in
     let all : c.loop-item.item-index ≡ length xs = omega arith in
-    record { writes = subst (λ (ys : _). WritesAll K (flat_map f ys) c.args.writer.now (Ok tt) c.loop-item.writer) (ap (λ (n : ℕ). take n xs) all ∙ take-length xs) c.loop-item.invariant }
+    record {
+      writes = subst (λ (ys : _). WritesAll K (flat_map f ys) c.args.writer.now (Ok tt) c.loop-item.writer)
+          (ap (λ (n : ℕ). take n xs) all ∙ take-length xs) c.loop-item.invariant;
+    }

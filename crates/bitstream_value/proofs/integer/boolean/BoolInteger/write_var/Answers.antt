@@ -7,12 +7,14 @@ pub returns-then-bits-eq1 : goal.returns-then-bits-eq1
 returns-then-bits-eq1 g c = record {
   writes =
       let K = g.W.BitWrite.sink in
-      all_one K _ _ _ _ (writes-bit K _ _ _ _ _ (let b = c.bits.ensures.value in let one = c.if-bits-eq1.true in omega (arith, b, one)) c.write_bit.ensures.writes);
+      all_one K _ _ _ _ (writes-bit K _ _ _ _ _ (let b = c.bits.ensures.value in let one = c.if-bits-eq1.true in
+      omega (arith, b, one)) c.write_bit.ensures.writes);
 }
 
 pub returns-else-bits-eq1 : goal.returns-else-bits-eq1
 returns-else-bits-eq1 g c = record {
   writes =
       let K = g.W.BitWrite.sink in
-      all_one K _ _ _ _ (writes-refused K _ _ _ _ _ (λ one. c.if-bits-eq1.false (let b = c.bits.ensures.value in omega (arith, b, one))) c.refuse_write.ensures.writes);
+      all_one K _ _ _ _ (writes-refused K _ _ _ _ _ (λ one. c.if-bits-eq1.false (let b = c.bits.ensures.value in
+      omega (arith, b, one))) c.refuse_write.ensures.writes);
 }

@@ -9,4 +9,5 @@ pub returns : goal.returns
 returns c =
     let n = c.from_le_bytes.result in
     let below : n < 2 ^ 128 = search rules in
-    ap (bytes Low 16) (cast_back w128 n c.cast_signed.result below c.cast_signed.ensures) ∙ from_le_bytes_back 15 c.args.bytes n (search rules) (search rules) c.from_le_bytes.ensures
+    ap (bytes Low 16) (cast_back w128 n c.cast_signed.result below c.cast_signed.ensures)
+    ∙ from_le_bytes_back 15 c.args.bytes n (search rules) (search rules) c.from_le_bytes.ensures

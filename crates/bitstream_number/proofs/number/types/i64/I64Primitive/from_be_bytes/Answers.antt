@@ -9,4 +9,5 @@ pub returns : goal.returns
 returns c =
     let n = c.from_be_bytes.result in
     let below : n < 2 ^ 64 = search rules in
-    ap (bytes High 8) (cast_back w64 n c.cast_signed.result below c.cast_signed.ensures) ∙ from_be_bytes_back 7 c.args.bytes n (search rules) (search rules) c.from_be_bytes.ensures
+    ap (bytes High 8) (cast_back w64 n c.cast_signed.result below c.cast_signed.ensures)
+    ∙ from_be_bytes_back 7 c.args.bytes n (search rules) (search rules) c.from_be_bytes.ensures

@@ -3,4 +3,5 @@ use Rattle.bitstream_number.proofs.Bytes.{from_be_bytes_back}
 use Rattle.bitstream_number.proofs.number.types.u128.U128Primitive.from_be_bytes.Goals as goal
 
 pub returns : goal.returns
-returns c = from_be_bytes_back 15 c.args.bytes c.from_be_bytes.result (search rules) (search rules) c.from_be_bytes.ensures
+returns c = from_be_bytes_back 15 c.args.bytes c.from_be_bytes.result (search rules) (search rules)
+    c.from_be_bytes.ensures
