@@ -82,13 +82,13 @@ impl<'a> Call<'a> {
         }
     }
 
-    /// The call that asks for the place in bits, which is answered so.
-    pub fn asks_place(answer: &'a str) -> Call<'a> {
+    /// The call that asks whether the place in bits is this one.
+    pub fn asks_place(place: u64) -> Call<'static> {
         Call {
-            form: Form::Place,
+            form: Form::PlaceIs(place),
             bits: 0,
             value: "",
-            answer,
+            answer: "yes",
         }
     }
 
@@ -132,7 +132,7 @@ impl<'a> Call<'a> {
     /// How many of the requests that it makes first are seeks.
     pub fn seeks(&self) -> u64 {
         match self.form {
-            Form::Seek(Whence::Start) | Form::Place => 1,
+            Form::Seek(Whence::Start) | Form::Place | Form::PlaceIs(_) => 1,
             Form::Seek(_) => 2,
             _ => 0,
         }

@@ -104,6 +104,8 @@ pub enum Form {
     Pad,
     /// The place in bits.
     Place,
+    /// Whether the place in bits is this one.
+    PlaceIs(u64),
     /// A symbol of a tree.
     Prefix(Tree),
     /// A new recorder of an order is given calls, and played.
@@ -132,7 +134,7 @@ impl Form {
     /// How many words stand behind the call's name where it reads, and where it writes.
     pub fn arguments(self) -> (usize, usize) {
         match self {
-            Form::Align | Form::Aligned | Form::Clear | Form::Place => (0, 0),
+            Form::Align | Form::Aligned | Form::Clear | Form::Place | Form::PlaceIs(_) => (0, 0),
             Form::Bit | Form::Unary(_) => (0, 1),
             Form::Bytes | Form::Pad | Form::Skip | Form::Vector => (1, 1),
             Form::Const => (2, 2),

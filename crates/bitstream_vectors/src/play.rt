@@ -116,6 +116,7 @@ impl<R: SeekSource, E: Endianness> Stage for BitReader<R, E> {
         match call.form {
             Form::Cursor => Ok(want == "ok"),
             Form::Place => Ok(is_number(want, self.position_in_bits())),
+            Form::PlaceIs(place) => Ok(matches!(self.position_in_bits(), Ok(at) if at == place)),
             Form::Seek(whence) => {
                 let to = target(whence, call.value)?;
                 Ok(is_number(want, self.seek_bits(to)))

@@ -6,7 +6,6 @@ use crate::play::{Fault, Moved, Way, play};
 use crate::records::play_record;
 use crate::row::{Kind, Layer, Order, Row};
 use std::alloc::Global;
-use std::fmt::Write;
 use std::io::ErrorKind;
 
 /// The kinds of refusals of streams that are read.
@@ -108,11 +107,7 @@ fn stands_at(
     place: usize,
 ) -> Result<(), Objection> {
     agrees(moved.bytes == place.div_ceil(8), Difference::Place)?;
-    let mut text = String::new(alloc);
-    if write!(text, "{place}").is_err() {
-        return Err(Objection::OutOfMemory);
-    }
-    let calls = with_rest(alloc, row, place, text.as_str())?;
+    let calls = with_rest(alloc, row, place)?;
     match play(alloc, row, &calls, way) {
         Err(Objection::Differs(_)) => Err(Objection::Differs(Difference::Place)),
         Err(objection) => Err(objection),
@@ -122,14 +117,9 @@ fn stands_at(
 
 /// The calls of a row, and then calls that ask for its place, and read its bits from there on, and its
 /// end.
-fn with_rest<'a>(
-    alloc: Global,
-    row: &Row<'a>,
-    place: usize,
-    text: &'a str,
-) -> Result<Vec<Call<'a>>, Objection> {
+fn with_rest<'a>(alloc: Global, row: &Row<'a>, place: usize) -> Result<Vec<Call<'a>>, Objection> {
     let mut calls: Vec<Call<'a>> = row.calls.iter().copied().collect(alloc)?;
-    calls.push(Call::asks_place(text))?;
+    calls.push(Call::asks_place(place as u64))?;
     for at in place..row.bytes.len().saturating_mul(8) {
         calls.push(Call::reads_bit(bit_at(row, at)))?;
     }
