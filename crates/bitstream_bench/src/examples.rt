@@ -333,7 +333,10 @@ fn example_of_huffman_tree(rt: HostRuntime) -> Result<(), Fail> {
     use bitstream_io::huffman::HuffmanTree;
 
     let alloc = rt.alloc();
-    let end = HuffmanTree::node(HuffmanTree::leaf(alloc, 'b')?, HuffmanTree::leaf(alloc, 'c')?)?;
+    let end = HuffmanTree::node(
+        HuffmanTree::leaf(alloc, 'b')?,
+        HuffmanTree::leaf(alloc, 'c')?,
+    )?;
     let tree = HuffmanTree::node(HuffmanTree::leaf(alloc, 'a')?, end)?;
     let mut reader = BitReader::<_, BE>::new([0x98].as_slice());
     assert_eq!(rt; reader.read_huffman(&tree)?, 'b');
