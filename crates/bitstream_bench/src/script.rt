@@ -170,7 +170,7 @@ fn lists_of_reads_answer_each_call(rt: HostRuntime) {
     for (left, wanted) in LISTS.iter().enumerate() {
         let refusing = Refuse {
             inner: data.as_slice(),
-            left: left as u32,
+            left: u32::try_from(left).unwrap_or(u32::MAX),
             kind: ErrorKind::ConnectionReset,
         };
         let refused = BitReader::<_, BE>::new(refusing);
