@@ -1,10 +1,14 @@
 -- What the states of a `ByteReader` mean.
-use Rattle.std.specs.Prelude.{ℕ, List, Option}
+use Rattle.std.specs.Prelude.{◌≡◌, ℕ, List, Option, Result, Ok, Err}
 use Rattle.std.specs.declared.io.ErrorKind.{ErrorKind}
+use Rattle.std.specs.IoError.{error_kind}
+use Rattle.std.specs.declared.io.Error.{Error as IoError}
 use Rattle.std.specs.Borrow.{GName}
 use Rattle.bitstream_number.specs.Word.{Order}
-use Rattle.bitstream_order.specs.Port.{PortState, port_state}
-use Rattle.bitstream_order.specs.Refusal.{MayRefuse}
+use Rattle.bitstream_count.specs.Kind.{kind_of}
+use Rattle.bitstream_count.specs.declared.error.Error.{Error}
+use Rattle.bitstream_order.specs.Port.{PortState, SendRefused, Sought, port_state}
+use Rattle.bitstream_order.specs.Refusal.{MayRefuse, Refusal}
 use Rattle.bitstream_stream.specs.declared.byte_reader.ByteReader.{ByteReader}
 use Rattle.bitstream_stream.specs.ByteReads.{ByteReaderState, ByteSource}
 
@@ -25,3 +29,13 @@ byte_reader_source remaining refuses reference_names o = record {
   state = λ r. byte_reader_state (port_state remaining reference_names r.port);
   may = MayRefuse remaining refuses;
 }
+
+-- a reader, by what its stream tells
+abbrev pub byte_reader_port : {R E : Type 0} → (R → Option (List ℕ)) → (R → List GName) → ByteReader R E → PortState
+byte_reader_port remaining reference_names r = port_state remaining reference_names r.port
+
+-- A seek by one request, from which on the fetched bytes are counted anew. If the stream refused it, the `io::Error` is
+-- of the kind of that refusal, and what was fetched stays counted.
+abbrev pub ByteSeeks : (Refusal → Type 0) → PortState → Result ℕ IoError → PortState → Type 0
+ByteSeeks may old (Ok at) new = Sought old new
+ByteSeeks may old (Err e) new = (error : Error) × SendRefused may error old 0 new × (error_kind e ≡ kind_of error)

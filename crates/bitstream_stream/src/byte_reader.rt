@@ -1,4 +1,6 @@
 //! A reader of bytes over a stream.
+ghost use Rattle.std.specs.Io.KnownBytes.{Keeps};
+ghost use Rattle.std.specs.Io.Seek.{SeekMoves};
 ghost use Rattle.std.specs.Prelude.{◌≡◌, length};
 ghost use Rattle.bitstream_order.specs.Parts.{value_bytes};
 ghost use Rattle.bitstream_order.specs.Port.{new_port_state};
@@ -97,12 +99,22 @@ impl<R: Source, E: Endianness> ByteRead for ByteReader<R, E> {
 
 impl<R: SeekSource, E: Endianness> Seek for ByteReader<R, E> {
     ghost use Rattle.bitstream_order.specs.Port.{port_stream};
+    ghost use Rattle.bitstream_order.specs.Refusal.{MayRefuseSeek};
+    ghost use Rattle.bitstream_stream.specs.ByteReader.{byte_reader_port, ByteSeeks};
+    ghost use Rattle.bitstream_stream.specs.Ways.{byte_reader_stream};
 
     ghost stream_position = { λ r. R.position (port_stream r.port) };
 
     ghost stream_bytes = { λ r. R.bytes (port_stream r.port) };
 
-    fn seek(&mut self, to: SeekFrom) -> io::Result<u64> {
+    fn seek(&mut self, to: SeekFrom) -> io::Result<u64>
+        ensures moves { SeekMoves (R.position (byte_reader_stream self.old))
+            (R.position (byte_reader_stream self.new)) (R.bytes (byte_reader_stream self.old)) to result }
+        ensures bytes { Keeps (R.bytes (byte_reader_stream self.old)) (R.bytes (byte_reader_stream self.new)) }
+        ensures seeks { ByteSeeks (MayRefuseSeek R.remaining R.refuses_seek to)
+            (byte_reader_port R.remaining R.reference_names self.old) result
+            (byte_reader_port R.remaining R.reference_names self.new) }
+    {
         match self.port.seek(to) {
             Ok(at) => Ok(at),
             Err(error) => Err(io::Error::from(error)),
