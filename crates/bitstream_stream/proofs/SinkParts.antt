@@ -204,7 +204,7 @@ module _ {S : Type 0} (K : Sink S) where
       stop_later e f old mid (Err d) r new d x y z b w refl (exit_is r h) is (whole
       ∙ ap Ok parts) (subst (λ (k : ℕ). IsWithin K.limit (K.len old + k)) (sym (ap length (sym parts) ∙ size)) room)
 
-  -- ---- the same bit, so many times: the number v of k bits
+  -- ---- one bit repeated: the number v of k bits
 
   module _ (bit : Bool) (o : Order) (size a k v : ℕ) (le : k ≤ size) (small : v < 2 ^ k) (same : (o : Order)
       → word o k v ≡ replicate k bit) {old mid new : S} (b : Begun K old (replicate a bit) mid) where

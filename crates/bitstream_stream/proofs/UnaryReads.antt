@@ -58,7 +58,7 @@ other_bit true false h = refl
 other_bit false true h = refl
 other_bit false false h = cc
 
--- ---- so many bits that are not the stop bit, and what follows
+-- ---- n bits that are not the stop bit, and what follows
 
 unary_behind : (stop : Bool) (n p q : ℕ) → n < 2 ^ 32 → Behind (unary_entry stop) p (replicate n (not stop)) bit_entry q
 unfolding unary_entry

@@ -204,7 +204,7 @@ other-digit false false h = absurd cc
 
 -- ---- writing
 
--- so many of the same bits were written, and what is written from there on is all
+-- k of the same bits were written, and what is written from there on completes them
 pub record Repeating {P : Type 0} (K : Sink P) (b : Bool) (times : ℕ) (from : P) (k : ℕ) (to : P) : Type 0 where
   pub on : (r : Result (Unit {0}) Error) (z : P) → WritesAll K (bit_by_bit (replicate (times - k) b)) to r z
       → WritesAll K (bit_by_bit (replicate times b)) from r z

@@ -191,7 +191,7 @@ nodes_of-some code = Stands-some (nodes_of code) (tree_of code) 0 (length (nodes
 
 -- ---- two tables as one
 
--- so many of the nodes that are put behind a table
+-- the first k of the nodes that are put behind a table
 pub length-moved : {S : Type 0} (xs ys zs : List (Node S)) (n k : ℕ) → zs ≡ xs ++ map (moved n) (take k ys)
     → k ≤ length ys → length zs ≡ length xs + k
 length-moved xs ys zs n k e le =

@@ -30,7 +30,7 @@ use Rattle.bitstream_value.proofs.SureLemmas.{IsWord, unsigned-word, truth-word,
 
 -- ---- what a function did that read
 
--- the machine's integers of so many bits
+-- the machine's integers of the given number of bits
 abbrev pub width_of : ℕ → Width
 width_of size = if size == 8 then w8 else if size == 16 then w16 else if size == 32 then w32 else if size == 64 then w64
     else w128

@@ -1,4 +1,4 @@
--- Values that are a word of so many bits, and what is answered where all bits left are known.
+-- Values that are a word of a known number of bits, and what is answered if all bits left are known.
 use Rattle.std.specs.Prelude.{Bool, map}
 use Rattle.std.proofs.Common.{◌≡◌, ℕ, zero, suc, ◌+◌, ◌*◌, ◌<◌, ◌≤◌, List, [], ◌∷◌, ◌++◌, length, take, drop, Some, Result, Ok, Err, refl, sym, ap, ◌∙◌, arith, length-drop}
 use Rattle.std.proofs.Math.Seq.{take-length}
@@ -85,7 +85,7 @@ front-same TooFew f h same = refl
 front-same (Takes n (Ok a)) f h same = ap (longer n) (same n a)
 front-same (Takes n (Err d)) f h same = refl
 
--- so many items, of which each is a word, are one word
+-- k items, each of which is a word, are one word
 pub items-word : {A : Type 0} {e : ReadEntry A} {n : ℕ} {g : List Bool → A} → IsWord e n (λ w. Ok (g w)) → (k : ℕ)
     → IsWord (items_entry e k) (k * n) (λ w. Ok (map g (words n k w)))
 unfolding items_entry chain

@@ -2,7 +2,7 @@ use Rattle.std.proofs.Common.{◌-◌, ◌^◌, ◌<◌, not, replicate}
 use Rattle.bitstream_stream.proofs.ReadsLemmas.{Begun}
 use Rattle.bitstream_stream.proofs.read.BitRead.read_unary.Given as goal
 
--- so many bits, none of which is the stop bit
+-- the bits that were counted, none of which is the stop bit
 abbrev pub invariant-loop-self : goal.invariant-loop-self
 invariant-loop-self g l = record {
   few : l.count < 2 ^ 32;

@@ -3,7 +3,7 @@ use Rattle.bitstream_stream.specs.Reads.{Reads}
 use Rattle.bitstream_stream.specs.ReadTable.{skip_entry}
 use Rattle.bitstream_stream.proofs.read.BitRead.skip.Given as goal
 
--- the bits that are no whole 128, and so many 128 behind them
+-- the bits beyond whole groups of 128 were read, and behind them one group a turn
 abbrev pub invariant-loop-done : goal.invariant-loop-done
 invariant-loop-done g l = Reads g.Self.BitRead.source (skip_entry (l.bits % 128 + 128 * l._done)) l.fn.self (Ok tt)
     l.self

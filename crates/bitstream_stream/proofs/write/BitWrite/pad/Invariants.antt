@@ -3,7 +3,7 @@ use Rattle.bitstream_stream.specs.Sink.{IsWithin}
 use Rattle.bitstream_stream.proofs.SinkParts.{Begun}
 use Rattle.bitstream_stream.proofs.write.BitWrite.pad.Given as goal
 
--- the zeros that are no whole 128 were written, and so many 128 behind them; and there is room for all
+-- the zeros beyond whole groups of 128 were written, and behind them one group a turn; all of them have room
 abbrev pub invariant-loop-done : goal.invariant-loop-done
 invariant-loop-done g l =
     let K = g.Self.BitWrite.sink in

@@ -4,7 +4,7 @@ use Rattle.bitstream_stream.specs.Sink.{Appended}
 use Rattle.bitstream_stream.specs.Writer.{writer_state, queue_sink}
 use Rattle.bitstream_stream.proofs.writer.BitWriterBitWrite.write_unary.Given as goal
 
--- so many 64 bits were written, none of which is the stop bit
+-- 64 bits a turn were written, none of which is the stop bit
 abbrev pub invariant-loop-done : goal.invariant-loop-done
 invariant-loop-done g l =
     let K = queue_sink (MayRefuse g.W.Target.contents g.W.Target.refuses) g.E.Endianness.order in
