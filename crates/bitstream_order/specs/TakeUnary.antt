@@ -45,6 +45,6 @@ pub record RefusesUnary (may : Refusal → Type 0) (o : Order) (stop : Bool) (x 
 abbrev pub TakesUnary : (Refusal → Type 0) → Order → Bool → List Bool → PortState → Result (Option TakenUnary) Error
     → PortState → Type 0
 TakesUnary may o stop x old (Ok (Some r)) new =
-    TakesBetween o x old (unary stop r.count) (word o r.waiting (first_part o r.left 8 r.waiting)) new
+    TakesBetween o x old (unary stop r.count) (word o r.queued (first_part o r.left 8 r.queued)) new
 TakesUnary may o stop x old (Ok None) new = TakesLongUnary o stop x old new
 TakesUnary may o stop x old (Err error) new = RefusesUnary may o stop x old error new

@@ -36,7 +36,7 @@ pub struct TakenUnary {
     /// A byte whose first bits are those left.
     pub left: u8,
     /// The number of bits left.
-    pub waiting: u32,
+    pub queued: u32,
 }
 
 /// Takes bits up to and with the first one that is `stop`: the first `queued` bits of a byte, and
@@ -59,7 +59,7 @@ pub fn take_unary<S: Source, E: Endianness>(
         (word E.order queued (first_part E.order queue 8 queued))
         (port_state S.remaining S.reference_names port.old) result
         (port_state S.remaining S.reference_names port.new) }
-    ensures few { IfOk result (λ answer. IfSome answer (λ run. run.waiting < 8)) }
+    ensures few { IfOk result (λ answer. IfSome answer (λ run. run.queued < 8)) }
     ensures turns { OnOk result (turns.new.count
         ≡ turns.old.count + (fetched_count port.new - fetched_count port.old) + 1) }
 {
@@ -71,7 +71,7 @@ pub fn take_unary<S: Source, E: Endianness>(
         return Ok(Some(TakenUnary {
             count: first,
             left: E::rest(E::rest(queue, first), 1),
-            waiting: queued - first - 1,
+            queued: queued - first - 1,
         }));
     }
     let mut count = queued;
@@ -87,7 +87,7 @@ pub fn take_unary<S: Source, E: Endianness>(
             return Ok(Some(TakenUnary {
                 count: more,
                 left: E::rest(E::rest(byte, lead), 1),
-                waiting: 7 - lead,
+                queued: 7 - lead,
             }));
         }
         count = more;

@@ -27,11 +27,11 @@ added : (xs ys bytes : List ℕ) (old new : ℕ) → Appends (Some xs) (Some ys)
 added xs ys bytes old new grows is more = omega (arith, is, more, ap length grows, length-append xs bytes)
 
 -- all that was sent before a refusal
-sent_before : (old new queued waiting front bytes rest : ℕ) → (8 * new + waiting) % 8 ≡ 0 → waiting < 8
-    → 8 * old + queued + front < 8 * new + waiting + 8 → 8 * new + waiting ≤ 8 * old + queued + front → queued + front
+sent_before : (old new queued kept front bytes rest : ℕ) → (8 * new + kept) % 8 ≡ 0 → kept < 8
+    → 8 * old + queued + front < 8 * new + kept + 8 → 8 * new + kept ≤ 8 * old + queued + front → queued + front
     ≡ 8 * bytes + rest → rest < 8
     → new ≡ old + bytes
-sent_before old new queued waiting front bytes rest whole few least most sum small = omega arith
+sent_before old new queued kept front bytes rest whole few least most sum small = omega arith
 
 module _ {A E : Type 0} (o : Order) where
   holds_more : (a b : BitWriter (Growing A) E) (x : List Bool) → HoldsAll a → (growing_sink o).appends a x b

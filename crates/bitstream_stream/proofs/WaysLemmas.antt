@@ -5,7 +5,7 @@ use Rattle.std.specs.declared.io.ErrorKind.{ErrorKind}
 use Rattle.bitstream_number.specs.Word.{Order}
 use Rattle.bitstream_order.specs.Port.{port_state}
 use Rattle.bitstream_stream.specs.declared.reader.BitReader.{BitReader}
-use Rattle.bitstream_stream.specs.Reader.{reader_source, waiting}
+use Rattle.bitstream_stream.specs.Reader.{reader_source, queued_number}
 use Rattle.bitstream_stream.specs.Reads.{Reads, had_failed, was_done}
 use Rattle.bitstream_stream.specs.ReadTable.{align_entry}
 use Rattle.bitstream_stream.specs.Ways.{aligned_reader}
@@ -16,8 +16,8 @@ module _ {R E : Type 0} (remaining : R → Option (List ℕ)) (refuses : R → �
   aligned_by : (failed : Bool) → r.failed ≡ failed → Reads (reader_source remaining refuses reference_names o)
       align_entry r (Ok tt) (aligned_reader r)
   unfolding align_entry
-  aligned_by false fine = was_done (aligned o (port_state remaining reference_names r.port) (waiting o r) r.queued
-      r.taken.count (r.taken.count + r.queued) (waiting o (aligned_reader r)) r.failed fine r.few (r.back fine) refl)
+  aligned_by false fine = was_done (aligned o (port_state remaining reference_names r.port) (queued_number o r) r.queued
+      r.taken.count (r.taken.count + r.queued) (queued_number o (aligned_reader r)) r.failed fine r.few (r.back fine) refl)
   aligned_by true failed =
       let K = reader_source remaining refuses reference_names o in
       let held : (K.state (aligned_reader r)).queue ≡ (K.state r).queue = K.empties (aligned_reader r) failed

@@ -169,7 +169,7 @@ impl<R: Source, E: Endianness> BitReader<R, E> {
     /// Reads bytes by one request, behind the queued bits.
     fn fetch_bytes(&mut self, buf: &mut [u8]) -> Result<(), Error>
         requires fine { self.old.failed ≡ false }
-        requires waiting { 1 ≤ self.old.queued }
+        requires queued { 1 ≤ self.old.queued }
         requires some { 1 ≤ length buf.old }
         ensures reads { Reads ⟦<Self as BitRead>⟧.source (bytes_entry E.order (length buf.old))
             self.old (seen (λ _. buf.new) result) self.new }
@@ -177,10 +177,10 @@ impl<R: Source, E: Endianness> BitReader<R, E> {
         ensures queued { OnOk result (queued_bits self.new ≡ queued_bits self.old) }
         ensures requests { requests_made self.new ≡ requests_made self.old + 1 }
     {
-        let waiting = E::first(self.queue, self.queued);
+        let queue = E::first(self.queue, self.queued);
         match self.port.fetch(buf) {
             Ok(()) => {
-                let left = shift::<E>(waiting, self.queued, buf);
+                let left = shift::<E>(queue, self.queued, buf);
                 self.queue = E::to_front(left, self.queued);
                 self.taken.add_bytes(buf.len());
                 Ok(())
@@ -199,7 +199,7 @@ impl<R: Source, E: Endianness> BitReader<R, E> {
     #[inline(never)]
     fn fetch_pieces(&mut self, buf: &mut [u8], most: usize) -> Result<(), Error>
         requires fine { self.old.failed ≡ false }
-        requires waiting { 1 ≤ self.old.queued }
+        requires queued { 1 ≤ self.old.queued }
         requires some { 1 ≤ most }
         ensures reads { Reads ⟦<Self as BitRead>⟧.source (bytes_entry E.order (length buf.old))
             self.old (seen (λ _. buf.new) result) self.new }
@@ -380,7 +380,7 @@ impl<R: Source, E: Endianness> BitRead for BitReader<R, E> {
             Ok(Some(run)) => {
                 self.taken.add(run.count as u64 + 1);
                 self.queue = run.left;
-                self.queued = run.waiting;
+                self.queued = run.queued;
                 self.failed = false;
                 Ok(run.count)
             }

@@ -138,7 +138,7 @@ impl<W: Target, E: Endianness> BitWriter<W, E> {
     /// Writes bytes by one request, behind the queued bits. They are shifted in place.
     fn send_shifted(&mut self, bytes: &mut [u8]) -> Result<(), Error>
         requires sound { self.old.failed ≡ false }
-        requires waiting { 1 ≤ self.old.queued }
+        requires queued { 1 ≤ self.old.queued }
         requires some { 1 ≤ length bytes.old }
         ensures pushes { Pushes (MayRefuse W.contents W.refuses) E.order (bits E.order bytes.old)
             (writer_state W.contents W.reference_names self.old) result
@@ -160,7 +160,7 @@ impl<W: Target, E: Endianness> BitWriter<W, E> {
     #[inline(never)]
     fn send_pieces<const N: usize>(&mut self, bytes: &[u8]) -> Result<(), Error>
         requires sound { self.old.failed ≡ false }
-        requires waiting { 1 ≤ self.old.queued }
+        requires queued { 1 ≤ self.old.queued }
         requires some { 1 ≤ N }
         requires few { N ≤ 1024 }
         ensures pushes { Pushes (MayRefuse W.contents W.refuses) E.order (bits E.order bytes.now)

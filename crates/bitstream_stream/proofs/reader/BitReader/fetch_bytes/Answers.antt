@@ -21,7 +21,7 @@ returns-in-Ok-clause-reads g c =
     let left = c.shift-left.result in
     let next = c.to_front-self.result in
     let shifted : Shifts o queued queue (bits o c.fetch.new.buf) (bits o made) left =
-    subst (λ q. Shifts o queued q (bits o c.fetch.new.buf) (bits o made) left) c.first-waiting.ensures.value
+    subst (λ q. Shifts o queued q (bits o c.fetch.new.buf) (bits o made) left) c.first-queue.ensures.value
     c.shift-left.ensures.shifts in
     let held : word o queued left ≡ word o queued (first_part o next 8 queued) = sym c.to_front-self.ensures
     ∙ first_bits o next 8 queued (omega arith) in
@@ -45,5 +45,5 @@ returns-in-Err-clause-reads g c =
     stops-number o n _ _ _
     (was_refused (stopped o _ (8 * n) queued queue (8 * n) queued queue (length c.fetch.new.buf) _ _ _ _ _ _ _ _ _
     c.requires.fine (omega arith) (omega (arith, few, some)) (omega (arith, few, some)) (omega (arith, few, same))
-    (takes_none o queued queue queued _ (subst (λ q. q < 2 ^ queued) c.first-waiting.ensures.value
-    c.first-waiting.ensures.below) refl) c.in-Err.ensures.fetches))
+    (takes_none o queued queue queued _ (subst (λ q. q < 2 ^ queued) c.first-queue.ensures.value
+    c.first-queue.ensures.below) refl) c.in-Err.ensures.fetches))

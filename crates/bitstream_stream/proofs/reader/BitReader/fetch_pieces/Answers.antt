@@ -61,6 +61,6 @@ returns-clause-asks g c =
     let inv = c.loop-at.invariant.1 in
     let queued = c.args.self.now.queued in
     let all = pieces-all c.args.most queued c.loop-at.invariant.0 (length c.loop-at.buf) c.loop-at.at
-    (λ none. let waiting = c.requires.waiting in omega (arith, none, waiting)) c.loop-at-test.false inv.within
+    (λ none. let some = c.requires.queued in omega (arith, none, some)) c.loop-at-test.false inv.within
     inv.reaches in
     inv.requests ∙ ap (λ n. requests_made c.args.self.now + n) (sym all ∙ ap (pieces c.args.most queued) inv.len)

@@ -10,8 +10,8 @@ returns-then-self-clause-reads g c = unary-failed _ _ c.if-self.true
 pub invariant_of-self : goal.invariant_of-self
 invariant_of-self g c =
     let f = lead_fetched g.E.Endianness.order c.args.self.now.queued _ _ c.in-Ok-Some.run'.count
-    c.in-Ok-Some.run'.waiting _ _ _ (rw c.in-Ok-Some.field-0-is at c.in-Ok-Some.ensures.takes) in
-    let few : c.in-Ok-Some.run'.waiting < 8 = rw c.in-Ok-Some.field-0-is at c.in-Ok-Some.ensures.few in
+    c.in-Ok-Some.run'.queued _ _ _ (rw c.in-Ok-Some.field-0-is at c.in-Ok-Some.ensures.takes) in
+    let few : c.in-Ok-Some.run'.queued < 8 = rw c.in-Ok-Some.field-0-is at c.in-Ok-Some.ensures.few in
     let back = c.args.self.now.back c.if-self.false in
     let taken = c.add.ensures in
     record {

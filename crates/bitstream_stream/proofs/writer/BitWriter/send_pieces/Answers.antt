@@ -52,6 +52,6 @@ pub returns-clause-asks : goal.returns-clause-asks
 returns-clause-asks g c =
     let inv = c.loop-at.invariant.1 in
     let all = pieces-all g.row.N c.args.self.now.queued c.loop-at.invariant.0 (length c.args.bytes.now) c.loop-at.at
-    (λ none. let waiting = c.requires.waiting in omega (arith, none, waiting)) c.loop-at-test.false inv.within
+    (λ none. let some = c.requires.queued in omega (arith, none, some)) c.loop-at-test.false inv.within
     inv.reaches in
     inv.requests ∙ ap (λ n. requests_made c.args.self.now + n) (sym all)
