@@ -20,6 +20,8 @@ mod endless;
 mod errors;
 #[cfg(test)]
 mod examples;
+#[cfg(test)]
+mod faults;
 mod memory;
 #[cfg(test)]
 mod numbers;

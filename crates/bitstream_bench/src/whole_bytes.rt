@@ -1,5 +1,5 @@
-//! Whole bytes: how many requests primitives and long vectors make, lengths that the stream does not
-//! have, and memory that is refused. Long skips and pads are worked rows of `bitstream_vectors`.
+//! Whole bytes: how many requests primitives and long vectors make, and memory that is refused. Long
+//! skips and pads are worked rows of `bitstream_vectors`.
 use crate::{Count, Endless, RefuseMemory};
 use bitstream_io::{
     BE, BitRead, BitReader, BitWrite, BitWriter, ByteRead, ByteReader, Endianness, Error, LE,
@@ -92,13 +92,6 @@ fn long_bytes_go_in_pieces(rt: HostRuntime) -> Result<(), Fail> {
     Ok(())
 }
 
-/// Whether a vector of the greatest length ends with the bytes, and fails a reader of bits.
-fn fails_at_the_end<R: BitRead>(alloc: Global, reader: &mut R) -> bool {
-    let answer = reader.read_to_vec(alloc, usize::MAX);
-    let later = reader.read_to_vec(alloc, 0);
-    matches!(answer, Err(Error::EndOfInput)) && matches!(later, Err(Error::Failed))
-}
-
 /// Whether a vector of 9000 bytes comes where memory serves its three growths, and else fails a reader
 /// of bits.
 fn bits_grow<R: BitRead>(alloc: Global, served: u32, reader: &mut R) -> bool {
@@ -118,12 +111,6 @@ fn bytes_grow<R: ByteRead>(alloc: Global, served: u32, reader: &mut R) -> bool {
         Ok(bytes) => served == 3 && goes_on && bytes.as_slice().get(8999).copied() == Some(0xa5),
         Err(error) => served < 3 && goes_on && matches!(error, Error::OutOfMemory),
     }
-}
-
-#[test]
-fn false_lengths_end(rt: HostRuntime) {
-    let mut short = BitReader::<_, BE>::new([7u8; 10].as_slice());
-    assert!(rt; fails_at_the_end(rt.alloc(), &mut short));
 }
 
 #[test]
