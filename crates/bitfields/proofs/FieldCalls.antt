@@ -1,7 +1,7 @@
 -- The calls of fields, one behind the other.
-use Rattle.std.specs.Prelude.{ℤ, Bool, drop, replicate, false}
+use Rattle.std.specs.Prelude.{ℤ, Bool, ◌==◌, if◌then◌else◌, drop, replicate, false}
 use Rattle.std.specs.List.{AllByRecursion}
-use Rattle.std.proofs.Common.{◌≡◌, ℕ, ◌+◌, ◌<◌, ◌≤◌, ◌^◌, List, [], ◌∷◌, ◌++◌, length, Option, Some, None, Result, Ok, Err, refl, sym, ap, subst, ◌∙◌, arith, inl, inr, append_assoc, length-append, add-zero, lit<}
+use Rattle.std.proofs.Common.{◌≡◌, ℕ, ◌+◌, ◌<◌, ◌≤◌, ◌^◌, List, [], ◌∷◌, ◌++◌, length, Option, Some, None, Result, Ok, Err, refl, sym, ap, subst, ◌∙◌, arith, inl, inr, append_assoc, length-append, add-zero, eq-eqb, lit<}
 use Rattle.std.proofs.Math.Nat.{mod-eq_of_lt}
 use Rattle.std.proofs.Math.Seq.{drop-append_seam}
 use Rattle.std.proofs.lemmas.Bool.{cases_lt, le-leb}
@@ -25,9 +25,9 @@ use Rattle.bitstream_io.proofs.EntryLemmas.{map_takes, chain-ok, chain-none, wor
 use Rattle.bitstream_io.proofs.TableLemmas.{unsigned-takes}
 use Rattle.bitstream_io.proofs.WriteLemmas.{unsigned-fits, signed-accepts}
 use Rattle.bitfields.specs.declared.fault.Reason.{Reason}
-use Rattle.bitfields.specs.declared.fault.Reason.TheVariants.{BitsEnded}
+use Rattle.bitfields.specs.declared.fault.Reason.TheVariants.{BitsEnded, ConstantDiffers}
 use Rattle.bitfields.specs.declared.field.Field.{Field}
-use Rattle.bitfields.specs.declared.field.Field.TheVariants.{Unsigned, Signed, Unary, Variable, SignedVariable, Padding, Align}
+use Rattle.bitfields.specs.declared.field.Field.TheVariants.{Unsigned, Signed, Unary, Variable, SignedVariable, Constant, Padding, Align}
 use Rattle.bitfields.specs.declared.field.GroupSize.{GroupSize}
 use Rattle.bitfields.specs.declared.field.GroupSize.TheVariants.{Four, Eight}
 use Rattle.bitfields.specs.declared.field_value.FieldValue.{FieldValue}
@@ -133,10 +133,10 @@ trip o f vs at e make a w is writes reads first = record {
   first = first;
 }
 
-unsigned-answers : (o : Order) (n v p : ℕ) (more : List Bool) → n ≤ 128 → v < 2 ^ n
-    → (unsigned_entry o 128 n).reads p (word o n v ++ more) ≡ Takes (length (word o n v)) (Ok v)
-unsigned-answers o n v p more le h =
-    rw (unsigned-takes o 128 n le) (word_front-some n (λ w. Ok (number o w)) (word o n v) more (length-word o n v))
+unsigned-answers : (o : Order) (size n v p : ℕ) (more : List Bool) → n ≤ size → v < 2 ^ n
+    → (unsigned_entry o size n).reads p (word o n v ++ more) ≡ Takes (length (word o n v)) (Ok v)
+unsigned-answers o size n v p more le h =
+    rw (unsigned-takes o size n le) (word_front-some n (λ w. Ok (number o w)) (word o n v) more (length-word o n v))
     ∙ ap (λ (u : ℕ). Takes n (Ok u)) (number-word o n v ∙ mod-eq_of_lt h)
     ∙ ap (λ (m : ℕ). Takes m (Ok v)) (sym (length-word o n v))
 
@@ -186,7 +186,7 @@ trips o (Unsigned n) vs at i h =
     let v = first_unsigned vs in
     let p = unsigned_first n vs h in
     trip o (Unsigned n) vs at (unsigned_entry o 128 n) Value.Unsigned v (word o n v) refl
-    (unsigned-fits o 128 n v at i.1 p.0) (λ more. unsigned-answers o n v at more i.1 p.0) p.1
+    (unsigned-fits o 128 n v at i.1 p.0) (λ more. unsigned-answers o 128 n v at more i.1 p.0) p.1
 trips o (Signed n) vs at i h =
     let x = first_signed vs in
     let p = signed_first n vs h in
@@ -209,6 +209,19 @@ trips o (SignedVariable size) vs at i h =
     trip o (SignedVariable size) vs at (signed_vbr_entry o (group_bits size) 64) Value.Signed x
     (vbr_word o (group_bits size) (zig x)) refl refl
     (λ more. signed_vbr-answers o (group_bits size) x at more (two_bits size) p.0) p.1
+trips o (Constant n v) vs at i h =
+    let w = word o n v in
+    let none : Result (Option FieldValue) Reason = Ok None in
+    let same : (if v == v then none else Err ConstantDiffers) ≡ none = rw (eq-eqb v v refl) refl in
+    record {
+      word = w;
+      value = None;
+      writes = unsigned-fits o 32 n v at i.1 i.2;
+      reads = λ more. made (unsigned_entry o 32 n) (λ u. if u == v then Ok None else Err ConstantDiffers) at (length w) (w
+          ++ more) v (unsigned-answers o 32 n v at more i.1 i.2)
+          ∙ ap (λ (r : Result (Option FieldValue) Reason). Takes (length w) (Ok r)) same;
+      first = refl;
+    }
 trips o (Padding n) vs at i h =
     let w = replicate n false in
     record {
@@ -310,6 +323,7 @@ field_word-written o (Signed n) vs at i h = signed-accepts o 128 n (first_signed
 field_word-written o (Unary stop) vs at i h = refl
 field_word-written o (Variable size) vs at i h = refl
 field_word-written o (SignedVariable size) vs at i h = refl
+field_word-written o (Constant n v) vs at i h = unsigned-fits o 32 n v at i.1 i.2
 field_word-written o (Padding n) vs at i h = refl
 field_word-written o Align vs at i h = refl
 

@@ -22,11 +22,11 @@ use std::alloc::{AllocError, Global};
 ///
 /// # Errors
 ///
-/// `BitsEnded` at the first field whose bits are not all there, `LimitPassed` at the first whose
-/// number passes its limit, `StreamFault` or `OutOfMemory` at
-/// the field for which the stream refused a request, `OutOfMemory` at the field for whose line
-/// memory was refused. If each refusal of the stream is a true end, as of a `Slice`, the bits alone
-/// decide the answer, memory aside.
+/// `BitsEnded` at the first field whose bits are not all there, `ConstantDiffers` at the first
+/// constant whose bits hold another number, `LimitPassed` at the first whose number passes its
+/// limit, `StreamFault` or `OutOfMemory` at the field for which the stream refused a request,
+/// `OutOfMemory` at the field for whose line memory was refused. If each refusal of the stream is a
+/// true end, as of a `Slice`, the bits alone decide the answer, memory aside.
 pub fn unpack<E: Endianness, R: Source>(
     alloc: Global,
     layout: &Layout,
@@ -72,6 +72,11 @@ pub fn unpack_from<R: BitRead>(
 }
 
 /// Reads a field: its value, if it has one.
+///
+/// # Errors
+///
+/// `ConstantDiffers` if the bits of a constant hold another number, whose bits are taken then. Else
+/// the reason for the reader's error.
 fn unpack_field<R: BitRead>(field: Field, reader: &mut R) -> Result<Option<FieldValue>, Reason>
     ensures { ReadsField R.source field reader.old result reader.new }
 {
@@ -95,6 +100,14 @@ fn unpack_field<R: BitRead>(field: Field, reader: &mut R) -> Result<Option<Field
         Field::SignedVariable(size) => {
             let value = read_signed_groups(size, reader)?;
             Ok(Some(FieldValue::Signed(widened(value))))
+        }
+        Field::Constant { bits, value } => {
+            let held: u32 = reader.read_unsigned_var(bits)?;
+            if held == value {
+                Ok(None)
+            } else {
+                Err(Reason::ConstantDiffers)
+            }
         }
         Field::Padding(bits) => {
             reader.skip(bits)?;

@@ -1,5 +1,7 @@
 use borrow.Author.Rules.{sfits_of}
-use Rattle.std.proofs.Common.{rules, ◌≡◌, ◌∙◌, SFits, to_z, of_z, Result, Ok, Err, Some, None, refl}
+use Rattle.std.proofs.Common.{rules, ℕ, ◌≡◌, ◌≢◌, ◌∙◌, SFits, to_z, of_z, Option, Result, Ok, Err, Some, None, refl, subst, eq-eqb}
+use Rattle.std.specs.Prelude.{◌==◌, if◌then◌else◌}
+use Rattle.std.proofs.lemmas.Bool.{ne_eqb}
 use Rattle.std.specs.Int.{w64, w128}
 use Rattle.std.specs.Result.{IsErrAnd}
 use Rattle.std.proofs.lemmas.Int.{to_z-of_z}
@@ -9,6 +11,8 @@ use Rattle.bitstream_io.specs.Own.{ReadsOwn}
 use Rattle.bitstream_io.specs.Reads.{BitSource, Reads}
 use Rattle.bitstream_io.proofs.ReadsLemmas.{Reads-chain-ok, Reads-chain-err, Reads-gives}
 use Rattle.bitfields.specs.declared.fault.Reason.{Reason}
+use Rattle.bitfields.specs.declared.fault.Reason.TheVariants.{ConstantDiffers}
+use Rattle.bitfields.specs.declared.field_value.FieldValue.{FieldValue}
 use Rattle.bitfields.specs.declared.field_value.FieldValue.TheVariants as Value
 use Rattle.bitfields.specs.Unpacking.{IsReadReason}
 use Rattle.bitfields.proofs.unpacking.unpack_field.Goals as goal
@@ -25,6 +29,27 @@ module _ {R A B : Type 0} {K : BitSource R} {e : ReadEntry A} (f : A → Result 
   stops : {x : Error} {r : Result B Reason} → IsErrAnd r (IsReadReason x) → Reads K e s (Err x) t
       → ReadsOwn K IsReadReason (chain e (λ v. gives (f v))) s r t
   stops {x = x} is h = record { plain = Err x; called = Reads-chain-err e (λ v. gives (f v)) h; answer = is }
+
+-- what a constant answers of a number
+constant_of : ℕ → ℕ → Result (Option FieldValue) Reason
+constant_of v u = if u == v then Ok None else Err ConstantDiffers
+
+module _ {R : Type 0} {K : BitSource R} {e : ReadEntry ℕ} {s t : R} (v u : ℕ) where
+  holds : u ≡ v → Reads K e s (Ok u) t
+      → ReadsOwn K IsReadReason (chain e (λ u. gives (constant_of v u))) s (Ok None) t
+  unfolding constant_of
+  holds is h =
+      let same : constant_of v u ≡ Ok None = rw (eq-eqb u v is) refl in
+      subst (λ r. ReadsOwn K IsReadReason (chain e (λ u. gives (constant_of v u))) s r t) same
+      (answers (constant_of v) h)
+
+  differs : u ≢ v → Reads K e s (Ok u) t
+      → ReadsOwn K IsReadReason (chain e (λ u. gives (constant_of v u))) s (Err ConstantDiffers) t
+  unfolding constant_of
+  differs other h =
+      let same : constant_of v u ≡ Err ConstantDiffers = rw (ne_eqb u v other) refl in
+      subst (λ r. ReadsOwn K IsReadReason (chain e (λ u. gives (constant_of v u))) s r t) same
+      (answers (constant_of v) h)
 
 pub returns-in_err-value-in-Unsigned : goal.returns-in_err-value-in-Unsigned
 returns-in_err-value-in-Unsigned g c =
@@ -74,6 +99,24 @@ returns-in_ok-value-in-SignedVariable g c =
     let same : to_z w128 (of_z w128 c.widened.result) ≡ value = to_z-of_z w128 c.widened.result wide ∙ c.widened.ensures
     ∙ to_z-of_z w64 value fits in
     rw (c.in-SignedVariable.is, same) (answers (λ v. Ok (Some (Value.Signed v))) c.in_ok-value-in-SignedVariable.ensures)
+
+pub returns-in_err-held-in-Constant : goal.returns-in_err-held-in-Constant
+unfolding constant_of
+returns-in_err-held-in-Constant g c =
+    rw c.in-Constant.is (stops (constant_of c.in-Constant.value) c.from_residual-in_err-held-in-Constant.ensures.1
+    c.in_err-held-in-Constant.ensures.reads)
+
+pub returns-then-held-value : goal.returns-then-held-value
+unfolding constant_of
+returns-then-held-value g c =
+    rw c.in-Constant.is (holds c.in-Constant.value c.in_ok-held-in-Constant.held c.if-held-value.true
+    c.in_ok-held-in-Constant.ensures.reads)
+
+pub returns-else-held-value : goal.returns-else-held-value
+unfolding constant_of
+returns-else-held-value g c =
+    rw c.in-Constant.is (differs c.in-Constant.value c.in_ok-held-in-Constant.held c.if-held-value.false
+    c.in_ok-held-in-Constant.ensures.reads)
 
 pub returns-in_err-skip-in-Padding : goal.returns-in_err-skip-in-Padding
 returns-in_err-skip-in-Padding g c =
