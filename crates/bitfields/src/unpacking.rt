@@ -48,8 +48,8 @@ pub fn unpack<E: Endianness, R: Source>(
 ///
 /// # Errors
 ///
-/// At the first field whose call answers an error, or for whose line memory is refused. No call is
-/// made after it.
+/// At the first field whose call answers an error, at the first constant whose bits hold another
+/// number, or at the first field for whose line memory is refused. No call is made after it.
 pub fn unpack_from<R: BitRead>(
     alloc: Global,
     fields: &[Field],
