@@ -1,11 +1,11 @@
 -- The calls of fields, one behind the other.
-use Rattle.std.specs.Prelude.{ℤ, Bool, drop, replicate, false}
+use Rattle.std.specs.Prelude.{ℤ, Bool, ◌==◌, ◌≢◌, if◌then◌else◌, take, drop, replicate, false}
 use Rattle.std.specs.List.{AllByRecursion}
-use Rattle.std.proofs.Common.{◌≡◌, ℕ, ◌+◌, ◌<◌, ◌≤◌, ◌^◌, List, [], ◌∷◌, ◌++◌, length, Option, Some, None, Result, Ok, Err, refl, sym, ap, subst, ◌∙◌, arith, inl, inr, append_assoc, length-append, add-zero, lit<}
+use Rattle.std.proofs.Common.{◌≡◌, ℕ, ◌+◌, ◌<◌, ◌≤◌, ◌^◌, List, [], ◌∷◌, ◌++◌, length, Option, Some, None, Result, Ok, Err, refl, sym, ap, subst, ◌∙◌, arith, inl, inr, append_assoc, length-append, add-zero, eq-eqb, lit<}
 use Rattle.std.proofs.Math.Nat.{mod-eq_of_lt}
-use Rattle.std.proofs.Math.Seq.{drop-append_seam}
-use Rattle.std.proofs.lemmas.Bool.{cases_lt, le-leb}
-use Rattle.std.proofs.lemmas.List.{length-replicate}
+use Rattle.std.proofs.Math.Seq.{drop-append_seam, take-append_seam}
+use Rattle.std.proofs.lemmas.Bool.{cases_lt, le-leb, ne_eqb}
+use Rattle.std.proofs.lemmas.List.{length-replicate, length-drop}
 use Rattle.bitstream_io.proofs.UnaryLemmas.{read_unary-unary}
 use Rattle.bitstream_io.proofs.VbrLemmas.{read_vbr-IsAccepted, vbr_word_accepted, zig-lt}
 use Rattle.bitstream_io.specs.Unary.{unary}
@@ -24,48 +24,64 @@ use Rattle.bitstream_io.specs.WriteTable.{align}
 use Rattle.bitstream_io.proofs.EntryLemmas.{map_takes, chain-ok, chain-none, word_front-some, word_front-none}
 use Rattle.bitstream_io.proofs.TableLemmas.{unsigned-takes}
 use Rattle.bitstream_io.proofs.WriteLemmas.{unsigned-fits, signed-accepts}
-use Rattle.bitfields.specs.declared.fault.Reason.TheVariants.{BitsEnded}
+use Rattle.bitfields.specs.declared.fault.Reason.{Reason}
+use Rattle.bitfields.specs.declared.fault.Reason.TheVariants.{BitsEnded, ConstantDiffers}
 use Rattle.bitfields.specs.declared.field.Field.{Field}
-use Rattle.bitfields.specs.declared.field.Field.TheVariants.{Unsigned, Signed, Unary, Variable, SignedVariable, Padding, Align}
+use Rattle.bitfields.specs.declared.field.Field.TheVariants.{Unsigned, Signed, Unary, Variable, SignedVariable, Constant, Padding, Align}
 use Rattle.bitfields.specs.declared.field.GroupSize.{GroupSize}
 use Rattle.bitfields.specs.declared.field.GroupSize.TheVariants.{Four, Eight}
 use Rattle.bitfields.specs.declared.field_value.FieldValue.{FieldValue}
 use Rattle.bitfields.specs.declared.field_value.FieldValue.TheVariants as Value
+use Rattle.bitfields.specs.declared.field_value.ValueKind.{ValueKind}
 use Rattle.bitfields.specs.declared.field_value.ValueKind.TheVariants as Kind
 use Rattle.bitfields.specs.Fault.{fault}
 use Rattle.bitfields.specs.Layout.{IsField, group_bits}
 use Rattle.bitfields.specs.Packing.{field_word, field_write, field_writes, packed}
 use Rattle.bitfields.specs.Unpacking.{Unpacked, Unpacks, Stops, field_read, read_reason, unpacked, values_and}
-use Rattle.bitfields.specs.Value.{value_count, value_list, first_unsigned, first_signed, Fit, FitsField, FitsKind}
+use Rattle.bitfields.specs.Value.{kind_count, value_count, value_kind, value_list, first_unsigned, first_signed, Fit, FitsField, FitsKind}
 
 -- ---- a field's read call
 
 pub unsigned-reads : (o : Order) (n p : ℕ) (b : List Bool) → n ≤ 128 → (field_read o (Unsigned n)).reads p b
-    ≡ word_front n (λ w. Ok (Some (Value.Unsigned (number o w)))) b
+    ≡ word_front n (λ w. Ok (Ok (Some (Value.Unsigned (number o w))))) b
 unsigned-reads o n p b i =
-    rw (unsigned-takes o 128 n i) ((map_takes n (number o) (λ v. Some (Value.Unsigned v))
-    (λ w. Ok (Some (Value.Unsigned (number o w)))) (λ w len. refl)).reads p b)
+    rw (unsigned-takes o 128 n i) ((map_takes n (number o) (λ v. Ok (Some (Value.Unsigned v)))
+    (λ w. Ok (Ok (Some (Value.Unsigned (number o w))))) (λ w len. refl)).reads p b)
 
 pub align-reads : (o : Order) (p : ℕ) (b : List Bool) → (field_read o Align).reads p b
-    ≡ word_front (to_boundary p) (λ _. Ok None) b
+    ≡ word_front (to_boundary p) (λ _. Ok (Ok None)) b
 unfolding align_entry
 align-reads o p b = elim (cases_lt (length b) (to_boundary p)) [
-  | inl few ↦ chain-none align_entry (λ _. gives None) p b (word_front-none (to_boundary p) (λ _. Ok tt) b few)
-      ∙ sym (word_front-none (to_boundary p) (λ _. Ok None) b few)
+  | inl few ↦ chain-none align_entry (λ _. gives (Ok None)) p b (word_front-none (to_boundary p) (λ _. Ok tt) b few)
+      ∙ sym (word_front-none (to_boundary p) (λ _. Ok (Ok None)) b few)
   | inr enough ↦
       let yes = le-leb (to_boundary p) (length b) enough in
       let first : align_entry.reads p b ≡ Takes (to_boundary p) (Ok tt) = rw yes refl in
-      let same : Takes (to_boundary p + 0) (Ok None) ≡ word_front (to_boundary p) (λ _. Ok None) b =
+      let same : Takes (to_boundary p + 0) (Ok (Ok None)) ≡ word_front (to_boundary p) (λ _. Ok (Ok None)) b =
       rw (yes, add-zero) refl in
-      chain-ok align_entry (λ _. gives None) p b (to_boundary p) tt first ∙ same
+      chain-ok align_entry (λ _. gives (Ok None)) p b (to_boundary p) tt first ∙ same
 ]
+
+-- what a constant answers of its word
+abbrev constant_of : Order → ℕ → List Bool → Result (Result (Option FieldValue) Reason) Error
+constant_of o v w = Ok (if number o w == v then Ok None else Err ConstantDiffers)
+
+constant-reads : (o : Order) (n v p : ℕ) (b : List Bool) → n ≤ 32 → (field_read o (Constant n v)).reads p b
+    ≡ word_front n (constant_of o v) b
+constant-reads o n v p b i =
+    rw (unsigned-takes o 32 n i) ((map_takes n (number o) (λ u. if u == v then Ok None else Err ConstantDiffers)
+    (constant_of o v) (λ w len. refl)).reads p b)
 
 -- ---- the first field of some, by its read call
 
 pub unpacked-takes : (o : Order) (k : ℕ) (f : Field) (fs : List Field) (at n : ℕ) (b : List Bool)
-    (v : Option FieldValue) → (field_read o f).reads at b ≡ Takes n (Ok v)
+    (v : Option FieldValue) → (field_read o f).reads at b ≡ Takes n (Ok (Ok v))
     → unpacked o k (f ∷ fs) at b ≡ values_and (value_list v) (unpacked o (k + 1) fs (at + n) (drop n b))
 unpacked-takes o k f fs at n b v e = rw e refl
+
+pub unpacked-told : (o : Order) (k : ℕ) (f : Field) (fs : List Field) (at n : ℕ) (b : List Bool) (why : Reason)
+    → (field_read o f).reads at b ≡ Takes n (Ok (Err why)) → unpacked o k (f ∷ fs) at b ≡ Stops (fault k why)
+unpacked-told o k f fs at n b why e = rw e refl
 
 pub unpacked-refused : (o : Order) (k : ℕ) (f : Field) (fs : List Field) (at n : ℕ) (b : List Bool) (x : Error)
     → (field_read o f).reads at b ≡ Takes n (Err x)
@@ -79,7 +95,7 @@ unpacked-short o k f fs at b e = rw e refl
 
 -- a word that the first field takes, and what follows it
 pub unpacked-first : (o : Order) (k : ℕ) (f : Field) (fs : List Field) (at : ℕ) (w rest : List Bool)
-    (v : Option FieldValue) → (field_read o f).reads at (w ++ rest) ≡ Takes (length w) (Ok v)
+    (v : Option FieldValue) → (field_read o f).reads at (w ++ rest) ≡ Takes (length w) (Ok (Ok v))
     → unpacked o k (f ∷ fs) at (w ++ rest) ≡ values_and (value_list v) (unpacked o (k + 1) fs (at + length w) rest)
 unpacked-first o k f fs at w rest v e =
     unpacked-takes o k f fs at (length w) (w ++ rest) v e
@@ -93,7 +109,7 @@ pub record Trips (o : Order) (f : Field) (vs : List FieldValue) (at : ℕ) : Typ
   pub word : List Bool
   pub value : Option FieldValue
   pub writes : field_write o f vs at ≡ Ok word
-  pub reads : (more : List Bool) → (field_read o f).reads at (word ++ more) ≡ Takes (length word) (Ok value)
+  pub reads : (more : List Bool) → (field_read o f).reads at (word ++ more) ≡ Takes (length word) (Ok (Ok value))
   pub first : vs ≡ value_list value ++ drop (value_count f) vs
 
 -- the number that stands first fits, and stands first
@@ -117,21 +133,21 @@ made e f p n b a h = chain-ok e (λ v. gives (f v)) p b n a h ∙ ap (λ (m : �
 -- the word of a field's call, which is read as the field's value
 trip : {A : Type 0} (o : Order) (f : Field) (vs : List FieldValue) (at : ℕ) (e : ReadEntry A) (make : A
     → FieldValue) (a : A) (w : List Bool)
-    → field_read o f ≡ chain e (λ v. gives (Some (make v))) → field_write o f vs at ≡ Ok w
+    → field_read o f ≡ chain e (λ v. gives (Ok (Some (make v)))) → field_write o f vs at ≡ Ok w
     → ((more : List Bool) → e.reads at (w ++ more) ≡ Takes (length w) (Ok a))
     → vs ≡ make a ∷ drop (value_count f) vs → Trips o f vs at
 trip o f vs at e make a w is writes reads first = record {
   word = w;
   value = Some (make a);
   writes = writes;
-  reads = λ more. rw is (made e (λ v. Some (make v)) at (length w) (w ++ more) a (reads more));
+  reads = λ more. rw is (made e (λ v. Ok (Some (make v))) at (length w) (w ++ more) a (reads more));
   first = first;
 }
 
-unsigned-answers : (o : Order) (n v p : ℕ) (more : List Bool) → n ≤ 128 → v < 2 ^ n
-    → (unsigned_entry o 128 n).reads p (word o n v ++ more) ≡ Takes (length (word o n v)) (Ok v)
-unsigned-answers o n v p more le h =
-    rw (unsigned-takes o 128 n le) (word_front-some n (λ w. Ok (number o w)) (word o n v) more (length-word o n v))
+unsigned-answers : (o : Order) (size n v p : ℕ) (more : List Bool) → n ≤ size → v < 2 ^ n
+    → (unsigned_entry o size n).reads p (word o n v ++ more) ≡ Takes (length (word o n v)) (Ok v)
+unsigned-answers o size n v p more le h =
+    rw (unsigned-takes o size n le) (word_front-some n (λ w. Ok (number o w)) (word o n v) more (length-word o n v))
     ∙ ap (λ (u : ℕ). Takes n (Ok u)) (number-word o n v ∙ mod-eq_of_lt h)
     ∙ ap (λ (m : ℕ). Takes m (Ok v)) (sym (length-word o n v))
 
@@ -181,7 +197,7 @@ trips o (Unsigned n) vs at i h =
     let v = first_unsigned vs in
     let p = unsigned_first n vs h in
     trip o (Unsigned n) vs at (unsigned_entry o 128 n) Value.Unsigned v (word o n v) refl
-    (unsigned-fits o 128 n v at i.1 p.0) (λ more. unsigned-answers o n v at more i.1 p.0) p.1
+    (unsigned-fits o 128 n v at i.1 p.0) (λ more. unsigned-answers o 128 n v at more i.1 p.0) p.1
 trips o (Signed n) vs at i h =
     let x = first_signed vs in
     let p = signed_first n vs h in
@@ -204,13 +220,26 @@ trips o (SignedVariable size) vs at i h =
     trip o (SignedVariable size) vs at (signed_vbr_entry o (group_bits size) 64) Value.Signed x
     (vbr_word o (group_bits size) (zig x)) refl refl
     (λ more. signed_vbr-answers o (group_bits size) x at more (two_bits size) p.0) p.1
+trips o (Constant n v) vs at i h =
+    let w = word o n v in
+    let none : Result (Option FieldValue) Reason = Ok None in
+    let same : (if v == v then none else Err ConstantDiffers) ≡ none = rw (eq-eqb v v refl) refl in
+    record {
+      word = w;
+      value = None;
+      writes = unsigned-fits o 32 n v at i.1 i.2;
+      reads = λ more. made (unsigned_entry o 32 n) (λ u. if u == v then Ok None else Err ConstantDiffers) at (length w) (w
+          ++ more) v (unsigned-answers o 32 n v at more i.1 i.2)
+          ∙ ap (λ (r : Result (Option FieldValue) Reason). Takes (length w) (Ok r)) same;
+      first = refl;
+    }
 trips o (Padding n) vs at i h =
     let w = replicate n false in
     record {
       word = w;
       value = None;
       writes = refl;
-      reads = λ more. made (skip_entry n) (λ _. None) at (length w) (w ++ more) tt (skip-answers n at more);
+      reads = λ more. made (skip_entry n) (λ _. Ok None) at (length w) (w ++ more) tt (skip-answers n at more);
       first = refl;
     }
 trips o Align vs at i h =
@@ -220,8 +249,8 @@ trips o Align vs at i h =
       word = w;
       value = None;
       writes = refl;
-      reads = λ more. align-reads o at (w ++ more) ∙ word_front-some (to_boundary at) (λ _. Ok None) w more (sym size)
-          ∙ ap (λ (m : ℕ). Takes m (Ok None)) size;
+      reads = λ more. align-reads o at (w ++ more) ∙ word_front-some (to_boundary at) (λ _. Ok (Ok None)) w more
+          (sym size) ∙ ap (λ (m : ℕ). Takes m (Ok (Ok None))) size;
       first = refl;
     }
 
@@ -305,6 +334,7 @@ field_word-written o (Signed n) vs at i h = signed-accepts o 128 n (first_signed
 field_word-written o (Unary stop) vs at i h = refl
 field_word-written o (Variable size) vs at i h = refl
 field_word-written o (SignedVariable size) vs at i h = refl
+field_word-written o (Constant n v) vs at i h = unsigned-fits o 32 n v at i.1 i.2
 field_word-written o (Padding n) vs at i h = refl
 field_word-written o Align vs at i h = refl
 
@@ -332,12 +362,12 @@ packed-align o fields vs at =
 
 -- the first field takes n bits, where they are there
 first_word : (o : Order) (k : ℕ) (f : Field) (fs : List Field) (at n : ℕ) (w rest : List Bool) (g : List Bool
-    → Result (Option FieldValue) Error) (v : Option FieldValue)
-    → ((b : List Bool) → (field_read o f).reads at b ≡ word_front n g b) → g w ≡ Ok v → length w ≡ n
+    → Result (Result (Option FieldValue) Reason) Error) (v : Option FieldValue)
+    → ((b : List Bool) → (field_read o f).reads at b ≡ word_front n g b) → g w ≡ Ok (Ok v) → length w ≡ n
     → unpacked o k (f ∷ fs) at (w ++ rest) ≡ values_and (value_list v) (unpacked o (k + 1) fs (at + n) rest)
 first_word o k f fs at n w rest g v reads is size =
     unpacked-first o k f fs at w rest v (reads (w ++ rest) ∙ word_front-some n g w rest size ∙ ap (Takes n) is
-    ∙ ap (λ (m : ℕ). Takes m (Ok v)) (sym size))
+    ∙ ap (λ (m : ℕ). Takes m (Ok (Ok v))) (sym size))
     ∙ ap (λ (m : ℕ). values_and (value_list v) (unpacked o (k + 1) fs (at + m) rest)) size
 
 pub values_and-nil : (r : Unpacked) → values_and [] r ≡ r
@@ -348,22 +378,83 @@ pub unpacked-number : (o : Order) (k n : ℕ) (fields : List Field) (at : ℕ) (
     → unpacked o k (Unsigned n ∷ fields) at (w ++ rest)
     ≡ values_and (Value.Unsigned (number o w) ∷ []) (unpacked o (k + 1) fields (at + n) rest)
 unpacked-number o k n fields at w rest i size =
-    first_word o k (Unsigned n) fields at n w rest (λ w. Ok (Some (Value.Unsigned (number o w))))
+    first_word o k (Unsigned n) fields at n w rest (λ w. Ok (Ok (Some (Value.Unsigned (number o w)))))
     (Some (Value.Unsigned (number o w))) (λ b. unsigned-reads o n at b i) refl size
 
 pub unpacked-align : (o : Order) (k : ℕ) (fields : List Field) (at : ℕ) (w rest : List Bool) → length w ≡ to_boundary at
     → unpacked o k (Align ∷ fields) at (w ++ rest) ≡ unpacked o (k + 1) fields (at + to_boundary at) rest
 unpacked-align o k fields at w rest size =
-    first_word o k Align fields at (to_boundary at) w rest (λ _. Ok None) None (align-reads o at) refl size
+    first_word o k Align fields at (to_boundary at) w rest (λ _. Ok (Ok None)) None (align-reads o at) refl size
     ∙ values_and-nil (unpacked o (k + 1) fields (at + to_boundary at) rest)
 
 pub unpacked-few : (o : Order) (k n : ℕ) (fields : List Field) (at : ℕ) (b : List Bool) → n ≤ 128 → length b < n
     → unpacked o k (Unsigned n ∷ fields) at b ≡ Stops (fault k BitsEnded)
 unpacked-few o k n fields at b i few =
     unpacked-short o k (Unsigned n) fields at b (unsigned-reads o n at b i
-    ∙ word_front-none n (λ w. Ok (Some (Value.Unsigned (number o w)))) b few)
+    ∙ word_front-none n (λ w. Ok (Ok (Some (Value.Unsigned (number o w))))) b few)
 
 pub unpacked-few_to_align : (o : Order) (k : ℕ) (fields : List Field) (at : ℕ) (b : List Bool)
     → length b < to_boundary at → unpacked o k (Align ∷ fields) at b ≡ Stops (fault k BitsEnded)
 unpacked-few_to_align o k fields at b few = unpacked-short o k Align fields at b (align-reads o at b
-    ∙ word_front-none (to_boundary at) (λ _. Ok None) b few)
+    ∙ word_front-none (to_boundary at) (λ _. Ok (Ok None)) b few)
+
+pub unpacked-constant : (o : Order) (k n v : ℕ) (fields : List Field) (at : ℕ) (w rest : List Bool) → n ≤ 32
+    → length w ≡ n → number o w ≡ v
+    → unpacked o k (Constant n v ∷ fields) at (w ++ rest) ≡ unpacked o (k + 1) fields (at + n) rest
+unpacked-constant o k n v fields at w rest i size is =
+    let same : constant_of o v w ≡ Ok (Ok None) = rw (eq-eqb (number o w) v is) refl in
+    first_word o k (Constant n v) fields at n w rest (constant_of o v) None (λ b. constant-reads o n v at b i) same size
+    ∙ values_and-nil (unpacked o (k + 1) fields (at + n) rest)
+
+pub unpacked-differs : (o : Order) (k n v : ℕ) (fields : List Field) (at : ℕ) (w rest : List Bool) → n ≤ 32
+    → length w ≡ n → number o w ≢ v
+    → unpacked o k (Constant n v ∷ fields) at (w ++ rest) ≡ Stops (fault k ConstantDiffers)
+unpacked-differs o k n v fields at w rest i size other =
+    let same : constant_of o v w ≡ Ok (Err ConstantDiffers) = rw (ne_eqb (number o w) v other) refl in
+    unpacked-told o k (Constant n v) fields at n (w ++ rest) ConstantDiffers
+    (constant-reads o n v at (w ++ rest) i ∙ word_front-some n (constant_of o v) w rest size ∙ ap (Takes n) same)
+
+pub unpacked-few_for_constant : (o : Order) (k n v : ℕ) (fields : List Field) (at : ℕ) (b : List Bool) → n ≤ 32
+    → length b < n → unpacked o k (Constant n v ∷ fields) at b ≡ Stops (fault k BitsEnded)
+unpacked-few_for_constant o k n v fields at b i few =
+    unpacked-short o k (Constant n v) fields at b (constant-reads o n v at b i
+    ∙ word_front-none n (constant_of o v) b few)
+
+-- values that fit are not fewer than the field has
+fits-count : (kind : ValueKind) (vs : List FieldValue) → FitsKind kind vs → kind_count kind ≤ length vs
+fits-count Kind.Absent vs h = omega arith
+fits-count (Kind.Unsigned n) [] h = absurd h
+fits-count (Kind.Unsigned n) (v ∷ vs) h = omega arith
+fits-count (Kind.Signed n) [] h = absurd h
+fits-count (Kind.Signed n) (v ∷ vs) h = omega arith
+
+-- the values of the first field are the first values
+first_values : (f : Field) (vs : List FieldValue) (v : Option FieldValue) → FitsField f vs
+    → vs ≡ value_list v ++ drop (value_count f) vs → value_list v ≡ take (value_count f) vs
+first_values f vs v fit first =
+    let n = value_count f in
+    let others = drop n vs in
+    let some = fits-count (value_kind f) vs fit in
+    let size : length (value_list v) ≡ n = omega (
+      arith,
+      some,
+      ap length first,
+      length-append (value_list v) others,
+      length-drop n vs,
+    )
+    in
+    sym (take-append_seam (value_list v) others) ∙ ap (λ (m : ℕ). take m (value_list v ++ others)) size
+    ∙ ap (λ (us : List FieldValue). take n us) (sym first)
+
+pub unpacked-word : (o : Order) (k : ℕ) (f : Field) (fields : List Field) (vs : List FieldValue) (at : ℕ)
+    (rest : List Bool) → IsField f → FitsField f vs
+    → unpacked o k (f ∷ fields) at (field_word o f vs at ++ rest)
+    ≡ values_and (take (value_count f) vs) (unpacked o (k + 1) fields (at + length (field_word o f vs at)) rest)
+unpacked-word o k f fields vs at rest i h =
+    let t = trips o f vs at i h in
+    let same : field_word o f vs at ≡ t.word = (let a = field_word-written o f vs at i h in let b = t.writes in cc) in
+    subst (λ (w : List Bool). unpacked o k (f ∷ fields) at (w ++ rest)
+    ≡ values_and (take (value_count f) vs) (unpacked o (k + 1) fields (at + length w) rest)) (sym same)
+    (unpacked-first o k f fields at t.word rest t.value (t.reads rest)
+    ∙ ap (λ (us : List FieldValue). values_and us (unpacked o (k + 1) fields (at + length t.word) rest))
+    (first_values f vs t.value h t.first))

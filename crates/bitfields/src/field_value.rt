@@ -58,7 +58,7 @@ pub fn value_kind(field: Field) -> ValueKind
         Field::Unary(_) => ValueKind::Unsigned(32),
         Field::Variable(_) => ValueKind::Unsigned(64),
         Field::SignedVariable(_) => ValueKind::Signed(64),
-        Field::Padding(_) | Field::Align => ValueKind::Absent,
+        Field::Constant { .. } | Field::Padding(_) | Field::Align => ValueKind::Absent,
     }
 }
 

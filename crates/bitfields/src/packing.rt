@@ -98,6 +98,7 @@ fn append_field<W: BitWrite>(
         Field::SignedVariable(size) => {
             append_signed_groups(size, first_signed(64, values), writer)
         }
+        Field::Constant { bits, value } => writer.write_unsigned_var(bits, value),
         Field::Padding(bits) => writer.pad(bits),
         Field::Align => writer.byte_align(),
     }

@@ -6,7 +6,7 @@ ghost use Rattle.bitstream_io.specs.Refusal.{MayRefuse, TrueEnds};
 ghost use Rattle.bitstream_io.specs.ReadTable.{unary_entry, vbr_entry, signed_vbr_entry};
 ghost use Rattle.bitstream_io.specs.Reads.{Reads};
 ghost use Rattle.bitfields.specs.Layout.{group_bits};
-ghost use Rattle.bitfields.specs.Unpacking.{field_read, read_reason as read_reason_of, IsSaid, ReadsLines, UnpacksBytes};
+ghost use Rattle.bitfields.specs.Unpacking.{read_reason as read_reason_of, IsSaid, ReadsField, ReadsLines, UnpacksBytes};
 ghost use Rattle.bitfields.specs.Value.{value_list, printed_lines};
 
 use crate::fault::{Fault, Reason};
@@ -22,11 +22,11 @@ use std::alloc::{AllocError, Global};
 ///
 /// # Errors
 ///
-/// `BitsEnded` at the first field whose bits are not all there, `LimitPassed` at the first whose
-/// number passes its limit, `StreamFault` or `OutOfMemory` at
-/// the field for which the stream refused a request, `OutOfMemory` at the field for whose line
-/// memory was refused. If each refusal of the stream is a true end, as of a `Slice`, the bits alone
-/// decide the answer, memory aside.
+/// `BitsEnded` at the first field whose bits are not all there, `ConstantDiffers` at the first
+/// constant whose bits hold another number, `LimitPassed` at the first whose number passes its
+/// limit, `StreamFault` or `OutOfMemory` at the field for which the stream refused a request,
+/// `OutOfMemory` at the field for whose line memory was refused. If each refusal of the stream is a
+/// true end, as of a `Slice`, the bits alone decide the answer, memory aside.
 pub fn unpack<E: Endianness, R: Source>(
     alloc: Global,
     layout: &Layout,
@@ -48,8 +48,8 @@ pub fn unpack<E: Endianness, R: Source>(
 ///
 /// # Errors
 ///
-/// At the first field whose call answers an error, or for whose line memory is refused. No call is
-/// made after it.
+/// At the first field whose call answers an error, at the first constant whose bits hold another
+/// number, or at the first field for whose line memory is refused. No call is made after it.
 pub fn unpack_from<R: BitRead>(
     alloc: Global,
     fields: &[Field],
@@ -65,15 +65,20 @@ pub fn unpack_from<R: BitRead>(
                     return Err(Fault::new(index + 1, Reason::OutOfMemory));
                 }
             }
-            Err(error) => return Err(Fault::new(index + 1, read_reason(error))),
+            Err(reason) => return Err(Fault::new(index + 1, reason)),
         }
     }
     Ok(lines)
 }
 
 /// Reads a field: its value, if it has one.
-fn unpack_field<R: BitRead>(field: Field, reader: &mut R) -> Result<Option<FieldValue>, Error>
-    ensures { Reads R.source (field_read R.source.order field) reader.old result reader.new }
+///
+/// # Errors
+///
+/// `ConstantDiffers` if the bits of a constant hold another number, whose bits are taken then. Else
+/// the reason for the reader's error.
+fn unpack_field<R: BitRead>(field: Field, reader: &mut R) -> Result<Option<FieldValue>, Reason>
+    ensures { ReadsField R.source field reader.old result reader.new }
 {
     match field {
         Field::Unsigned(width) => {
@@ -95,6 +100,14 @@ fn unpack_field<R: BitRead>(field: Field, reader: &mut R) -> Result<Option<Field
         Field::SignedVariable(size) => {
             let value = read_signed_groups(size, reader)?;
             Ok(Some(FieldValue::Signed(widened(value))))
+        }
+        Field::Constant { bits, value } => {
+            let held: u32 = reader.read_unsigned_var(bits)?;
+            if held == value {
+                Ok(None)
+            } else {
+                Err(Reason::ConstantDiffers)
+            }
         }
         Field::Padding(bits) => {
             reader.skip(bits)?;
@@ -155,6 +168,17 @@ fn read_reason(error: Error) -> Reason
         Error::OutOfMemory => Reason::OutOfMemory,
         Error::RunTooLong | Error::VariableWidthOverflow => Reason::LimitPassed,
         _ => Reason::StreamFault,
+    }
+}
+
+/// The reason for an error of a reader.
+impl From<Error> for Reason {
+    ghost use Rattle.bitfields.specs.Unpacking.{IsReadReason};
+
+    ghost from_gives = { IsReadReason };
+
+    fn from(error: Error) -> Reason {
+        read_reason(error)
     }
 }
 
