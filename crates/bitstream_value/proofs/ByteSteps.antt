@@ -181,17 +181,19 @@ module _ {R A B E : Type 0} {K : ByteSource R} {becomes : Error → E → Type 0
 module _ {R B E : Type 0} {K : ByteSource R} {becomes : Error → E → Type 0} (o : Order) (n : ℕ) (f : ℕ
     → ByteReadEntry (Result B E)) {r : Result B E} {s t : R} {answer : Result ℕ Error} {flow : ControlFlow _ ℕ} where
   pub then_number : {z : R} {v : ℕ} → ByteReads K (given_bytes n) s (seen (bytes_in o n) answer) t
-      → answer ≡ result_from_control_flow flow → flow ≡ Continue v → v < 2 ^ (8 * n) → ByteReadsOwn K becomes (f v) t r z
-      → ByteReadsOwn K becomes (byte_chain (number_bytes o n) f) s r z
+      → answer ≡ result_from_control_flow flow → flow ≡ Continue v → v < 2 ^ (8 * n)
+      → ByteReadsOwn K becomes (f v) t r z → ByteReadsOwn K becomes (byte_chain (number_bytes o n) f) s r z
   then_number h p q fits k =
-      let read = subst (λ y. ByteReads K (given_bytes n) s (seen (bytes_in o n) y) t) (p ∙ ap result_from_control_flow q) h in
+      let read = subst (λ y. ByteReads K (given_bytes n) s (seen (bytes_in o n) y) t)
+      (p ∙ ap result_from_control_flow q) h in
       own_goes f (number_read o n read fits) k
 
   pub end_number : {x : _} → ByteReads K (given_bytes n) s (seen (bytes_in o n) answer) t
       → answer ≡ result_from_control_flow flow → flow ≡ Break x → IsErrAnd r (becomes x.0)
       → ByteReadsOwn K becomes (byte_chain (number_bytes o n) f) s r t
   end_number h p q k =
-      let read = subst (λ y. ByteReads K (given_bytes n) s (seen (bytes_in o n) y) t) (p ∙ ap result_from_control_flow q) h in
+      let read = subst (λ y. ByteReads K (given_bytes n) s (seen (bytes_in o n) y) t)
+      (p ∙ ap result_from_control_flow q) h in
       own_stops f (number_stops o n read) k
 
 -- the answer behind all reads: a value, or an error of the type's own
