@@ -1,11 +1,16 @@
 -- The STREAMINFO block of a FLAC file.
-use Rattle.std.specs.Prelude.{ℕ, Bool, List, take, drop}
-use Rattle.bitstream_io.specs.Entry.{ReadEntry, gives}
+use Rattle.std.specs.Int.NonZero.{non_zero_u8_get}
+use Rattle.std.specs.Prelude.{ℕ, Bool, List, [], ◌∷◌, ◌++◌, take, drop}
+use Rattle.bitstream_io.specs.Entry.{ReadEntry, WriteEntry, gives}
+use Rattle.bitstream_io.specs.NonZero.{non_zero}
 use Rattle.bitstream_io.specs.NonZeroTypes.{non_zero_u8, non_zero_u8_entry}
-use Rattle.bitstream_io.specs.ReadTable.{unsigned_entry}
+use Rattle.bitstream_io.specs.Parts.{value_bytes}
+use Rattle.bitstream_io.specs.ReadTable.{bytes_entry, unsigned_entry}
 use Rattle.bitstream_io.specs.Steps.{◌>>=◌}
-use Rattle.bitstream_io.specs.Word.{Order, High, number}
+use Rattle.bitstream_io.specs.Word.{Order, High, Low, bytes, number}
+use Rattle.bitstream_io.specs.WriteTable.{buffer, unsigned}
 use Rattle.bitstream_callers.specs.declared.stream_info.StreamInfo.{StreamInfo}
+use Rattle.bitstream_callers.specs.declared.stream_info.StreamInfoBlock.{StreamInfoBlock}
 
 -- the reads of a block, in order
 abbrev pub stream_info_entry : Order → ReadEntry StreamInfo
@@ -45,3 +50,31 @@ stream_info bits = record {
   bits_per_sample = non_zero_u8 (number_at 103 5 bits);
   total_samples = number_at 108 36 bits;
 }
+
+-- the two bytes of a number, in the order of bytes
+abbrev pub two_bytes : Order → ℕ → WriteEntry
+two_bytes o v = buffer o (value_bytes o (λ x. bytes High 2 x) (λ x. bytes Low 2 x) v)
+
+-- the writes of the fields, in order
+abbrev pub stream_info_writes : Order → StreamInfo → List WriteEntry
+stream_info_writes o info =
+    two_bytes o info.minimum_block_size
+    ∷ two_bytes o info.maximum_block_size
+    ∷ unsigned o 32 24 info.minimum_frame_size
+    ∷ unsigned o 32 24 info.maximum_frame_size
+    ∷ unsigned o 32 20 info.sample_rate
+    ∷ non_zero o 8 3 (non_zero_u8_get info.channels)
+    ∷ non_zero o 8 5 (non_zero_u8_get info.bits_per_sample)
+    ∷ unsigned o 64 36 info.total_samples
+    ∷ []
+
+-- the reads of a whole block: the fields, and 16 bytes behind them
+abbrev pub block_entry : Order → ReadEntry StreamInfoBlock
+block_entry o = do
+  info ← stream_info_entry o
+  md5 ← bytes_entry o 16
+  gives (record { info = info; md5 = md5 })
+
+-- the writes of a whole block
+abbrev pub block_writes : Order → StreamInfoBlock → List WriteEntry
+block_writes o block = stream_info_writes o block.info ++ buffer o block.md5 ∷ []

@@ -1,11 +1,15 @@
-//! The STREAMINFO block of a FLAC file.
+//! The STREAMINFO block of a FLAC file, as types that say how they are read and written.
 ghost use Rattle.std.specs.Prelude.{◌≡◌, ◌<◌, ◌≤◌, length, Err, Ok};
 ghost use Rattle.bitstream_io.specs.Error.TheVariants.{EndOfInput};
+ghost use Rattle.bitstream_io.specs.Own.{plain_reads, same_error};
 ghost use Rattle.bitstream_io.specs.Reads.{Reads};
 ghost use Rattle.bitstream_io.specs.Word.{High, bits};
-ghost use Rattle.bitstream_callers.specs.StreamInfo.{stream_info, stream_info_entry};
+ghost use Rattle.bitstream_callers.specs.StreamInfo.{stream_info, stream_info_entry, stream_info_writes, block_entry, block_writes};
 
-use bitstream_io::{BE, BitRead, BitReadExt, BitReader, Bits, Error, Slice};
+use bitstream_io::{
+    BE, BitRead, BitReadExt, BitReader, BitWrite, BitWriteExt, Bits, Error, FromBitStream, Slice,
+    ToBitStream,
+};
 use std::num::NonZero;
 
 /// What a FLAC file says of its samples, without the checksum.
@@ -71,5 +75,73 @@ impl StreamInfo {
         ensures short { length block.now < 18 → result ≡ Err EndOfInput }
     {
         StreamInfo::read(&mut BitReader::<_, BE>::new(Slice::new(block)))
+    }
+}
+
+impl FromBitStream for StreamInfo {
+    type Error = Error;
+
+    ghost becomes = { same_error };
+
+    ghost reads = { λ o. plain_reads (stream_info_entry o) };
+
+    fn from_reader<R: BitRead>(reader: &mut R) -> Result<StreamInfo, Error> {
+        StreamInfo::read(reader)
+    }
+}
+
+impl ToBitStream for StreamInfo {
+    type Error = Error;
+
+    ghost becomes = { same_error };
+
+    ghost writes = { stream_info_writes };
+
+    fn to_writer<W: BitWrite>(&self, writer: &mut W) -> Result<(), Error> {
+        writer.write_from(self.minimum_block_size)?;
+        writer.write_from(self.maximum_block_size)?;
+        writer.write::<Bits<24>, u32>(self.minimum_frame_size)?;
+        writer.write::<Bits<24>, u32>(self.maximum_frame_size)?;
+        writer.write::<Bits<20>, u32>(self.sample_rate)?;
+        writer.write::<Bits<3>, NonZero<u8>>(self.channels)?;
+        writer.write::<Bits<5>, NonZero<u8>>(self.bits_per_sample)?;
+        writer.write::<Bits<36>, u64>(self.total_samples)
+    }
+}
+
+/// A whole STREAMINFO block, of 34 bytes.
+#[derive(Clone, Copy, Debug, PartialEq)]
+pub struct StreamInfoBlock {
+    /// What the file says of its samples.
+    pub info: StreamInfo,
+    /// The MD5 checksum of the samples, or zeros if it is not known.
+    pub md5: [u8; 16],
+}
+
+impl FromBitStream for StreamInfoBlock {
+    type Error = Error;
+
+    ghost becomes = { same_error };
+
+    ghost reads = { λ o. plain_reads (block_entry o) };
+
+    fn from_reader<R: BitRead>(reader: &mut R) -> Result<StreamInfoBlock, Error> {
+        Ok(StreamInfoBlock {
+            info: reader.parse()?,
+            md5: reader.read_to_bytes::<[u8; 16]>()?,
+        })
+    }
+}
+
+impl ToBitStream for StreamInfoBlock {
+    type Error = Error;
+
+    ghost becomes = { same_error };
+
+    ghost writes = { block_writes };
+
+    fn to_writer<W: BitWrite>(&self, writer: &mut W) -> Result<(), Error> {
+        writer.build(&self.info)?;
+        writer.write_bytes(&self.md5)
     }
 }

@@ -45,6 +45,7 @@ pub use Rattle.bitstream_sink.specs.Counter
 pub use Rattle.bitstream_sink.specs.Counting
 pub use Rattle.bitstream_sink.specs.GrowingWriter
 pub use Rattle.bitstream_sink.specs.Recorder
+pub use Rattle.bitstream_value.specs.ByteSteps
 pub use Rattle.bitstream_value.specs.ByteTypes
 pub use Rattle.bitstream_value.specs.Checked
 pub use Rattle.bitstream_value.specs.HuffmanTree

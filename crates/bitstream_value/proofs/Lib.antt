@@ -15,3 +15,5 @@ pub mod OwnLemmas
 pub mod LengthLemmas
 pub mod ByteTypeLemmas
 pub mod OwnSteps
+pub mod ByteSteps
+pub mod LengthSteps

@@ -8,4 +8,5 @@ pub mod Tree
 pub mod Boolean
 pub mod Lengths
 pub mod Own
+pub mod ByteSteps
 pub mod ByteTypes

@@ -1,0 +1,225 @@
+-- Reads of whole bytes one after another, in a function with errors of its own, as the proof of a user's type goes
+-- through them: `search few_byte_reads`, where a function makes up to four calls.
+use Rattle.std.proofs.Common.{Continue, Break, ◌≡◌, ℕ, ◌+◌, ◌*◌, ◌^◌, ◌<◌, ◌⊎◌, inl, inr, Bool, true, false, List, [], ◌∷◌, ◌++◌, length, Result, Ok, Err, refl, sym, ap, ◌∙◌, subst, append_assoc, length-append, arith}
+use Rattle.std.proofs.KnownBytes.{Consumes-trans}
+use Rattle.std.proofs.Math.Nat.{mod-eq_of_lt}
+use Rattle.std.proofs.Math.Seq.{drop-append_seam}
+use Rattle.std.specs.Prelude.{if◌then◌else◌}
+use Rattle.std.specs.Result.{IsErrAnd, result_from_control_flow}
+use Rattle.std.specs.declared.ops.ControlFlow.{ControlFlow}
+use Rattle.bitstream_count.specs.declared.error.Error.{Error}
+use Rattle.bitstream_count.specs.Entry.{Front, TooFew, Takes, longer}
+use Rattle.bitstream_number.specs.Word.{Order, High, Low, bits, bytes, number}
+use Rattle.bitstream_number.proofs.WordLemmas.{bits-bytes, number-word}
+use Rattle.bitstream_order.specs.Gather.{seen}
+use Rattle.bitstream_order.specs.Parts.{value_bytes}
+use Rattle.bitstream_stream.specs.ByteReads.{ByteSource, ByteReadEntry, BytesTaken, ByteReads, was_done, was_refused, memory_refused, given_bytes}
+use Rattle.bitstream_stream.proofs.ByteReadsLemmas.{bytes_none, bytes_more, bytes_taken, bytes_took}
+use Rattle.bitstream_stream.proofs.ReadsLemmas.{Consumes-known}
+use Rattle.bitstream_value.specs.ByteSteps.{number_bytes}
+use Rattle.bitstream_value.specs.ByteTypes.{byte_chain, byte_gives, ByteReadsOwn}
+
+-- ---- fronts of two reads
+
+module _ {A B : Type 0} (e : ByteReadEntry A) (f : A → ByteReadEntry B) where
+  chain-ok : (u v : List ℕ) (a : A) (x : Front B) → e (u ++ v) ≡ Takes (length u) (Ok a) → f a v ≡ x
+      → byte_chain e f (u ++ v) ≡ longer (length u) x
+  unfolding byte_chain
+  chain-ok u v a x first second = rw first (ap (longer (length u)) (ap (f a) (drop-append_seam u v) ∙ second))
+
+  chain-err : (w : List ℕ) (n : ℕ) (x : Error) → e w ≡ Takes n (Err x) → byte_chain e f w ≡ Takes n (Err x)
+  unfolding byte_chain
+  chain-err w n x h = rw h refl
+
+  chain-none : (w : List ℕ) → e w ≡ TooFew → byte_chain e f w ≡ TooFew
+  unfolding byte_chain
+  chain-none w h = rw h refl
+
+-- a beginning of two lists is one of the first, or the first and a beginning of the second
+cut : (u v front : List ℕ) (b : ℕ) (back : List ℕ) → u ++ v ≡ front ++ b ∷ back
+    → ((more : List ℕ) × (u ≡ front ++ b ∷ more)) ⊎ ((more : List ℕ) × (front ≡ u ++ more) × (v ≡ more ++ b ∷ back))
+cut [] v front b back e = inr (front, refl, e)
+cut (c ∷ u) v [] b back e = let head : c ≡ b = cc in inl (u, ap (λ d. d ∷ u) head)
+cut (c ∷ u) v (d ∷ front) b back e =
+    let head : c ≡ d = cc in
+    let tail : u ++ v ≡ front ++ b ∷ back = cc in
+    elim (cut u v front b back tail) [
+      | inl p ↦ inl (p.0, ap (λ x. x ∷ u) head ∙ ap (λ l. d ∷ l) p.1)
+      | inr p ↦ inr (p.0, ap (λ x. x ∷ front) (sym head) ∙ ap (λ l. c ∷ l) p.1, p.2)
+    ]
+
+none_needed : (front : List ℕ) (b : ℕ) (back : List ℕ) → [] ≡ front ++ b ∷ back → ⊥
+none_needed [] b back e = cc
+none_needed (c ∷ front) b back e = cc
+
+-- ---- reads one after another
+
+both_taken : {R : Type 0} (K : ByteSource R) (x y : List ℕ) (s t u : R) → BytesTaken (K.state s) x (K.state t)
+    → BytesTaken (K.state t) y (K.state u) → BytesTaken (K.state s) (x ++ y) (K.state u)
+both_taken K x y s t u h k =
+    let first = bytes_taken {K = K} {grows = false} (length x) x s t refl h in
+    let second = bytes_taken {K = K} {grows = false} (length y) y t u refl k in
+    (bytes_took (length x + length y) (x ++ y) s u (bytes_more (length x) (length y) x y s t u first second)).0
+
+module _ {R A B : Type 0} {K : ByteSource R} (e : ByteReadEntry A) (f : A → ByteReadEntry B) where
+  pub chain_reads : {a : A} {r : Result B Error} {s t z : R} → ByteReads K e s (Ok a) t → ByteReads K (f a) t r z
+      → ByteReads K (byte_chain e f) s r z
+  chain_reads {a = a} {r = r} {s = s} {t = t} {z = z} (was_done h) (was_done k) =
+      let u = h.bytes in
+      let v = k.bytes in
+      was_done (record {
+        bytes = u ++ v;
+        decides = λ more. rw (append_assoc u v more, length-append u v)
+            (chain-ok e f u (v ++ more) a (Takes (length v) r) (h.decides (v ++ more)) (k.decides more));
+        needs = λ front b back is. elim (cut u v front b back is) [
+          | inl p ↦ chain-none e f front (h.needs front b p.0 p.1)
+          | inr p ↦ subst (λ w. byte_chain e f w ≡ TooFew) (sym p.1)
+              (chain-ok e f u p.0 a TooFew (h.decides p.0) (k.needs p.0 b back p.2))
+        ];
+        took = both_taken K u v s t z h.took k.took;
+      })
+  chain_reads {a = a} {s = s} {t = t} (was_done h) (was_refused k) =
+      let u = h.bytes in
+      let took = h.took in
+      was_refused (record {
+        refusal = k.refusal;
+        allowed = k.allowed;
+        answer = k.answer;
+        gone = u ++ k.gone;
+        loses = Consumes-trans (K.state s).bytes (K.state t).bytes k.refusal.before u k.gone took.loses k.loses;
+        after = k.after;
+        taken = omega (arith, took.taken, k.taken, length-append u k.gone);
+        few = chain-ok e f u k.gone a TooFew (h.decides k.gone) k.few;
+        ended = λ end xs known.
+            let left = Consumes-known (K.state s).bytes (K.state t).bytes u xs took.loses known in
+            subst (λ w. byte_chain e f w ≡ TooFew) (sym left.2)
+            (chain-ok e f u left.0 a TooFew (h.decides left.0) (k.ended end left.0 left.1));
+        refusals = k.refusals ∙ ap (λ l. k.refusal ∷ l) took.refusals;
+        reference_names = k.reference_names ∙ took.reference_names;
+      })
+  chain_reads (was_done h) (memory_refused g k) = cc
+  chain_reads (was_refused h) k = let p = h.answer in cc
+  chain_reads (memory_refused g h) k = cc
+
+  pub chain_stops : {x : Error} {s t : R} → ByteReads K e s (Err x) t → ByteReads K (byte_chain e f) s (Err x) t
+  chain_stops {x = x} (was_done h) = was_done (record {
+    bytes = h.bytes;
+    decides = λ more. chain-err e f (h.bytes ++ more) (length h.bytes) x (h.decides more);
+    needs = λ front b back is. chain-none e f front (h.needs front b back is);
+    took = h.took;
+  })
+  chain_stops {x = x} (was_refused h) = was_refused (record {
+    refusal = h.refusal;
+    allowed = h.allowed;
+    answer = let p = h.answer in cc;
+    gone = h.gone;
+    loses = h.loses;
+    after = h.after;
+    taken = h.taken;
+    few = chain-none e f h.gone h.few;
+    ended = λ end xs known. chain-none e f xs (h.ended end xs known);
+    refusals = h.refusals;
+    reference_names = h.reference_names;
+  })
+  chain_stops (memory_refused g h) = cc
+
+-- no read at all
+pub nothing_read : {R A : Type 0} {K : ByteSource R} (a : A) (s : R) → ByteReads K (byte_gives a) s (Ok a) s
+nothing_read {K = K} a s = was_done (record {
+  bytes = [];
+  decides = λ more. refl;
+  needs = λ front b back is. absurd (none_needed front b back is);
+  took = (bytes_took 0 [] s s (bytes_none {K = K} {grows = false} s)).0;
+})
+
+-- ---- numbers
+
+-- the n bytes of a number in an order, as `read` answers it
+abbrev bytes_in : Order → ℕ → ℕ → List ℕ
+bytes_in o n = value_bytes o (λ (x : ℕ). bytes High n x) (λ (x : ℕ). bytes Low n x)
+
+-- they have it as their number
+number-bytes : (o : Order) (n v : ℕ) → v < 2 ^ (8 * n) → number o (bits o (bytes_in o n v)) ≡ v
+number-bytes High n v fits = ap (number High) (bits-bytes High n v) ∙ number-word High (8 * n) v ∙ mod-eq_of_lt fits
+number-bytes Low n v fits = ap (number Low) (bits-bytes Low n v) ∙ number-word Low (8 * n) v ∙ mod-eq_of_lt fits
+
+module _ {R : Type 0} {K : ByteSource R} (o : Order) (n : ℕ) {s t : R} where
+  pub number_read : {v : ℕ} → ByteReads K (given_bytes n) s (Ok (bytes_in o n v)) t → v < 2 ^ (8 * n)
+      → ByteReads K (number_bytes o n) s (Ok v) t
+  unfolding number_bytes
+  number_read {v = v} h fits =
+      subst (λ x. ByteReads K (number_bytes o n) s (Ok x) t) (number-bytes o n v fits)
+      (chain_reads (given_bytes n) _ h (nothing_read _ t))
+
+  pub number_stops : {x : Error} → ByteReads K (given_bytes n) s (Err x) t → ByteReads K (number_bytes o n) s (Err x) t
+  unfolding number_bytes
+  number_stops h = chain_stops (given_bytes n) _ h
+
+-- ---- reads of a function with errors of its own
+
+module _ {R A B E : Type 0} {K : ByteSource R} {becomes : Error → E → Type 0} {e : ByteReadEntry A} (f : A
+    → ByteReadEntry (Result B E)) {r : Result B E} {s t : R} where
+  own_goes : {z : R} {a : A} → ByteReads K e s (Ok a) t → ByteReadsOwn K becomes (f a) t r z
+      → ByteReadsOwn K becomes (byte_chain e f) s r z
+  own_goes h k = record { plain = k.plain; called = chain_reads e f h k.called; answer = k.answer }
+
+  own_stops : {x : Error} → ByteReads K e s (Err x) t → IsErrAnd r (becomes x)
+      → ByteReadsOwn K becomes (byte_chain e f) s r t
+  own_stops {x = x} h k = record { plain = Err x; called = chain_stops e f h; answer = k }
+
+  -- a read whose answer a `?` looked at, and what follows it, or the end
+  module _ {answer : Result A Error} {flow : ControlFlow _ A} where
+    pub then_bytes : {z : R} {a : A} → ByteReads K e s answer t → answer ≡ result_from_control_flow flow → flow
+        ≡ Continue a → ByteReadsOwn K becomes (f a) t r z → ByteReadsOwn K becomes (byte_chain e f) s r z
+    then_bytes h p q k = own_goes (subst (λ y. ByteReads K e s y t) (p ∙ ap result_from_control_flow q) h) k
+
+    pub end_bytes : {x : _} → ByteReads K e s answer t → answer ≡ result_from_control_flow flow → flow ≡ Break x
+        → IsErrAnd r (becomes x.0) → ByteReadsOwn K becomes (byte_chain e f) s r t
+    end_bytes h p q k = own_stops (subst (λ y. ByteReads K e s y t) (p ∙ ap result_from_control_flow q) h) k
+
+-- a read of a number
+module _ {R B E : Type 0} {K : ByteSource R} {becomes : Error → E → Type 0} (o : Order) (n : ℕ) (f : ℕ
+    → ByteReadEntry (Result B E)) {r : Result B E} {s t : R} {answer : Result ℕ Error} {flow : ControlFlow _ ℕ} where
+  pub then_number : {z : R} {v : ℕ} → ByteReads K (given_bytes n) s (seen (bytes_in o n) answer) t
+      → answer ≡ result_from_control_flow flow → flow ≡ Continue v → v < 2 ^ (8 * n)
+      → ByteReadsOwn K becomes (f v) t r z → ByteReadsOwn K becomes (byte_chain (number_bytes o n) f) s r z
+  then_number h p q fits k =
+      let read = subst (λ y. ByteReads K (given_bytes n) s (seen (bytes_in o n) y) t)
+      (p ∙ ap result_from_control_flow q) h in
+      own_goes f (number_read o n read fits) k
+
+  pub end_number : {x : _} → ByteReads K (given_bytes n) s (seen (bytes_in o n) answer) t
+      → answer ≡ result_from_control_flow flow → flow ≡ Break x → IsErrAnd r (becomes x.0)
+      → ByteReadsOwn K becomes (byte_chain (number_bytes o n) f) s r t
+  end_number h p q k =
+      let read = subst (λ y. ByteReads K (given_bytes n) s (seen (bytes_in o n) y) t)
+      (p ∙ ap result_from_control_flow q) h in
+      own_stops f (number_stops o n read) k
+
+-- the answer behind all reads: a value, or an error of the type's own
+pub bytes_end : {R A E : Type 0} {K : ByteSource R} {becomes : Error → E → Type 0} (r : Result A E) (s : R)
+    → ByteReadsOwn K becomes (byte_gives r) s r s
+bytes_end r s = record { plain = Ok r; called = nothing_read r s; answer = refl }
+
+-- what is read if a condition holds, and if not
+module _ {R A E : Type 0} {K : ByteSource R} {becomes : Error → E → Type 0} (x y : ByteReadEntry (Result A E))
+    {r : Result A E} {s t : R} where
+  pub if_bytes : (b : Bool) → b ≡ true → ByteReadsOwn K becomes x s r t
+      → ByteReadsOwn K becomes (if b then x else y) s r t
+  if_bytes true is h = h
+  if_bytes false is h = cc
+
+  pub else_bytes : (b : Bool) → b ≡ false → ByteReadsOwn K becomes y s r t
+      → ByteReadsOwn K becomes (if b then x else y) s r t
+  else_bytes true is h = cc
+  else_bytes false is h = h
+
+pub ruleset few_byte_reads = (
+  then_number,
+  end_number,
+  then_bytes,
+  end_bytes,
+  bytes_end,
+  if_bytes,
+  else_bytes,
+)
