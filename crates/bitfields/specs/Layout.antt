@@ -5,7 +5,7 @@ use Rattle.std.specs.Fmt.{decimal}
 use Rattle.bitfields.specs.declared.fault.Reason.TheVariants.{TooManyFields, BadLayout, OutOfMemory}
 use Rattle.bitfields.specs.declared.fault.Fault.{Fault}
 use Rattle.bitfields.specs.declared.field.Field.{Field}
-use Rattle.bitfields.specs.declared.field.Field.TheVariants.{Unsigned, Signed, Unary, Variable, SignedVariable, Padding, Align}
+use Rattle.bitfields.specs.declared.field.Field.TheVariants.{Unsigned, Signed, Unary, Variable, SignedVariable, Bytes, Padding, Align}
 use Rattle.bitfields.specs.declared.field.GroupSize.{GroupSize}
 use Rattle.bitfields.specs.declared.field.GroupSize.TheVariants.{Four, Eight}
 use Rattle.bitstream_io.specs.Word.{digit_value}
@@ -21,7 +21,7 @@ group_size_of (Some n) = if n == 4 then Some Four else if n == 8 then Some Eight
 abbrev pub group_size : List ℕ → Option GroupSize
 group_size text = group_size_of (decimal_within 4 8 text)
 
--- the field of a letter (u, i, n, v, s, p, a) and of what follows it
+-- the field of a letter (u, i, n, v, s, b, p, a) and of what follows it
 abbrev pub field_after : ℕ → List ℕ → Option Field
 field_after letter rest =
     if letter == 117 then option_map Unsigned (decimal_within 1 128 rest)
@@ -29,6 +29,7 @@ field_after letter rest =
     else if letter == 110 then option_map (λ stop. Unary (stop == 1)) (decimal_within 0 1 rest)
     else if letter == 118 then option_map Variable (group_size rest)
     else if letter == 115 then option_map SignedVariable (group_size rest)
+    else if letter == 98 then option_map Bytes (decimal_within 1 65536 rest)
     else if letter == 112 then option_map Padding (decimal_within 1 4096 rest)
     else if (letter == 97 && (length rest == 0)) then Some Align
     else None
@@ -70,6 +71,7 @@ IsUnlessMemory expected result = (result ≡ Err (fault 0 OutOfMemory)) ⊎ (res
 abbrev pub IsField : Field → Type 0
 IsField (Unsigned n) = (1 ≤ n) × (n ≤ 128)
 IsField (Signed n) = (1 ≤ n) × (n ≤ 128)
+IsField (Bytes n) = (1 ≤ n) × (n ≤ 65536)
 IsField (Padding n) = (1 ≤ n) × (n ≤ 4096)
 IsField field = Unit {0}
 
@@ -91,6 +93,7 @@ field_text (Signed n) = 105 ∷ decimal n
 field_text (Unary stop) = 110 ∷ decimal (digit_value stop)
 field_text (Variable size) = 118 ∷ decimal (group_bits size)
 field_text (SignedVariable size) = 115 ∷ decimal (group_bits size)
+field_text (Bytes n) = 98 ∷ decimal n
 field_text (Padding n) = 112 ∷ decimal n
 field_text Align = 97 ∷ []
 

@@ -18,6 +18,8 @@ pub enum Field {
     Variable(GroupSize),
     /// `s4` and `s8`: a signed number of variable width.
     SignedVariable(GroupSize),
+    /// `bN`: N bytes.
+    Bytes(u32),
     /// `pN`: N zeros. Any N bits are read for it.
     Padding(u32),
     /// `a`: zeros up to the next byte boundary.
@@ -44,6 +46,7 @@ pub fn parse_field(segment: &[u8]) -> Option<Field>
         b'n' => decimal_between(0, 1, rest).map(|stop| Field::Unary(stop == 1)),
         b'v' => group_size(rest).map(Field::Variable),
         b's' => group_size(rest).map(Field::SignedVariable),
+        b'b' => decimal_between(1, 65536, rest).map(Field::Bytes),
         b'p' => decimal_between(1, 4096, rest).map(Field::Padding),
         b'a' if rest.is_empty() => Some(Field::Align),
         _ => None,
