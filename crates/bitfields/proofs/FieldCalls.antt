@@ -25,6 +25,7 @@ use Rattle.bitstream_io.specs.WriteTable.{align}
 use Rattle.bitstream_io.proofs.EntryLemmas.{map_takes, chain-ok, chain-none, word_front-some, word_front-none}
 use Rattle.bitstream_io.proofs.TableLemmas.{unsigned-takes}
 use Rattle.bitstream_io.proofs.WriteLemmas.{unsigned-fits, signed-accepts}
+use Rattle.bitfields.specs.declared.fault.Reason.{Reason}
 use Rattle.bitfields.specs.declared.fault.Reason.TheVariants.{BitsEnded}
 use Rattle.bitfields.specs.declared.field.Field.{Field}
 use Rattle.bitfields.specs.declared.field.Field.TheVariants.{Unsigned, Signed, Unary, Variable, SignedVariable, Bytes, Padding, Align}
@@ -42,31 +43,35 @@ use Rattle.bitfields.specs.Value.{value_count, value_list, first_unsigned, first
 -- ---- a field's read call
 
 pub unsigned-reads : (o : Order) (n p : ℕ) (b : List Bool) → n ≤ 128 → (field_read o (Unsigned n)).reads p b
-    ≡ word_front n (λ w. Ok (Some (Value.Unsigned (number o w)))) b
+    ≡ word_front n (λ w. Ok (Ok (Some (Value.Unsigned (number o w))))) b
 unsigned-reads o n p b i =
-    rw (unsigned-takes o 128 n i) ((map_takes n (number o) (λ v. Some (Value.Unsigned v))
-    (λ w. Ok (Some (Value.Unsigned (number o w)))) (λ w len. refl)).reads p b)
+    rw (unsigned-takes o 128 n i) ((map_takes n (number o) (λ v. Ok (Some (Value.Unsigned v)))
+    (λ w. Ok (Ok (Some (Value.Unsigned (number o w))))) (λ w len. refl)).reads p b)
 
 pub align-reads : (o : Order) (p : ℕ) (b : List Bool) → (field_read o Align).reads p b
-    ≡ word_front (to_boundary p) (λ _. Ok None) b
+    ≡ word_front (to_boundary p) (λ _. Ok (Ok None)) b
 unfolding align_entry
 align-reads o p b = elim (cases_lt (length b) (to_boundary p)) [
-  | inl few ↦ chain-none align_entry (λ _. gives None) p b (word_front-none (to_boundary p) (λ _. Ok tt) b few)
-      ∙ sym (word_front-none (to_boundary p) (λ _. Ok None) b few)
+  | inl few ↦ chain-none align_entry (λ _. gives (Ok None)) p b (word_front-none (to_boundary p) (λ _. Ok tt) b few)
+      ∙ sym (word_front-none (to_boundary p) (λ _. Ok (Ok None)) b few)
   | inr enough ↦
       let yes = le-leb (to_boundary p) (length b) enough in
       let first : align_entry.reads p b ≡ Takes (to_boundary p) (Ok tt) = rw yes refl in
-      let same : Takes (to_boundary p + 0) (Ok None) ≡ word_front (to_boundary p) (λ _. Ok None) b =
+      let same : Takes (to_boundary p + 0) (Ok (Ok None)) ≡ word_front (to_boundary p) (λ _. Ok (Ok None)) b =
       rw (yes, add-zero) refl in
-      chain-ok align_entry (λ _. gives None) p b (to_boundary p) tt first ∙ same
+      chain-ok align_entry (λ _. gives (Ok None)) p b (to_boundary p) tt first ∙ same
 ]
 
 -- ---- the first field of some, by its read call
 
 pub unpacked-takes : (o : Order) (k : ℕ) (f : Field) (fs : List Field) (at n : ℕ) (b : List Bool)
-    (v : Option FieldValue) → (field_read o f).reads at b ≡ Takes n (Ok v)
+    (v : Option FieldValue) → (field_read o f).reads at b ≡ Takes n (Ok (Ok v))
     → unpacked o k (f ∷ fs) at b ≡ values_and (value_list v) (unpacked o (k + 1) fs (at + n) (drop n b))
 unpacked-takes o k f fs at n b v e = rw e refl
+
+pub unpacked-told : (o : Order) (k : ℕ) (f : Field) (fs : List Field) (at n : ℕ) (b : List Bool) (why : Reason)
+    → (field_read o f).reads at b ≡ Takes n (Ok (Err why)) → unpacked o k (f ∷ fs) at b ≡ Stops (fault k why)
+unpacked-told o k f fs at n b why e = rw e refl
 
 pub unpacked-refused : (o : Order) (k : ℕ) (f : Field) (fs : List Field) (at n : ℕ) (b : List Bool) (x : Error)
     → (field_read o f).reads at b ≡ Takes n (Err x)
@@ -80,7 +85,7 @@ unpacked-short o k f fs at b e = rw e refl
 
 -- a word that the first field takes, and what follows it
 pub unpacked-first : (o : Order) (k : ℕ) (f : Field) (fs : List Field) (at : ℕ) (w rest : List Bool)
-    (v : Option FieldValue) → (field_read o f).reads at (w ++ rest) ≡ Takes (length w) (Ok v)
+    (v : Option FieldValue) → (field_read o f).reads at (w ++ rest) ≡ Takes (length w) (Ok (Ok v))
     → unpacked o k (f ∷ fs) at (w ++ rest) ≡ values_and (value_list v) (unpacked o (k + 1) fs (at + length w) rest)
 unpacked-first o k f fs at w rest v e =
     unpacked-takes o k f fs at (length w) (w ++ rest) v e
@@ -94,7 +99,7 @@ pub record Trips (o : Order) (f : Field) (vs : List FieldValue) (at : ℕ) : Typ
   pub word : List Bool
   pub value : Option FieldValue
   pub writes : field_write o f vs at ≡ Ok word
-  pub reads : (more : List Bool) → (field_read o f).reads at (word ++ more) ≡ Takes (length word) (Ok value)
+  pub reads : (more : List Bool) → (field_read o f).reads at (word ++ more) ≡ Takes (length word) (Ok (Ok value))
   pub first : vs ≡ value_list value ++ drop (value_count f) vs
 
 -- the number that stands first fits, and stands first
@@ -127,14 +132,14 @@ made e f p n b a h = chain-ok e (λ v. gives (f v)) p b n a h ∙ ap (λ (m : �
 -- the word of a field's call, which is read as the field's value
 trip : {A : Type 0} (o : Order) (f : Field) (vs : List FieldValue) (at : ℕ) (e : ReadEntry A) (make : A
     → FieldValue) (a : A) (w : List Bool)
-    → field_read o f ≡ chain e (λ v. gives (Some (make v))) → field_write o f vs at ≡ Ok w
+    → field_read o f ≡ chain e (λ v. gives (Ok (Some (make v)))) → field_write o f vs at ≡ Ok w
     → ((more : List Bool) → e.reads at (w ++ more) ≡ Takes (length w) (Ok a))
     → vs ≡ make a ∷ drop (value_count f) vs → Trips o f vs at
 trip o f vs at e make a w is writes reads first = record {
   word = w;
   value = Some (make a);
   writes = writes;
-  reads = λ more. rw is (made e (λ v. Some (make v)) at (length w) (w ++ more) a (reads more));
+  reads = λ more. rw is (made e (λ v. Ok (Some (make v))) at (length w) (w ++ more) a (reads more));
   first = first;
 }
 
@@ -233,7 +238,7 @@ trips o (Padding n) vs at i h =
       word = w;
       value = None;
       writes = refl;
-      reads = λ more. made (skip_entry n) (λ _. None) at (length w) (w ++ more) tt (skip-answers n at more);
+      reads = λ more. made (skip_entry n) (λ _. Ok None) at (length w) (w ++ more) tt (skip-answers n at more);
       first = refl;
     }
 trips o Align vs at i h =
@@ -243,8 +248,8 @@ trips o Align vs at i h =
       word = w;
       value = None;
       writes = refl;
-      reads = λ more. align-reads o at (w ++ more) ∙ word_front-some (to_boundary at) (λ _. Ok None) w more (sym size)
-          ∙ ap (λ (m : ℕ). Takes m (Ok None)) size;
+      reads = λ more. align-reads o at (w ++ more) ∙ word_front-some (to_boundary at) (λ _. Ok (Ok None)) w more
+          (sym size) ∙ ap (λ (m : ℕ). Takes m (Ok (Ok None))) size;
       first = refl;
     }
 
@@ -356,12 +361,12 @@ packed-align o fields vs at =
 
 -- the first field takes n bits, where they are there
 first_word : (o : Order) (k : ℕ) (f : Field) (fs : List Field) (at n : ℕ) (w rest : List Bool) (g : List Bool
-    → Result (Option FieldValue) Error) (v : Option FieldValue)
-    → ((b : List Bool) → (field_read o f).reads at b ≡ word_front n g b) → g w ≡ Ok v → length w ≡ n
+    → Result (Result (Option FieldValue) Reason) Error) (v : Option FieldValue)
+    → ((b : List Bool) → (field_read o f).reads at b ≡ word_front n g b) → g w ≡ Ok (Ok v) → length w ≡ n
     → unpacked o k (f ∷ fs) at (w ++ rest) ≡ values_and (value_list v) (unpacked o (k + 1) fs (at + n) rest)
 first_word o k f fs at n w rest g v reads is size =
     unpacked-first o k f fs at w rest v (reads (w ++ rest) ∙ word_front-some n g w rest size ∙ ap (Takes n) is
-    ∙ ap (λ (m : ℕ). Takes m (Ok v)) (sym size))
+    ∙ ap (λ (m : ℕ). Takes m (Ok (Ok v))) (sym size))
     ∙ ap (λ (m : ℕ). values_and (value_list v) (unpacked o (k + 1) fs (at + m) rest)) size
 
 pub values_and-nil : (r : Unpacked) → values_and [] r ≡ r
@@ -372,22 +377,22 @@ pub unpacked-number : (o : Order) (k n : ℕ) (fields : List Field) (at : ℕ) (
     → unpacked o k (Unsigned n ∷ fields) at (w ++ rest)
     ≡ values_and (Value.Unsigned (number o w) ∷ []) (unpacked o (k + 1) fields (at + n) rest)
 unpacked-number o k n fields at w rest i size =
-    first_word o k (Unsigned n) fields at n w rest (λ w. Ok (Some (Value.Unsigned (number o w))))
+    first_word o k (Unsigned n) fields at n w rest (λ w. Ok (Ok (Some (Value.Unsigned (number o w)))))
     (Some (Value.Unsigned (number o w))) (λ b. unsigned-reads o n at b i) refl size
 
 pub unpacked-align : (o : Order) (k : ℕ) (fields : List Field) (at : ℕ) (w rest : List Bool) → length w ≡ to_boundary at
     → unpacked o k (Align ∷ fields) at (w ++ rest) ≡ unpacked o (k + 1) fields (at + to_boundary at) rest
 unpacked-align o k fields at w rest size =
-    first_word o k Align fields at (to_boundary at) w rest (λ _. Ok None) None (align-reads o at) refl size
+    first_word o k Align fields at (to_boundary at) w rest (λ _. Ok (Ok None)) None (align-reads o at) refl size
     ∙ values_and-nil (unpacked o (k + 1) fields (at + to_boundary at) rest)
 
 pub unpacked-few : (o : Order) (k n : ℕ) (fields : List Field) (at : ℕ) (b : List Bool) → n ≤ 128 → length b < n
     → unpacked o k (Unsigned n ∷ fields) at b ≡ Stops (fault k BitsEnded)
 unpacked-few o k n fields at b i few =
     unpacked-short o k (Unsigned n) fields at b (unsigned-reads o n at b i
-    ∙ word_front-none n (λ w. Ok (Some (Value.Unsigned (number o w)))) b few)
+    ∙ word_front-none n (λ w. Ok (Ok (Some (Value.Unsigned (number o w))))) b few)
 
 pub unpacked-few_to_align : (o : Order) (k : ℕ) (fields : List Field) (at : ℕ) (b : List Bool)
     → length b < to_boundary at → unpacked o k (Align ∷ fields) at b ≡ Stops (fault k BitsEnded)
 unpacked-few_to_align o k fields at b few = unpacked-short o k Align fields at b (align-reads o at b
-    ∙ word_front-none (to_boundary at) (λ _. Ok None) b few)
+    ∙ word_front-none (to_boundary at) (λ _. Ok (Ok None)) b few)

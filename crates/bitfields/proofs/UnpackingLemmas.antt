@@ -11,16 +11,18 @@ use Rattle.bitstream_io.specs.Error.{Error}
 use Rattle.bitstream_io.specs.Entry.{ReadEntry}
 use Rattle.bitstream_io.specs.Fault.{read_refusal_of}
 use Rattle.bitstream_io.specs.Refusal.{Refusal, IsTrueEnd}
+use Rattle.bitstream_io.specs.Own.{OwnAnswer}
 use Rattle.bitstream_io.specs.Reads.{ReaderState, BitSource, Reads, ReadDone, ReadRefused, had_failed, was_done, was_refused, memory_refused}
 use Rattle.bitstream_io.proofs.ReadsLemmas.{Took, Took-nil, Took-trans, Took-left, took}
 use Rattle.bitfields.specs.declared.fault.Fault.{Fault}
+use Rattle.bitfields.specs.declared.fault.Reason.{Reason}
 use Rattle.bitfields.specs.declared.fault.Reason.TheVariants.{BitsEnded, OutOfMemory}
 use Rattle.bitfields.specs.declared.field.Field.{Field}
 use Rattle.bitfields.specs.declared.field_value.FieldValue.{FieldValue}
 use Rattle.bitfields.specs.Fault.{fault}
-use Rattle.bitfields.specs.Unpacking.{Unpacked, Unpacks, Stops, unpacked, values_and, field_read, read_reason, behind, ReadsFields, ReadsLines}
+use Rattle.bitfields.specs.Unpacking.{Unpacked, Unpacks, Stops, unpacked, values_and, field_read, read_reason, behind, IsReadReason, ReadsField, ReadsFields, ReadsLines}
 use Rattle.bitfields.specs.Value.{printed_line, printed_lines, value_list}
-use Rattle.bitfields.proofs.FieldCalls.{unpacked-first, unpacked-refused, unpacked-short}
+use Rattle.bitfields.proofs.FieldCalls.{unpacked-first, unpacked-told, unpacked-refused, unpacked-short}
 
 -- ---- the fields' calls, one behind the other
 
@@ -61,7 +63,7 @@ remaining K fields i d old text now h known r new calls =
 
 pub Unpacking-more : {R : Type 0} (K : BitSource R) (fields : List Field) (i : ℕ) (d : Field) (old now new :
     R) (text more : List ℕ) (v : Option FieldValue) → i < length fields → Unpacking K fields i old text now
-    → Reads K (field_read K.order (get_or fields i d)) now (Ok v) new → more ≡ text ++ printed_lines (value_list v)
+    → ReadsField K (get_or fields i d) now (Ok v) new → more ≡ text ++ printed_lines (value_list v)
     → Unpacking K fields (i + 1) old more new
 unfolding ReadsFields
 Unpacking-more K fields i d old now new text more v h known reads printed = record {
@@ -88,14 +90,13 @@ Unpacking-end {R} K fields i old now text end known =
     }
 
 pub Unpacking-err : {R : Type 0} (K : BitSource R) (fields : List Field) (i : ℕ) (d : Field) (old now new : R)
-    (text : List ℕ) (x : Error) (f : Fault) → i < length fields → Unpacking K fields i old text now
-    → Reads K (field_read K.order (get_or fields i d)) now (Err x) new → f ≡ fault (i + 1) (read_reason x)
-    → ReadsLines K fields old (Err f) new
+    (text : List ℕ) (why : Reason) (f : Fault) → i < length fields → Unpacking K fields i old text now
+    → ReadsField K (get_or fields i d) now (Err why) new → f ≡ fault (i + 1) why → ReadsLines K fields old (Err f) new
 unfolding ReadsFields
-Unpacking-err K fields i d old now new text x f h known reads is = record {
+Unpacking-err K fields i d old now new text why f h known reads is = record {
   answer = Err f;
   reads = remaining K fields i d old text now h known (Err f) new
-      (inr (inl (record { error = x; reads = reads; answer = ap Err is })));
+      (inr (inl (record { why = why; reads = reads; answer = ap Err is })));
   prints = refl;
 }
 
@@ -105,7 +106,7 @@ some_of None h = absurd (cc)
 
 pub Unpacking-memory_refused : {R : Type 0} (K : BitSource R) (fields : List Field) (i : ℕ) (d : Field) (old now new :
     R) (text : List ℕ) (v : Option FieldValue) (f : Fault) → i < length fields → Unpacking K fields i old text now
-    → Reads K (field_read K.order (get_or fields i d)) now (Ok v) new → IsSome v → f ≡ fault (i + 1) OutOfMemory
+    → ReadsField K (get_or fields i d) now (Ok v) new → IsSome v → f ≡ fault (i + 1) OutOfMemory
     → ReadsLines K fields old (Err f) new
 unfolding ReadsFields
 Unpacking-memory_refused K fields i d old now new text v f h known reads some is =
@@ -114,7 +115,7 @@ Unpacking-memory_refused K fields i d old now new text v f h known reads some is
       answer = Err f;
       reads = remaining K fields i d old text now h known (Err f) new (inl (record {
         value = u.0;
-        reads = subst (λ (u : Option FieldValue). Reads K (field_read K.order (get_or fields i d)) now (Ok u) new) u.1
+        reads = subst (λ (u : Option FieldValue). ReadsField K (get_or fields i d) now (Ok u) new) u.1
             reads;
         answer = ap Err is;
       }));
@@ -203,7 +204,7 @@ ComesTo-reference_names o may k fields old (Err f) new (inr (inr h)) = h.referen
 
 -- the first field's word, and what follows it
 first_then : (o : Order) (k : ℕ) (f : Field) (fs : List Field) (v : Option FieldValue) (s t : ReaderState)
-    (h : ReadDone o (field_read o f) s (Ok v) t) (more : List Bool)
+    (h : ReadDone o (field_read o f) s (Ok (Ok v)) t) (more : List Bool)
     → unpacked o k (f ∷ fs) s.taken (h.word ++ more) ≡ values_and (value_list v) (unpacked o (k + 1) fs t.taken more)
 first_then o k f fs v s t h more =
     unpacked-first o k f fs s.taken h.word more v (h.decides more)
@@ -211,7 +212,7 @@ first_then o k f fs v s t h more =
 
 -- and what follows behind another word
 word_then : (o : Order) (k : ℕ) (f : Field) (fs : List Field) (v : Option FieldValue) (s t : ReaderState)
-    (h : ReadDone o (field_read o f) s (Ok v) t) (w : List Bool) (r : Unpacked)
+    (h : ReadDone o (field_read o f) s (Ok (Ok v)) t) (w : List Bool) (r : Unpacked)
     → ((more : List Bool) → unpacked o (k + 1) fs t.taken (w ++ more) ≡ r) → (more : List Bool)
     → unpacked o k (f ∷ fs) s.taken ((h.word ++ w) ++ more) ≡ values_and (value_list v) r
 word_then o k f fs v s t h w r says more =
@@ -219,7 +220,7 @@ word_then o k f fs v s t h w r says more =
     ∙ ap (values_and (value_list v)) (says more)
 
 ToldFields-later : (o : Order) (k : ℕ) (f : Field) (fs : List Field) (v : Option FieldValue) (why : Fault)
-    (s t z : ReaderState) → ReadDone o (field_read o f) s (Ok v) t → ToldFields o (k + 1) fs t why z
+    (s t z : ReaderState) → ReadDone o (field_read o f) s (Ok (Ok v)) t → ToldFields o (k + 1) fs t why z
     → ToldFields o k (f ∷ fs) s why z
 ToldFields-later o k f fs v why s t z h x =
     record {
@@ -227,7 +228,7 @@ ToldFields-later o k f fs v why s t z h x =
       gone = h.gone ++ x.gone;
       loses = Consumes-trans s.bytes t.bytes z.bytes h.gone x.gone h.loses x.loses;
       rest = x.rest;
-      parts = held_parts o s.queue t.queue h.word h.gone x.gone (first_parts o (field_read o f) v s t h)
+      parts = held_parts o s.queue t.queue h.word h.gone x.gone (first_parts o (field_read o f) (Ok v) s t h)
           ∙ ap (λ (w : List Bool). h.word ++ w) x.parts ∙ sym (append_assoc h.word x.word x.rest);
       fetched = omega (arith, h.fetched, x.fetched, length-append h.gone x.gone);
       taken = omega (arith, h.taken, x.taken, length-append h.word x.word);
@@ -236,7 +237,7 @@ ToldFields-later o k f fs v why s t z h x =
     }
 
 MemoryRefusedFields-later : (o : Order) (k : ℕ) (f : Field) (fs : List Field) (v : Option FieldValue) (why :
-    Fault) (s t z : ReaderState) → ReadDone o (field_read o f) s (Ok v) t → MemoryRefusedFields o (k + 1) fs t why z
+    Fault) (s t z : ReaderState) → ReadDone o (field_read o f) s (Ok (Ok v)) t → MemoryRefusedFields o (k + 1) fs t why z
     → MemoryRefusedFields o k (f ∷ fs) s why z
 MemoryRefusedFields-later o k f fs v why s t z h x =
     let place : k + 1 + length x.front ≡ k + length (f ∷ x.front) = omega arith in
@@ -247,7 +248,7 @@ MemoryRefusedFields-later o k f fs v why s t z h x =
       parts = ap (λ (gs : List Field). f ∷ gs) x.parts;
       reason = x.reason ∙ ap (λ (n : ℕ). fault n OutOfMemory) place;
       word = h.word ++ x.word;
-      took = Took-trans o h.word x.word s t z (took o (field_read o f) v s t h) x.took;
+      took = Took-trans o h.word x.word s t z (took o (field_read o f) (Ok v) s t h) x.took;
       values = value_list v ++ x.values;
       at = x.at;
       before = word_then o k f x.front v s t h x.word (Unpacks x.values x.at) x.before;
@@ -260,11 +261,11 @@ MemoryRefusedFields-later o k f fs v why s t z h x =
     }
 
 UnpackingRefusedFields-later : (o : Order) (may : Refusal → Type 0) (k : ℕ) (f : Field) (fs : List Field)
-    (v : Option FieldValue) (why : Fault) (s t z : ReaderState) → ReadDone o (field_read o f) s (Ok v) t
+    (v : Option FieldValue) (why : Fault) (s t z : ReaderState) → ReadDone o (field_read o f) s (Ok (Ok v)) t
     → UnpackingRefusedFields o may (k + 1) fs t why z → UnpackingRefusedFields o may k (f ∷ fs) s why z
 UnpackingRefusedFields-later o may k f fs v why s t z h x =
-    let first = took o (field_read o f) v s t h in
-    let whole = held_parts o s.queue t.queue h.word h.gone x.gone (first_parts o (field_read o f) v s t h) in
+    let first = took o (field_read o f) (Ok v) s t h in
+    let whole = held_parts o s.queue t.queue h.word h.gone x.gone (first_parts o (field_read o f) (Ok v) s t h) in
     record {
       field = x.field;
       refusal = x.refusal;
@@ -285,11 +286,11 @@ UnpackingRefusedFields-later o may k f fs v why s t z h x =
 
 -- what follows a field that answered
 ComesTo-later : (o : Order) (may : Refusal → Type 0) (k : ℕ) (f : Field) (fs : List Field) (v : Option FieldValue)
-    (r : Result (List FieldValue) Fault) (s t z : ReaderState) → ReadDone o (field_read o f) s (Ok v) t
+    (r : Result (List FieldValue) Fault) (s t z : ReaderState) → ReadDone o (field_read o f) s (Ok (Ok v)) t
     → ComesTo o may (k + 1) fs t r z → ComesTo o may k (f ∷ fs) s (behind (value_list v) r) z
 ComesTo-later o may k f fs v (Ok ws) s t z h x = record {
   word = h.word ++ x.word;
-  took = Took-trans o h.word x.word s t z (took o (field_read o f) v s t h) x.took;
+  took = Took-trans o h.word x.word s t z (took o (field_read o f) (Ok v) s t h) x.took;
   says = word_then o k f fs v s t h x.word (Unpacks ws z.taken) x.says;
 }
 ComesTo-later o may k f fs v (Err why) s t z h (inl x) = inl (ToldFields-later o k f fs v why s t z h x)
@@ -298,10 +299,12 @@ ComesTo-later o may k f fs v (Err why) s t z h (inr (inl x)) =
 ComesTo-later o may k f fs v (Err why) s t z h (inr (inr x)) =
     inr (inr (UnpackingRefusedFields-later o may k f fs v why s t z h x))
 
--- a field answered an error
-ToldFields-here : (o : Order) (k : ℕ) (f : Field) (fs : List Field) (x : Error) (s t : ReaderState)
-    → ReadDone o (field_read o f) s (Err x) t → ToldFields o k (f ∷ fs) s (fault k (read_reason x)) t
-ToldFields-here o k f fs x s t h = record {
+-- a field answered a fault, which its bits say
+ToldFields-here : (o : Order) (k : ℕ) (f : Field) (fs : List Field) (r : Result (Result (Option FieldValue)
+    Reason) Error) (why : Fault) (s t : ReaderState) (h : ReadDone o (field_read o f) s r t)
+    → ((more : List Bool) → unpacked o k (f ∷ fs) s.taken (h.word ++ more) ≡ Stops why)
+    → ToldFields o k (f ∷ fs) s why t
+ToldFields-here o k f fs r why s t h says = record {
   word = h.word;
   gone = h.gone;
   loses = h.loses;
@@ -310,7 +313,7 @@ ToldFields-here o k f fs x s t h = record {
   fetched = h.fetched;
   taken = h.taken;
   reference_names = h.reference_names;
-  says = λ more. unpacked-refused o k f fs s.taken (length h.word) (h.word ++ more) x (h.decides more);
+  says = says;
 }
 
 -- a field's call faulted
@@ -335,7 +338,7 @@ UnpackingRefusedFields-here o may k f fs x s t h =
 
 -- no memory was left for a field's line
 MemoryRefusedFields-here : (o : Order) (k : ℕ) (f : Field) (fs : List Field) (v : FieldValue) (s t : ReaderState)
-    → ReadDone o (field_read o f) s (Ok (Some v)) t → MemoryRefusedFields o k (f ∷ fs) s (fault k OutOfMemory) t
+    → ReadDone o (field_read o f) s (Ok (Ok (Some v))) t → MemoryRefusedFields o k (f ∷ fs) s (fault k OutOfMemory) t
 MemoryRefusedFields-here o k f fs v s t h =
     let place : k ≡ k + 0 = omega arith in
     record {
@@ -345,7 +348,7 @@ MemoryRefusedFields-here o k f fs v s t h =
       parts = refl;
       reason = ap (λ (n : ℕ). fault n OutOfMemory) place;
       word = h.word;
-      took = took o (field_read o f) (Some v) s t h;
+      took = took o (field_read o f) (Ok (Some v)) s t h;
       values = [];
       at = s.taken;
       before = λ more. refl;
@@ -359,7 +362,7 @@ ComesTo-none o may k s fine = record { word = []; took = Took-nil o s fine; says
 
 -- one call, and what the others come to
 memory_refused_here : {R : Type 0} (K : BitSource R) (k : ℕ) (f : Field) (fs : List Field) (v : FieldValue)
-    (old new : R) → (K.state old).failed ≡ false → Reads K (field_read K.order f) old (Ok (Some v)) new
+    (old new : R) → (K.state old).failed ≡ false → Reads K (field_read K.order f) old (Ok (Ok (Some v))) new
     → ComesTo K.order K.may k (f ∷ fs) (K.state old) (Err (fault k OutOfMemory)) (K.state new)
 memory_refused_here K k f fs v old new fine (had_failed x) = absurd (let failed = x.failed in cc)
 memory_refused_here K k f fs v old new fine (was_done x) =
@@ -371,14 +374,46 @@ refused_here : {R : Type 0} (K : BitSource R) (k : ℕ) (f : Field) (fs : List F
     → (K.state old).failed ≡ false → Reads K (field_read K.order f) old (Err e) new
     → ComesTo K.order K.may k (f ∷ fs) (K.state old) (Err (fault k (read_reason e))) (K.state new)
 refused_here K k f fs e old new fine (had_failed x) = absurd (let failed = x.failed in cc)
-refused_here K k f fs e old new fine (was_done x) = inl (ToldFields-here K.order k f fs e (K.state old) (K.state new) x)
+refused_here K k f fs e old new fine (was_done x) =
+    inl (ToldFields-here K.order k f fs (Err e) (fault k (read_reason e)) (K.state old) (K.state new) x
+    (λ more. unpacked-refused K.order k f fs (K.state old).taken (length x.word) (x.word ++ more) e (x.decides more)))
 refused_here K k f fs e old new fine (was_refused x) =
     inr (inr (UnpackingRefusedFields-here K.order K.may k f fs e (K.state old) (K.state new) x))
 refused_here K k f fs e old new fine (memory_refused grows x) = absurd (cc)
 
+told_here : {R : Type 0} (K : BitSource R) (k : ℕ) (f : Field) (fs : List Field) (why : Reason) (old new : R)
+    → (K.state old).failed ≡ false → Reads K (field_read K.order f) old (Ok (Err why)) new
+    → ComesTo K.order K.may k (f ∷ fs) (K.state old) (Err (fault k why)) (K.state new)
+told_here K k f fs why old new fine (had_failed x) = absurd (let failed = x.failed in cc)
+told_here K k f fs why old new fine (was_done x) =
+    inl (ToldFields-here K.order k f fs (Ok (Err why)) (fault k why) (K.state old) (K.state new) x
+    (λ more. unpacked-told K.order k f fs (K.state old).taken (length x.word) (x.word ++ more) why (x.decides more)))
+told_here K k f fs why old new fine (was_refused x) = absurd (let a = x.answer in cc)
+told_here K k f fs why old new fine (memory_refused grows x) = absurd (cc)
+
+-- a reason, by what the reader answered: one that the field's bits say, or an error
+reason_here : {R : Type 0} (K : BitSource R) (k : ℕ) (f : Field) (fs : List Field) (why : Reason) (old new : R)
+    (plain : Result (Result (Option FieldValue) Reason) Error) → (K.state old).failed ≡ false
+    → Reads K (field_read K.order f) old plain new → OwnAnswer IsReadReason (λ answer. answer) plain (Err why)
+    → ComesTo K.order K.may k (f ∷ fs) (K.state old) (Err (fault k why)) (K.state new)
+reason_here K k f fs why old new (Ok answer) fine h is =
+    told_here K k f fs why old new fine
+    (subst (λ (a : Result (Option FieldValue) Reason). Reads K (field_read K.order f) old (Ok a) new) (sym is) h)
+reason_here K k f fs why old new (Err e) fine h is =
+    subst (λ (x : Reason). ComesTo K.order K.may k (f ∷ fs) (K.state old) (Err (fault k x)) (K.state new)) (sym is)
+    (refused_here K k f fs e old new fine h)
+
+-- a value, by what the reader answered
+value_read : {R : Type 0} (K : BitSource R) (f : Field) (v : Option FieldValue) (old new : R)
+    (plain : Result (Result (Option FieldValue) Reason) Error) → Reads K (field_read K.order f) old plain new
+    → OwnAnswer IsReadReason (λ answer. answer) plain (Ok v) → Reads K (field_read K.order f) old (Ok (Ok v)) new
+value_read K f v old new (Ok answer) h is =
+    subst (λ (a : Result (Option FieldValue) Reason). Reads K (field_read K.order f) old (Ok a) new) (sym is) h
+value_read K f v old new (Err e) h is = absurd is
+
 answered_here : {R : Type 0} (K : BitSource R) (k : ℕ) (f : Field) (fs : List Field) (v : Option FieldValue)
     (rest : Result (List FieldValue) Fault) (old mid new : R) → (K.state old).failed ≡ false
-    → Reads K (field_read K.order f) old (Ok v) mid → ((K.state mid).failed ≡ false
+    → Reads K (field_read K.order f) old (Ok (Ok v)) mid → ((K.state mid).failed ≡ false
     → ComesTo K.order K.may (k + 1) fs (K.state mid) rest (K.state new))
     → ComesTo K.order K.may k (f ∷ fs) (K.state old) (behind (value_list v) rest) (K.state new)
 answered_here K k f fs v rest old mid new fine (had_failed x) others = absurd (let failed = x.failed in cc)
@@ -398,12 +433,14 @@ ComesTo-calls {R} K k [] old r new fine h =
     (ComesTo-none K.order K.may k (K.state old) fine))
 ComesTo-calls K k (f ∷ fs) old r new fine (inl h) =
     subst (λ (x : Result (List FieldValue) Fault). ComesTo K.order K.may k (f ∷ fs) (K.state old) x (K.state new))
-    (sym h.answer) (memory_refused_here K k f fs h.value old new fine h.reads)
+    (sym h.answer) (memory_refused_here K k f fs h.value old new fine
+    (value_read K f (Some h.value) old new h.reads.plain h.reads.called h.reads.answer))
 ComesTo-calls K k (f ∷ fs) old r new fine (inr (inl h)) =
     subst (λ (x : Result (List FieldValue) Fault). ComesTo K.order K.may k (f ∷ fs) (K.state old) x (K.state new))
-    (sym h.answer) (refused_here K k f fs h.error old new fine h.reads)
+    (sym h.answer) (reason_here K k f fs h.why old new h.reads.plain fine h.reads.called h.reads.answer)
 ComesTo-calls K k (f ∷ fs) old r new fine (inr (inr (v, mid, rest, reads, others, is))) =
     subst (λ (x : Result (List FieldValue) Fault). ComesTo K.order K.may k (f ∷ fs) (K.state old) x (K.state new))
     (sym is)
-    (answered_here K k f fs v rest old mid new fine reads
+    (answered_here K k f fs v rest old mid new fine
+    (value_read K f v old mid reads.plain reads.called reads.answer)
     (λ sound. ComesTo-calls K (k + 1) fs mid rest new sound others))

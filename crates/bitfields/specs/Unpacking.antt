@@ -9,7 +9,8 @@ use Rattle.bitstream_io.specs.ReadTable.{unsigned_entry, signed_entry, unary_ent
 use Rattle.bitstream_io.specs.Run.{read_run}
 use Rattle.bitstream_io.specs.Fault.{read_refusal_of}
 use Rattle.bitstream_io.specs.Refusal.{Refusal, IsTrueEnd}
-use Rattle.bitstream_io.specs.Reads.{BitSource, Reads}
+use Rattle.bitstream_io.specs.Reads.{BitSource}
+use Rattle.bitstream_io.specs.Own.{ReadsOwn}
 use Rattle.bitfields.specs.declared.fault.Reason.{Reason}
 use Rattle.bitfields.specs.declared.fault.Reason.TheVariants.{BitsEnded, LimitPassed, StreamFault, OutOfMemory}
 use Rattle.bitfields.specs.declared.fault.Fault.{Fault}
@@ -39,17 +40,22 @@ read_reason errors.RunTooLong = LimitPassed
 read_reason errors.VariableWidthOverflow = LimitPassed
 read_reason error = StreamFault
 
--- the read call of a field, which answers the field's value, if it has one
-abbrev pub field_read : Order → Field → ReadEntry (Option FieldValue)
-field_read o (Unsigned n) = chain (unsigned_entry o 128 n) (λ v. gives (Some (Value.Unsigned v)))
-field_read o (Signed n) = chain (signed_entry o 128 n) (λ x. gives (Some (Value.Signed x)))
-field_read o (Unary stop) = chain (unary_entry stop) (λ v. gives (Some (Value.Unsigned v)))
-field_read o (Variable size) = chain (vbr_entry o (group_bits size) 64 (2 ^ 64)) (λ v. gives (Some (Value.Unsigned v)))
+-- an error of a reader, as the reason for it
+abbrev pub IsReadReason : Error → Reason → Type 0
+IsReadReason error why = why ≡ read_reason error
+
+-- the read call of a field, which answers the field's value, if it has one, or why its bits are wrong
+abbrev pub field_read : Order → Field → ReadEntry (Result (Option FieldValue) Reason)
+field_read o (Unsigned n) = chain (unsigned_entry o 128 n) (λ v. gives (Ok (Some (Value.Unsigned v))))
+field_read o (Signed n) = chain (signed_entry o 128 n) (λ x. gives (Ok (Some (Value.Signed x))))
+field_read o (Unary stop) = chain (unary_entry stop) (λ v. gives (Ok (Some (Value.Unsigned v))))
+field_read o (Variable size) = chain (vbr_entry o (group_bits size) 64 (2 ^ 64))
+    (λ v. gives (Ok (Some (Value.Unsigned v))))
 field_read o (SignedVariable size) = chain (signed_vbr_entry o (group_bits size) 64)
-    (λ x. gives (Some (Value.Signed x)))
-field_read o (Bytes n) = chain (bytes_entry o n) (λ bytes. gives (Some (Value.Bytes bytes)))
-field_read o (Padding n) = chain (skip_entry n) (λ _. gives None)
-field_read o Align = chain align_entry (λ _. gives None)
+    (λ x. gives (Ok (Some (Value.Signed x))))
+field_read o (Bytes n) = chain (bytes_entry o n) (λ bytes. gives (Ok (Some (Value.Bytes bytes))))
+field_read o (Padding n) = chain (skip_entry n) (λ _. gives (Ok None))
+field_read o Align = chain align_entry (λ _. gives (Ok None))
 
 -- the number of bytes that are read for a field, as bytes
 abbrev pub byte_count : Field → ℕ
@@ -62,11 +68,12 @@ asks_memory (Bytes n) = true
 asks_memory field = false
 
 -- what the answers of the fields' read calls come to; the fields are numbered from k on
-abbrev pub answered : ℕ → List Field → ℕ → List (Result (Option FieldValue) Error × ℕ) → Unpacked
+abbrev pub answered : ℕ → List Field → ℕ → List (Result (Result (Option FieldValue) Reason) Error × ℕ) → Unpacked
 answered k [] at answers = Unpacks [] at
 answered k (field ∷ fields) at [] = Stops (fault k BitsEnded)
-answered k (field ∷ fields) at ((Ok v, next) ∷ answers) =
+answered k (field ∷ fields) at ((Ok (Ok v), next) ∷ answers) =
     values_and (value_list v) (answered (k + 1) fields next answers)
+answered k (field ∷ fields) at ((Ok (Err why), next) ∷ answers) = Stops (fault k why)
 answered k (field ∷ fields) at ((Err e, next) ∷ answers) = Stops (fault k (read_reason e))
 
 -- what the bits from a place on say for fields, which are numbered from k on
@@ -80,11 +87,15 @@ abbrev pub behind : List FieldValue → Result (List FieldValue) Fault → Resul
 behind vs (Ok ws) = Ok (vs ++ ws)
 behind vs (Err f) = Err f
 
+-- the read call of a field, which answers the field's value, if it has one, or the reason for an error
+abbrev pub ReadsField : {R : Type 0} → BitSource R → Field → R → Result (Option FieldValue) Reason → R → Type 0
+ReadsField K field old result new = ReadsOwn K IsReadReason (field_read K.order field) old result new
+
 -- A field's value was read, and memory for its line was refused.
 pub record LineRefused {R : Type 0} (K : BitSource R) (k : ℕ) (field : Field) (old : R)
     (result : Result (List FieldValue) Fault) (new : R) : Type 0 where
   pub value : FieldValue
-  pub reads : Reads K (field_read K.order field) old (Ok (Some value)) new
+  pub reads : ReadsField K field old (Ok (Some value)) new
   pub answer : result ≡ Err (fault k OutOfMemory)
 
 -- Memory for a field's bytes was refused before they were read. The reader is as it was.
@@ -98,22 +109,22 @@ pub record BufferRefused {R : Type 0} (k : ℕ) (field : Field) (old : R) (resul
 abbrev pub MemoryRefused : {R : Type 0} → BitSource R → ℕ → Field → R → Result (List FieldValue) Fault → R → Type 0
 MemoryRefused K k field old result new = LineRefused K k field old result new ⊎ BufferRefused k field old result new
 
--- a field's read call answered an error
-pub record AnswersError {R : Type 0} (K : BitSource R) (k : ℕ) (field : Field) (old : R)
+-- a field's read call answered a reason
+pub record AnswersReason {R : Type 0} (K : BitSource R) (k : ℕ) (field : Field) (old : R)
     (result : Result (List FieldValue) Fault) (new : R) : Type 0 where
-  pub error : Error
-  pub reads : Reads K (field_read K.order field) old (Err error) new
-  pub answer : result ≡ Err (fault k (read_reason error))
+  pub why : Reason
+  pub reads : ReadsField K field old (Err why) new
+  pub answer : result ≡ Err (fault k why)
 
 -- The read calls of fields, which are numbered from k on, in order: the values that they answer, up to the first that
--- answers an error or for which memory was refused. Of no fields, nothing at all.
+-- answers a reason or for which memory was refused. Of no fields, nothing at all.
 unfoldable pub ReadsFields : {R : Type 0} → BitSource R → ℕ → List Field → R → Result (List FieldValue) Fault → R
     → Type 0
 ReadsFields K k [] old result new = (result ≡ Ok []) × (new ≡ old)
 ReadsFields {R} K k (field ∷ fields) old result new =
-    MemoryRefused K k field old result new ⊎ AnswersError K k field old result new
+    MemoryRefused K k field old result new ⊎ AnswersReason K k field old result new
     ⊎ ((v : Option FieldValue) × (mid : R) × (rest : Result (List FieldValue) Fault)
-    × Reads K (field_read K.order field) old (Ok v) mid × ReadsFields K (k + 1) fields mid rest new
+    × ReadsField K field old (Ok v) mid × ReadsFields K (k + 1) fields mid rest new
     × (result ≡ behind (value_list v) rest))
 
 -- the lines of values, or the fault

@@ -6,7 +6,7 @@ ghost use Rattle.bitstream_io.specs.Refusal.{MayRefuse, TrueEnds};
 ghost use Rattle.bitstream_io.specs.ReadTable.{unary_entry, vbr_entry, signed_vbr_entry};
 ghost use Rattle.bitstream_io.specs.Reads.{Reads};
 ghost use Rattle.bitfields.specs.Layout.{group_bits};
-ghost use Rattle.bitfields.specs.Unpacking.{asks_memory, byte_count, field_read, read_reason as read_reason_of, IsSaid, ReadsLines, UnpacksBytes};
+ghost use Rattle.bitfields.specs.Unpacking.{asks_memory, byte_count, read_reason as read_reason_of, IsSaid, ReadsField, ReadsLines, UnpacksBytes};
 ghost use Rattle.bitfields.specs.Value.{value_list, printed_lines};
 
 use crate::fault::{Fault, Reason};
@@ -69,7 +69,7 @@ pub fn unpack_from<R: BitRead>(
                     return Err(Fault::new(index + 1, Reason::OutOfMemory));
                 }
             }
-            Err(error) => return Err(Fault::new(index + 1, read_reason(error))),
+            Err(reason) => return Err(Fault::new(index + 1, reason)),
         }
     }
     Ok(lines)
@@ -80,9 +80,9 @@ fn unpack_field<R: BitRead>(
     field: Field,
     mut room: Vec<u8>,
     reader: &mut R,
-) -> Result<Option<FieldValue>, Error>
+) -> Result<Option<FieldValue>, Reason>
     requires { length room.items ≡ byte_count field }
-    ensures { Reads R.source (field_read R.source.order field) reader.old result reader.new }
+    ensures { ReadsField R.source field reader.old result reader.new }
 {
     match field {
         Field::Unsigned(width) => {
@@ -183,6 +183,17 @@ fn read_reason(error: Error) -> Reason
         Error::OutOfMemory => Reason::OutOfMemory,
         Error::RunTooLong | Error::VariableWidthOverflow => Reason::LimitPassed,
         _ => Reason::StreamFault,
+    }
+}
+
+/// The reason for an error of a reader.
+impl From<Error> for Reason {
+    ghost use Rattle.bitfields.specs.Unpacking.{IsReadReason};
+
+    ghost from_gives = { IsReadReason };
+
+    fn from(error: Error) -> Reason {
+        read_reason(error)
     }
 }
 

@@ -1,59 +1,69 @@
 use borrow.Author.Rules.{sfits_of}
-use Rattle.std.proofs.Common.{rules, ◌≡◌, ◌∙◌, SFits, to_z, of_z, Some, None}
+use Rattle.std.proofs.Common.{rules, ◌≡◌, ◌∙◌, SFits, to_z, of_z, Result, Ok, Err, Some, None, refl}
 use Rattle.std.specs.Int.{w64, w128}
+use Rattle.std.specs.Result.{IsErrAnd}
 use Rattle.std.proofs.lemmas.Int.{to_z-of_z}
-use Rattle.bitstream_io.specs.Entry.{gives}
-use Rattle.bitstream_io.proofs.ReadSteps.{next_signed_read}
-use Rattle.bitstream_io.proofs.ReadsLemmas.{Reads-chain-ok, Reads-gives, exit}
+use Rattle.bitstream_io.specs.Error.{Error}
+use Rattle.bitstream_io.specs.Entry.{ReadEntry, chain, gives}
+use Rattle.bitstream_io.specs.Own.{ReadsOwn}
+use Rattle.bitstream_io.specs.Reads.{BitSource, Reads}
+use Rattle.bitstream_io.proofs.ReadsLemmas.{Reads-chain-ok, Reads-chain-err, Reads-gives}
+use Rattle.bitfields.specs.declared.fault.Reason.{Reason}
 use Rattle.bitfields.specs.declared.field_value.FieldValue.TheVariants as Value
+use Rattle.bitfields.specs.Unpacking.{IsReadReason}
 use Rattle.bitfields.proofs.unpacking.unpack_field.Goals as goal
+
+-- a call answered, and f is made of its answer
+module _ {R A B : Type 0} {K : BitSource R} {e : ReadEntry A} (f : A → Result B Reason) {s t : R} where
+  answers : {a : A} → Reads K e s (Ok a) t → ReadsOwn K IsReadReason (chain e (λ v. gives (f v))) s (f a) t
+  answers {a = a} h = record {
+    plain = Ok (f a);
+    called = Reads-chain-ok e (λ v. gives (f v)) h (Reads-gives (f a) t);
+    answer = refl;
+  }
+
+  stops : {x : Error} {r : Result B Reason} → IsErrAnd r (IsReadReason x) → Reads K e s (Err x) t
+      → ReadsOwn K IsReadReason (chain e (λ v. gives (f v))) s r t
+  stops {x = x} is h = record { plain = Err x; called = Reads-chain-err e (λ v. gives (f v)) h; answer = is }
 
 pub returns-in_err-value-in-Unsigned : goal.returns-in_err-value-in-Unsigned
 returns-in_err-value-in-Unsigned g c =
-    rw c.in-Unsigned.is (exit (λ v. gives (Some (Value.Unsigned v))) c.from_residual.result c.from_residual.ensures.1
+    rw c.in-Unsigned.is (stops (λ v. Ok (Some (Value.Unsigned v))) c.from_residual.ensures.1
     c.in_err-value-in-Unsigned.ensures.reads)
 
 pub returns-in_ok-value-in-Unsigned : goal.returns-in_ok-value-in-Unsigned
-returns-in_ok-value-in-Unsigned g c =
-    rw c.in-Unsigned.is (Reads-chain-ok _ (λ v. gives (Some (Value.Unsigned v))) c.in_ok-value-in-Unsigned.ensures.reads
-    (Reads-gives _ _))
+returns-in_ok-value-in-Unsigned g c = rw c.in-Unsigned.is (answers (λ v. Ok (Some (Value.Unsigned v))) c.in_ok-value-in-Unsigned.ensures.reads)
 
 pub returns-in_err-value-in-Signed : goal.returns-in_err-value-in-Signed
 returns-in_err-value-in-Signed g c =
-    rw c.in-Signed.is (exit (λ v. gives (Some (Value.Signed v))) c.from_residual-in_err-value-in-Signed.result
-    c.from_residual-in_err-value-in-Signed.ensures.1 c.in_err-value-in-Signed.ensures.reads)
+    rw c.in-Signed.is (stops (λ v. Ok (Some (Value.Signed v))) c.from_residual-in_err-value-in-Signed.ensures.1
+    c.in_err-value-in-Signed.ensures.reads)
 
 pub returns-in_ok-value-in-Signed : goal.returns-in_ok-value-in-Signed
 returns-in_ok-value-in-Signed g c =
     let value = c.in_ok-value-in-Signed.value in
     let fits : SFits w128 value = search (rules, sfits_of) in
-    rw c.in-Signed.is (next_signed_read _ 128 _ (λ v. gives (Some (Value.Signed v)))
-    c.in_ok-value-in-Signed.ensures.reads fits (Reads-gives _ _))
+    rw (c.in-Signed.is, to_z-of_z w128 value fits) (answers (λ v. Ok (Some (Value.Signed v))) c.in_ok-value-in-Signed.ensures.reads)
 
 pub returns-in_err-value-in-Unary : goal.returns-in_err-value-in-Unary
 returns-in_err-value-in-Unary g c =
-    rw c.in-Unary.is (exit (λ v. gives (Some (Value.Unsigned v))) c.from_residual-in_err-value-in-Unary.result
-    c.from_residual-in_err-value-in-Unary.ensures.1 c.in_err-value-in-Unary.ensures)
+    rw c.in-Unary.is (stops (λ v. Ok (Some (Value.Unsigned v))) c.from_residual-in_err-value-in-Unary.ensures.1
+    c.in_err-value-in-Unary.ensures)
 
 pub returns-in_ok-value-in-Unary : goal.returns-in_ok-value-in-Unary
-returns-in_ok-value-in-Unary g c =
-    rw c.in-Unary.is (Reads-chain-ok _ (λ v. gives (Some (Value.Unsigned v))) c.in_ok-value-in-Unary.ensures
-    (Reads-gives _ _))
+returns-in_ok-value-in-Unary g c = rw c.in-Unary.is (answers (λ v. Ok (Some (Value.Unsigned v))) c.in_ok-value-in-Unary.ensures)
 
 pub returns-in_err-value-in-Variable : goal.returns-in_err-value-in-Variable
 returns-in_err-value-in-Variable g c =
-    rw c.in-Variable.is (exit (λ v. gives (Some (Value.Unsigned v))) c.from_residual-in_err-value-in-Variable.result
-    c.from_residual-in_err-value-in-Variable.ensures.1 c.in_err-value-in-Variable.ensures)
+    rw c.in-Variable.is (stops (λ v. Ok (Some (Value.Unsigned v))) c.from_residual-in_err-value-in-Variable.ensures.1
+    c.in_err-value-in-Variable.ensures)
 
 pub returns-in_ok-value-in-Variable : goal.returns-in_ok-value-in-Variable
-returns-in_ok-value-in-Variable g c =
-    rw c.in-Variable.is (Reads-chain-ok _ (λ v. gives (Some (Value.Unsigned v))) c.in_ok-value-in-Variable.ensures
-    (Reads-gives _ _))
+returns-in_ok-value-in-Variable g c = rw c.in-Variable.is (answers (λ v. Ok (Some (Value.Unsigned v))) c.in_ok-value-in-Variable.ensures)
 
 pub returns-in_err-value-in-SignedVariable : goal.returns-in_err-value-in-SignedVariable
 returns-in_err-value-in-SignedVariable g c =
-    rw c.in-SignedVariable.is (exit (λ v. gives (Some (Value.Signed v)))
-    c.from_residual-in_err-value-in-SignedVariable.result c.from_residual-in_err-value-in-SignedVariable.ensures.1
+    rw c.in-SignedVariable.is (stops (λ v. Ok (Some (Value.Signed v))) c.from_residual-in_err-value-in-SignedVariable.ensures.1
     c.in_err-value-in-SignedVariable.ensures)
 
 pub returns-in_ok-value-in-SignedVariable : goal.returns-in_ok-value-in-SignedVariable
@@ -63,18 +73,15 @@ returns-in_ok-value-in-SignedVariable g c =
     let wide : SFits w128 c.widened.result = search (rules, sfits_of) in
     let same : to_z w128 (of_z w128 c.widened.result) ≡ value = to_z-of_z w128 c.widened.result wide ∙ c.widened.ensures
     ∙ to_z-of_z w64 value fits in
-    rw (c.in-SignedVariable.is, same) (Reads-chain-ok _ (λ v. gives (Some (Value.Signed v)))
-    c.in_ok-value-in-SignedVariable.ensures (Reads-gives _ _))
+    rw (c.in-SignedVariable.is, same) (answers (λ v. Ok (Some (Value.Signed v))) c.in_ok-value-in-SignedVariable.ensures)
 
 pub returns-in_err-skip-in-Padding : goal.returns-in_err-skip-in-Padding
 returns-in_err-skip-in-Padding g c =
-    rw c.in-Padding.is (exit (λ _. gives None) c.from_residual-in_err-skip-in-Padding.result
-    c.from_residual-in_err-skip-in-Padding.ensures.1 c.in_err-skip-in-Padding.ensures.reads)
+    rw c.in-Padding.is (stops (λ _. Ok None) c.from_residual-in_err-skip-in-Padding.ensures.1
+    c.in_err-skip-in-Padding.ensures.reads)
 
 pub returns-in_ok-skip-in-Padding : goal.returns-in_ok-skip-in-Padding
-returns-in_ok-skip-in-Padding g c = rw c.in-Padding.is
-    (Reads-chain-ok _ (λ _. gives None) c.in_ok-skip-in-Padding.ensures.reads (Reads-gives _ _))
+returns-in_ok-skip-in-Padding g c = rw c.in-Padding.is (answers (λ _. Ok None) c.in_ok-skip-in-Padding.ensures.reads)
 
 pub returns-in-Align : goal.returns-in-Align
-returns-in-Align g c =
-    rw c.in-Align.is (Reads-chain-ok _ (λ _. gives None) c.byte_align.ensures.reads (Reads-gives _ _))
+returns-in-Align g c = rw c.in-Align.is (answers (λ _. Ok None) c.byte_align.ensures.reads)

@@ -1,5 +1,4 @@
-use Rattle.std.proofs.Common.{rules, ◌≡◌, ◌++◌, ◌<◌, length, string_bytes, arith, ap, ◌∙◌, ◌+◌}
-use Rattle.bitfields.specs.Fault.{fault}
+use Rattle.std.proofs.Common.{rules, ◌≡◌, ◌++◌, ◌<◌, length, string_bytes, arith}
 use Rattle.bitfields.specs.Value.{value_list, printed_lines}
 use Rattle.bitfields.proofs.UnpackingLemmas.{Unpacking-start, Unpacking-more, Unpacking-err, Unpacking-end, Unpacking-memory_refused}
 use Rattle.bitfields.proofs.unpacking.unpack_from.Goals as goal
@@ -26,8 +25,8 @@ pub returns-in-Err : goal.returns-in-Err
 returns-in-Err g c =
     let i = c.loop-index.index in
     let h : i < length c.args.fields.now = omega arith in
-    Unpacking-err g.R.BitRead.source c.args.fields.now i _ _ _ _ _ c.in-Err.error _ h c.loop-index.invariant
-    c.in-Err.ensures (c.new-in-Err.ensures ∙ ap (fault (i + 1)) c.read_reason.ensures)
+    Unpacking-err g.R.BitRead.source c.args.fields.now i _ _ _ _ _ c.in-Err.reason _ h c.loop-index.invariant
+    c.in-Err.ensures c.new-in-Err.ensures
 
 pub returns : goal.returns
 returns g c = Unpacking-end g.R.BitRead.source c.args.fields.now c.loop-index.index _ _ _ (omega arith)
