@@ -182,8 +182,14 @@ pub fn spaced_bytes(
     Ok(Ok(ByteList::new(bytes)))
 }
 
+/// Returns whether each text is a decimal.
 fn are_decimals(texts: &[&[u8]]) -> bool
     ensures { result ≡ list_all spells_decimal (map (λ x. x.now) texts.now) }
 {
-    texts.iter().all(|text| is_decimal(text))
+    for text in texts {
+        if !is_decimal(text) {
+            return false;
+        }
+    }
+    true
 }

@@ -75,6 +75,12 @@ returns-in_ok-value-in-SignedVariable g c =
     ∙ to_z-of_z w64 value fits in
     rw (c.in-SignedVariable.is, same) (answers (λ v. Ok (Some (Value.Signed v))) c.in_ok-value-in-SignedVariable.ensures)
 
+pub returns-in_err-read_bytes-in-Bytes : goal.returns-in_err-read_bytes-in-Bytes
+returns-in_err-read_bytes-in-Bytes g c = ?
+
+pub returns-in_ok-read_bytes-in-Bytes : goal.returns-in_ok-read_bytes-in-Bytes
+returns-in_ok-read_bytes-in-Bytes g c = ?
+
 pub returns-in_err-skip-in-Padding : goal.returns-in_err-skip-in-Padding
 returns-in_err-skip-in-Padding g c =
     rw c.in-Padding.is (stops (λ _. Ok None) c.from_residual-in_err-skip-in-Padding.ensures.1

@@ -1,6 +1,6 @@
 use Rattle.std.proofs.Common.{rules, ◌≡◌, ◌++◌, ◌<◌, length, string_bytes, arith}
 use Rattle.bitfields.specs.Value.{value_list, printed_lines}
-use Rattle.bitfields.proofs.UnpackingLemmas.{Unpacking-start, Unpacking-more, Unpacking-err, Unpacking-end, Unpacking-memory_refused}
+use Rattle.bitfields.proofs.UnpackingLemmas.{Unpacking-start, Unpacking-buffer_refused, Unpacking-more, Unpacking-err, Unpacking-end, Unpacking-line_refused}
 use Rattle.bitfields.proofs.unpacking.unpack_from.Goals as goal
 
 pub loop-index-init : goal.loop-index-init
@@ -18,7 +18,7 @@ pub returns-then-is_err : goal.returns-then-is_err
 returns-then-is_err g c =
     let i = c.loop-index.index in
     let h : i < length c.args.fields.now = omega arith in
-    Unpacking-memory_refused g.R.BitRead.source c.args.fields.now i _ _ _ _ _ c.in-Ok.value _ h c.loop-index.invariant
+    Unpacking-line_refused g.R.BitRead.source c.args.fields.now i _ _ _ _ _ c.in-Ok.value _ h c.loop-index.invariant
     c.in-Ok.ensures (c.print_field.ensures.some (search rules)) c.new.ensures
 
 pub returns-in-Err : goal.returns-in-Err
