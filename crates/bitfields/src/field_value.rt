@@ -35,7 +35,13 @@ impl fmt::Display for FieldValue {
         match self {
             FieldValue::Unsigned(value) => write!(f, "{value}"),
             FieldValue::Signed(value) => write!(f, "{value}"),
-            FieldValue::Bytes(bytes) => write!(f, "{}", Spaced { bytes: bytes.as_slice() }),
+            FieldValue::Bytes(bytes) => write!(
+                f,
+                "{}",
+                Spaced {
+                    bytes: bytes.as_slice()
+                }
+            ),
         }
     }
 }

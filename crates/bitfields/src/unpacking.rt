@@ -13,8 +13,8 @@ use crate::fault::{Fault, Reason};
 use crate::field::{Field, GroupSize};
 use crate::field_value::{FieldValue, print_value};
 use crate::layout::Layout;
-use bitstream_io::{BitRead, BitReader, Bits, Endianness, Error, Lent, Source};
 use bitstream_io::script::ByteList;
+use bitstream_io::{BitRead, BitReader, Bits, Endianness, Error, Lent, Source};
 use std::alloc::{AllocError, Global};
 
 /// Unpacks the fields of a layout from the first byte of a stream on. Returns the line of each

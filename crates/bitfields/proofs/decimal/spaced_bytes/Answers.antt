@@ -6,7 +6,6 @@ use Rattle.bitfields.specs.Decimal.{is_decimal, decimal_below, spaced, bytes_of_
 use Rattle.bitfields.proofs.BytesLemmas.{IsRead-bad, IsRead-more, IsRead-end}
 use Rattle.bitfields.proofs.decimal.spaced_bytes.Goals as goal
 
-
 pub returns-in-Err : goal.returns-in-Err
 returns-in-Err c =
     let i = c.loop-part.part-index in

@@ -1,7 +1,8 @@
 use borrow.Author.Rules.{sfits_of}
-use Rattle.std.proofs.Common.{rules, ◌≡◌, ◌∙◌, SFits, to_z, of_z, Result, Ok, Err, Some, None, refl}
+use Rattle.std.proofs.Common.{rules, ◌≡◌, ◌∙◌, SFits, to_z, of_z, Result, Ok, Err, Some, None, refl, length, arith}
 use Rattle.std.specs.Int.{w64, w128}
 use Rattle.std.specs.Result.{IsErrAnd}
+use Rattle.std.proofs.lemmas.Grind.{common_steps}
 use Rattle.std.proofs.lemmas.Int.{to_z-of_z}
 use Rattle.bitstream_io.specs.Error.{Error}
 use Rattle.bitstream_io.specs.Entry.{ReadEntry, chain, gives}
@@ -76,10 +77,19 @@ returns-in_ok-value-in-SignedVariable g c =
     rw (c.in-SignedVariable.is, same) (answers (λ v. Ok (Some (Value.Signed v))) c.in_ok-value-in-SignedVariable.ensures)
 
 pub returns-in_err-read_bytes-in-Bytes : goal.returns-in_err-read_bytes-in-Bytes
-returns-in_err-read_bytes-in-Bytes g c = ?
+returns-in_err-read_bytes-in-Bytes g c =
+    let whole = c.as_mut_slice.ensures.value in
+    let size : length c.as_mut_slice.result.now ≡ c.in-Bytes.field-0 = search rules in
+    rw c.in-Bytes.is (stops (λ bytes. Ok (Some (Value.Bytes bytes)))
+    c.from_residual-in_err-read_bytes-in-Bytes.ensures.1
+    (rw size at c.in_err-read_bytes-in-Bytes.ensures.reads))
 
 pub returns-in_ok-read_bytes-in-Bytes : goal.returns-in_ok-read_bytes-in-Bytes
-returns-in_ok-read_bytes-in-Bytes g c = ?
+returns-in_ok-read_bytes-in-Bytes g c =
+    let size : length c.as_mut_slice.result.now ≡ c.in-Bytes.field-0 = search rules in
+    let bytes : c.new.result ≡ c.read_bytes.new.buf = grind (arith, common_steps) in
+    rw (c.in-Bytes.is, bytes) (answers (λ bytes. Ok (Some (Value.Bytes bytes)))
+    (rw size at c.in_ok-read_bytes-in-Bytes.ensures.reads))
 
 pub returns-in_err-skip-in-Padding : goal.returns-in_err-skip-in-Padding
 returns-in_err-skip-in-Padding g c =
