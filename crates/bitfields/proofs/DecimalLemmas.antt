@@ -116,11 +116,24 @@ differs b c e h =
     let r = in_range b e in
     grind (arith, common_steps)
 
--- a separator below the digits does not stand in it
-pub decimal_lacks : (c n : ℕ) → c < 48 → n < 10 ^ 64 → All (λ b. (b == c) ≡ false) (decimal n)
-decimal_lacks c n low h =
+differs_above : (b c : ℕ) → is_ascii_digit b ≡ true → 57 < c → (b == c) ≡ false
+differs_above b c e h =
+    let r = in_range b e in
+    grind (arith, common_steps)
+
+-- what no digit is does not stand in it
+lacks_by : (c n : ℕ) → ((b : ℕ) → is_ascii_digit b ≡ true → (b == c) ≡ false) → n < 10 ^ 64
+    → All (λ b. (b == c) ≡ false) (decimal n)
+lacks_by c n other h =
     let digits = AllPass-from_list_all is_ascii_digit (decimal n) (Spells-decimal n h).digits in
-    λ k d below. differs (get_or (decimal n) k d) c (digits k d below) low
+    λ k d below. other (get_or (decimal n) k d) (digits k d below)
+
+-- nor does a separator below the digits, nor one above them
+pub decimal_lacks : (c n : ℕ) → c < 48 → n < 10 ^ 64 → All (λ b. (b == c) ≡ false) (decimal n)
+decimal_lacks c n low h = lacks_by c n (λ b e. differs b c e low) h
+
+pub decimal_lacks_above : (c n : ℕ) → 57 < c → n < 10 ^ 64 → All (λ b. (b == c) ≡ false) (decimal n)
+decimal_lacks_above c n high h = lacks_by c n (λ b e. differs_above b c e high) h
 
 pub decimal_within-decimal : (low high n : ℕ) → n < 10 ^ 64 → low ≤ n → n ≤ high → decimal_within low high (decimal n)
     ≡ Some n

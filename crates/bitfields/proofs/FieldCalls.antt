@@ -1,11 +1,11 @@
 -- The calls of fields, one behind the other.
-use Rattle.std.specs.Prelude.{ℤ, Bool, drop, replicate, false}
+use Rattle.std.specs.Prelude.{ℤ, Bool, ◌==◌, ◌≢◌, if◌then◌else◌, take, drop, replicate, false}
 use Rattle.std.specs.List.{AllByRecursion}
-use Rattle.std.proofs.Common.{◌≡◌, ℕ, ◌+◌, ◌<◌, ◌≤◌, ◌^◌, List, [], ◌∷◌, ◌++◌, length, Option, Some, None, Result, Ok, Err, refl, sym, ap, subst, ◌∙◌, arith, inl, inr, append_assoc, length-append, append-nil, add-zero, lit<, All}
+use Rattle.std.proofs.Common.{◌≡◌, ℕ, ◌+◌, ◌<◌, ◌≤◌, ◌^◌, List, [], ◌∷◌, ◌++◌, length, Option, Some, None, Result, Ok, Err, refl, sym, ap, subst, ◌∙◌, arith, inl, inr, append_assoc, length-append, append-nil, add-zero, eq-eqb, lit<, All}
 use Rattle.std.proofs.Math.Nat.{mod-eq_of_lt}
-use Rattle.std.proofs.Math.Seq.{drop-append_seam}
-use Rattle.std.proofs.lemmas.Bool.{cases_lt, le-leb}
-use Rattle.std.proofs.lemmas.List.{length-replicate}
+use Rattle.std.proofs.Math.Seq.{drop-append_seam, take-append_seam}
+use Rattle.std.proofs.lemmas.Bool.{cases_lt, le-leb, ne_eqb}
+use Rattle.std.proofs.lemmas.List.{length-replicate, length-drop}
 use Rattle.bitstream_io.proofs.UnaryLemmas.{read_unary-unary}
 use Rattle.bitstream_io.proofs.VbrLemmas.{read_vbr-IsAccepted, vbr_word_accepted, zig-lt}
 use Rattle.bitstream_io.specs.Unary.{unary}
@@ -26,19 +26,20 @@ use Rattle.bitstream_io.proofs.EntryLemmas.{map_takes, chain-ok, chain-none, wor
 use Rattle.bitstream_io.proofs.TableLemmas.{unsigned-takes}
 use Rattle.bitstream_io.proofs.WriteLemmas.{unsigned-fits, signed-accepts}
 use Rattle.bitfields.specs.declared.fault.Reason.{Reason}
-use Rattle.bitfields.specs.declared.fault.Reason.TheVariants.{BitsEnded}
+use Rattle.bitfields.specs.declared.fault.Reason.TheVariants.{BitsEnded, ConstantDiffers}
 use Rattle.bitfields.specs.declared.field.Field.{Field}
-use Rattle.bitfields.specs.declared.field.Field.TheVariants.{Unsigned, Signed, Unary, Variable, SignedVariable, Bytes, Padding, Align}
+use Rattle.bitfields.specs.declared.field.Field.TheVariants.{Unsigned, Signed, Unary, Variable, SignedVariable, Bytes, Constant, Padding, Align}
 use Rattle.bitfields.specs.declared.field.GroupSize.{GroupSize}
 use Rattle.bitfields.specs.declared.field.GroupSize.TheVariants.{Four, Eight}
 use Rattle.bitfields.specs.declared.field_value.FieldValue.{FieldValue}
 use Rattle.bitfields.specs.declared.field_value.FieldValue.TheVariants as Value
+use Rattle.bitfields.specs.declared.field_value.ValueKind.{ValueKind}
 use Rattle.bitfields.specs.declared.field_value.ValueKind.TheVariants as Kind
 use Rattle.bitfields.specs.Fault.{fault}
 use Rattle.bitfields.specs.Layout.{IsField, group_bits}
 use Rattle.bitfields.specs.Packing.{field_word, field_write, field_writes, packed}
 use Rattle.bitfields.specs.Unpacking.{Unpacked, Unpacks, Stops, field_read, read_reason, unpacked, values_and}
-use Rattle.bitfields.specs.Value.{value_count, value_list, first_unsigned, first_signed, first_bytes, Fit, FitsField, FitsKind}
+use Rattle.bitfields.specs.Value.{kind_count, value_count, value_kind, value_list, first_unsigned, first_signed, first_bytes, Fit, FitsField, FitsKind}
 
 -- ---- a field's read call
 
@@ -61,6 +62,16 @@ align-reads o p b = elim (cases_lt (length b) (to_boundary p)) [
       rw (yes, add-zero) refl in
       chain-ok align_entry (λ _. gives (Ok None)) p b (to_boundary p) tt first ∙ same
 ]
+
+-- what a constant answers of its word
+abbrev constant_of : Order → ℕ → List Bool → Result (Result (Option FieldValue) Reason) Error
+constant_of o v w = Ok (if number o w == v then Ok None else Err ConstantDiffers)
+
+constant-reads : (o : Order) (n v p : ℕ) (b : List Bool) → n ≤ 32 → (field_read o (Constant n v)).reads p b
+    ≡ word_front n (constant_of o v) b
+constant-reads o n v p b i =
+    rw (unsigned-takes o 32 n i) ((map_takes n (number o) (λ u. if u == v then Ok None else Err ConstantDiffers)
+    (constant_of o v) (λ w len. refl)).reads p b)
 
 -- ---- the first field of some, by its read call
 
@@ -143,10 +154,10 @@ trip o f vs at e make a w is writes reads first = record {
   first = first;
 }
 
-unsigned-answers : (o : Order) (n v p : ℕ) (more : List Bool) → n ≤ 128 → v < 2 ^ n
-    → (unsigned_entry o 128 n).reads p (word o n v ++ more) ≡ Takes (length (word o n v)) (Ok v)
-unsigned-answers o n v p more le h =
-    rw (unsigned-takes o 128 n le) (word_front-some n (λ w. Ok (number o w)) (word o n v) more (length-word o n v))
+unsigned-answers : (o : Order) (size n v p : ℕ) (more : List Bool) → n ≤ size → v < 2 ^ n
+    → (unsigned_entry o size n).reads p (word o n v ++ more) ≡ Takes (length (word o n v)) (Ok v)
+unsigned-answers o size n v p more le h =
+    rw (unsigned-takes o size n le) (word_front-some n (λ w. Ok (number o w)) (word o n v) more (length-word o n v))
     ∙ ap (λ (u : ℕ). Takes n (Ok u)) (number-word o n v ∙ mod-eq_of_lt h)
     ∙ ap (λ (m : ℕ). Takes m (Ok v)) (sym (length-word o n v))
 
@@ -204,7 +215,7 @@ trips o (Unsigned n) vs at i h =
     let v = first_unsigned vs in
     let p = unsigned_first n vs h in
     trip o (Unsigned n) vs at (unsigned_entry o 128 n) Value.Unsigned v (word o n v) refl
-    (unsigned-fits o 128 n v at i.1 p.0) (λ more. unsigned-answers o n v at more i.1 p.0) p.1
+    (unsigned-fits o 128 n v at i.1 p.0) (λ more. unsigned-answers o 128 n v at more i.1 p.0) p.1
 trips o (Signed n) vs at i h =
     let x = first_signed vs in
     let p = signed_first n vs h in
@@ -232,6 +243,19 @@ trips o (Bytes n) vs at i h =
     let p = bytes_first n vs h in
     trip o (Bytes n) vs at (bytes_entry o n) Value.Bytes bytes (bits o bytes) refl refl
     (λ more. bytes-answers o n bytes at more p.0 p.1) p.2
+trips o (Constant n v) vs at i h =
+    let w = word o n v in
+    let none : Result (Option FieldValue) Reason = Ok None in
+    let same : (if v == v then none else Err ConstantDiffers) ≡ none = rw (eq-eqb v v refl) refl in
+    record {
+      word = w;
+      value = None;
+      writes = unsigned-fits o 32 n v at i.1 i.2;
+      reads = λ more. made (unsigned_entry o 32 n) (λ u. if u == v then Ok None else Err ConstantDiffers) at (length w) (w
+          ++ more) v (unsigned-answers o 32 n v at more i.1 i.2)
+          ∙ ap (λ (r : Result (Option FieldValue) Reason). Takes (length w) (Ok r)) same;
+      first = refl;
+    }
 trips o (Padding n) vs at i h =
     let w = replicate n false in
     record {
@@ -334,6 +358,7 @@ field_word-written o (Unary stop) vs at i h = refl
 field_word-written o (Variable size) vs at i h = refl
 field_word-written o (SignedVariable size) vs at i h = refl
 field_word-written o (Bytes n) vs at i h = refl
+field_word-written o (Constant n v) vs at i h = unsigned-fits o 32 n v at i.1 i.2
 field_word-written o (Padding n) vs at i h = refl
 field_word-written o Align vs at i h = refl
 
@@ -396,3 +421,66 @@ pub unpacked-few_to_align : (o : Order) (k : ℕ) (fields : List Field) (at : �
     → length b < to_boundary at → unpacked o k (Align ∷ fields) at b ≡ Stops (fault k BitsEnded)
 unpacked-few_to_align o k fields at b few = unpacked-short o k Align fields at b (align-reads o at b
     ∙ word_front-none (to_boundary at) (λ _. Ok (Ok None)) b few)
+
+pub unpacked-constant : (o : Order) (k n v : ℕ) (fields : List Field) (at : ℕ) (w rest : List Bool) → n ≤ 32
+    → length w ≡ n → number o w ≡ v
+    → unpacked o k (Constant n v ∷ fields) at (w ++ rest) ≡ unpacked o (k + 1) fields (at + n) rest
+unpacked-constant o k n v fields at w rest i size is =
+    let same : constant_of o v w ≡ Ok (Ok None) = rw (eq-eqb (number o w) v is) refl in
+    first_word o k (Constant n v) fields at n w rest (constant_of o v) None (λ b. constant-reads o n v at b i) same size
+    ∙ values_and-nil (unpacked o (k + 1) fields (at + n) rest)
+
+pub unpacked-differs : (o : Order) (k n v : ℕ) (fields : List Field) (at : ℕ) (w rest : List Bool) → n ≤ 32
+    → length w ≡ n → number o w ≢ v
+    → unpacked o k (Constant n v ∷ fields) at (w ++ rest) ≡ Stops (fault k ConstantDiffers)
+unpacked-differs o k n v fields at w rest i size other =
+    let same : constant_of o v w ≡ Ok (Err ConstantDiffers) = rw (ne_eqb (number o w) v other) refl in
+    unpacked-told o k (Constant n v) fields at n (w ++ rest) ConstantDiffers
+    (constant-reads o n v at (w ++ rest) i ∙ word_front-some n (constant_of o v) w rest size ∙ ap (Takes n) same)
+
+pub unpacked-few_for_constant : (o : Order) (k n v : ℕ) (fields : List Field) (at : ℕ) (b : List Bool) → n ≤ 32
+    → length b < n → unpacked o k (Constant n v ∷ fields) at b ≡ Stops (fault k BitsEnded)
+unpacked-few_for_constant o k n v fields at b i few =
+    unpacked-short o k (Constant n v) fields at b (constant-reads o n v at b i
+    ∙ word_front-none n (constant_of o v) b few)
+
+-- values that fit are not fewer than the field has
+fits-count : (kind : ValueKind) (vs : List FieldValue) → FitsKind kind vs → kind_count kind ≤ length vs
+fits-count Kind.Absent vs h = omega arith
+fits-count (Kind.Unsigned n) [] h = absurd h
+fits-count (Kind.Unsigned n) (v ∷ vs) h = omega arith
+fits-count (Kind.Signed n) [] h = absurd h
+fits-count (Kind.Signed n) (v ∷ vs) h = omega arith
+fits-count (Kind.Bytes n) [] h = absurd h
+fits-count (Kind.Bytes n) (v ∷ vs) h = omega arith
+
+-- the values of the first field are the first values
+first_values : (f : Field) (vs : List FieldValue) (v : Option FieldValue) → FitsField f vs
+    → vs ≡ value_list v ++ drop (value_count f) vs → value_list v ≡ take (value_count f) vs
+first_values f vs v fit first =
+    let n = value_count f in
+    let others = drop n vs in
+    let some = fits-count (value_kind f) vs fit in
+    let size : length (value_list v) ≡ n = omega (
+      arith,
+      some,
+      ap length first,
+      length-append (value_list v) others,
+      length-drop n vs,
+    )
+    in
+    sym (take-append_seam (value_list v) others) ∙ ap (λ (m : ℕ). take m (value_list v ++ others)) size
+    ∙ ap (λ (us : List FieldValue). take n us) (sym first)
+
+pub unpacked-word : (o : Order) (k : ℕ) (f : Field) (fields : List Field) (vs : List FieldValue) (at : ℕ)
+    (rest : List Bool) → IsField f → FitsField f vs
+    → unpacked o k (f ∷ fields) at (field_word o f vs at ++ rest)
+    ≡ values_and (take (value_count f) vs) (unpacked o (k + 1) fields (at + length (field_word o f vs at)) rest)
+unpacked-word o k f fields vs at rest i h =
+    let t = trips o f vs at i h in
+    let same : field_word o f vs at ≡ t.word = (let a = field_word-written o f vs at i h in let b = t.writes in cc) in
+    subst (λ (w : List Bool). unpacked o k (f ∷ fields) at (w ++ rest)
+    ≡ values_and (take (value_count f) vs) (unpacked o (k + 1) fields (at + length w) rest)) (sym same)
+    (unpacked-first o k f fields at t.word rest t.value (t.reads rest)
+    ∙ ap (λ (us : List FieldValue). values_and us (unpacked o (k + 1) fields (at + length t.word) rest))
+    (first_values f vs t.value h t.first))

@@ -4,9 +4,9 @@ use Rattle.bitstream_io.specs.Word.{High, Low, digits, digits_number, bits}
 use Rattle.bitstream_io.specs.Entry.{chain}
 use Rattle.bitstream_io.specs.ReadTable.{unsigned_entry, align_entry}
 use Rattle.bitstream_io.specs.WriteTable.{unsigned}
-use Rattle.bitfields.specs.declared.fault.Reason.TheVariants.{BitsEnded}
+use Rattle.bitfields.specs.declared.fault.Reason.TheVariants.{BitsEnded, ConstantDiffers}
 use Rattle.bitfields.specs.declared.field.Field.{Field}
-use Rattle.bitfields.specs.declared.field.Field.TheVariants.{Unsigned, Align}
+use Rattle.bitfields.specs.declared.field.Field.TheVariants.{Unsigned, Constant, Align}
 use Rattle.bitfields.specs.declared.field_value.FieldValue.{FieldValue}
 use Rattle.bitfields.specs.declared.field_value.FieldValue.TheVariants as Value
 use Rattle.bitfields.specs.Fault.{fault}
@@ -54,3 +54,17 @@ ends = refl
 aligns_at_once : unpacked Low 1 (Align ∷ []) 0 [] ≡ Unpacks [] 0
 unfolding chain align_entry
 aligns_at_once = refl
+
+constant_packs : packed High (Constant 8 177 ∷ []) [] 0 ≡ bits High (177 ∷ [])
+unfolding unsigned digits
+constant_packs = refl
+
+constant_holds : unpacked High 1 (Unsigned 2 ∷ Constant 3 6 ∷ []) 0 (bits High (177 ∷ []))
+    ≡ Unpacks (numbers (2 ∷ [])) 5
+unfolding chain unsigned_entry digits digits_number
+constant_holds = refl
+
+constant_differs : unpacked High 1 (Unsigned 2 ∷ Constant 3 5 ∷ []) 0 (bits High (177 ∷ []))
+    ≡ Stops (fault 2 ConstantDiffers)
+unfolding chain unsigned_entry digits digits_number
+constant_differs = refl

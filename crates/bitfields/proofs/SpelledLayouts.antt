@@ -1,23 +1,28 @@
 -- The text of fields spells these fields, and no other text does.
-use Rattle.std.specs.Prelude.{Bool, true, false, ◌&&◌, ◌==◌, if◌then◌else◌, nat_lt, option_map, map, All}
-use Rattle.std.specs.List.{join_with_byte, AllByRecursion}
+use Rattle.std.specs.Prelude.{Bool, true, false, ◌&&◌, ◌==◌, if◌then◌else◌, nat_lt, option_map, map, position, All}
+use Rattle.std.specs.List.{join_with_byte, position_or_len, AllByRecursion}
 use Rattle.std.specs.Fmt.{decimal}
-use Rattle.std.proofs.Common.{◌≡◌, ℕ, zero, suc, ◌+◌, ◌<◌, ◌≤◌, ◌^◌, List, [], ◌∷◌, length, Option, Some, None, Result, Ok, Err, refl, sym, ap, subst, ◌∙◌, arith, lit<}
-use Rattle.std.proofs.lemmas.Bool.{le-ltb, ltb-false, eqb-true, ne_eqb}
-use Rattle.std.proofs.lemmas.List.{length-map}
-use Rattle.std.proofs.lemmas.List.Elements.{All-cons, All-nil, recursion_from_All, All-from_recursion}
+use Rattle.std.proofs.Common.{◌≡◌, ℕ, zero, suc, not, ◌+◌, ◌-◌, ◌<◌, ◌≤◌, ◌^◌, List, [], ◌∷◌, ◌++◌, length, get_or, take, drop, Option, Some, None, Result, Ok, Err, refl, sym, ap, subst, ◌∙◌, arith, lit<, add-one, drop-cons, length-append}
+use Rattle.std.proofs.Math.Pow.{pow_mono}
+use Rattle.std.proofs.Math.Seq.{take-append_seam, drop-append-add, get_or-append_seam}
+use Rattle.std.proofs.Math.ListN.{get_or-append}
+use Rattle.std.proofs.lemmas.Bool.{le-ltb, lt-ltb, ltb-false, eqb-true, ne_eqb}
+use Rattle.std.proofs.lemmas.List.{length-map, take-append-drop}
+use Rattle.std.proofs.lemmas.List.Elements.{All-cons, All-nil, All-append, recursion_from_All, All-from_recursion}
+use Rattle.std.proofs.lemmas.List.Quantifiers.{position-Some}
+use Rattle.std.proofs.lemmas.List.Sums.{prefix_len_is}
 use Rattle.std.proofs.lemmas.List.Splits.{slice_split_none, slice_split_at, length-slice_split, join_with_byte-slice_split}
 use Rattle.bitfields.specs.declared.fault.Fault.{Fault}
 use Rattle.bitfields.specs.declared.field.Field.{Field}
 use Rattle.bitfields.specs.declared.fault.Reason.TheVariants.{TooManyFields}
 use Rattle.bitfields.specs.Fault.{fault}
-use Rattle.bitfields.specs.declared.field.Field.TheVariants.{Unsigned, Signed, Unary, Variable, SignedVariable, Bytes, Padding, Align}
+use Rattle.bitfields.specs.declared.field.Field.TheVariants.{Unsigned, Signed, Unary, Variable, SignedVariable, Bytes, Constant, Padding, Align}
 use Rattle.bitfields.specs.declared.field.GroupSize.{GroupSize}
 use Rattle.bitfields.specs.declared.field.GroupSize.TheVariants.{Four, Eight}
 use Rattle.bitstream_io.specs.Word.{digit_value}
 use Rattle.bitfields.specs.Decimal.{decimal_within}
-use Rattle.bitfields.specs.Layout.{field_after, field_of, field_and, fields_of, layout_of, group_bits, group_size, group_size_of, segments, one_more, IsField, IsLayout, field_text, layout_text}
-use Rattle.bitfields.proofs.DecimalLemmas.{decimal_within-decimal, decimal-of_within, decimal_lacks}
+use Rattle.bitfields.specs.Layout.{field_after, field_of, field_and, fields_of, layout_of, group_bits, group_size, group_size_of, constant, constant_at, constant_after, segments, one_more, IsField, IsLayout, field_text, layout_text}
+use Rattle.bitfields.proofs.DecimalLemmas.{decimal_within-decimal, decimal-of_within, decimal_lacks, decimal_lacks_above, limit_small}
 use Rattle.std.proofs.lemmas.Grind.{common_steps}
 
 abbrev lacks_comma : List ℕ → Type 0
@@ -41,6 +46,18 @@ size_small : (size : GroupSize) → (4 ≤ group_bits size) × (group_bits size 
 size_small Four = (omega arith, omega arith)
 size_small Eight = (omega arith, omega arith)
 
+-- a number of a constant's bits has few digits
+constant_small : (n v : ℕ) → n ≤ 32 → v < 2 ^ n → v < 10 ^ 64
+constant_small n v h l = omega (arith, l, limit_small n (omega arith))
+
+constant_text-lacks_comma : (n v : ℕ) → IsField (Constant n v) → lacks_comma (field_text (Constant n v))
+constant_text-lacks_comma n v h =
+    All-cons (λ b. (b == 44) ≡ false) 99 (decimal n ++ 61 ∷ decimal v) refl
+    (All-append (λ b. (b == 44) ≡ false) (decimal n) (61 ∷ decimal v)
+    (decimal_lacks 44 n (lit< tt) (small n (omega (arith, h.1))))
+    (All-cons (λ b. (b == 44) ≡ false) 61 (decimal v) refl
+    (decimal_lacks 44 v (lit< tt) (constant_small n v h.1 h.2))))
+
 field_text-lacks_comma : (f : Field) → IsField f → lacks_comma (field_text f)
 field_text-lacks_comma (Unsigned n) h = letter-lacks_comma 117 n (lit< tt) (omega (arith, h.1))
 field_text-lacks_comma (Signed n) h = letter-lacks_comma 105 n (lit< tt) (omega (arith, h.1))
@@ -51,6 +68,7 @@ field_text-lacks_comma (Variable size) h = letter-lacks_comma 118 (group_bits si
 field_text-lacks_comma (SignedVariable size) h = letter-lacks_comma 115 (group_bits size) (lit< tt)
     (omega (arith, (size_small size).1))
 field_text-lacks_comma (Bytes n) h = letter-lacks_comma 98 n (lit< tt) h.1
+field_text-lacks_comma (Constant n v) h = constant_text-lacks_comma n v h
 field_text-lacks_comma (Padding n) h = letter-lacks_comma 112 n (lit< tt) (omega (arith, h.1))
 field_text-lacks_comma Align h = All-cons (λ b. (b == 44) ≡ false) 97 [] refl (All-nil (λ b. (b == 44) ≡ false))
 
@@ -66,6 +84,33 @@ size_back : (size : GroupSize) → group_size (decimal (group_bits size)) ≡ So
 size_back Four = ap group_size_of (spelt_number 4 8 4 (omega arith) (omega arith) (omega arith))
 size_back Eight = ap group_size_of (spelt_number 4 8 8 (omega arith) (omega arith) (omega arith))
 
+-- the first `=` stands behind what has none
+first_sign : (xs ys : List ℕ) → All (λ b. (b == 61) ≡ false) xs → position (λ b. b == 61) (xs ++ 61 ∷ ys)
+    ≡ Some (length xs)
+first_sign xs ys lacks =
+    let size : length xs < length (xs ++ 61 ∷ ys) = rw length-append (omega arith) in
+    let here : position_or_len (λ b. b == 61) (xs ++ 61 ∷ ys) ≡ length xs =
+    prefix_len_is (λ b. not (b == 61)) (xs ++ 61 ∷ ys) (length xs) 0 (omega arith)
+    (λ k below. rw (get_or-append xs (61 ∷ ys) 0 k below, lacks k 0 below) refl)
+    (λ below. rw (get_or-append_seam xs 61 ys 0) refl) in
+    rw (here, lt-ltb (length xs) (length (xs ++ 61 ∷ ys)) size) refl
+
+-- what stands before the sign and behind it
+constant_parts : (xs ys : List ℕ) → All (λ b. (b == 61) ≡ false) xs → constant (xs ++ 61 ∷ ys)
+    ≡ constant_after (decimal_within 1 32 xs) ys
+constant_parts xs ys lacks =
+    ap (λ (sign : Option ℕ). constant_at sign (xs ++ 61 ∷ ys)) (first_sign xs ys lacks)
+    ∙ ap (λ (front : List ℕ). constant_after (decimal_within 1 32 front) (drop (length xs + 1) (xs ++ 61 ∷ ys)))
+    (take-append_seam xs (61 ∷ ys))
+    ∙ ap (constant_after (decimal_within 1 32 xs)) (drop-append-add xs (61 ∷ ys) 1)
+
+constant_back : (n v : ℕ) → IsField (Constant n v) → constant (decimal n ++ 61 ∷ decimal v) ≡ Some (Constant n v)
+constant_back n v h =
+    constant_parts (decimal n) (decimal v) (decimal_lacks_above 61 n (lit< tt) (small n (omega (arith, h.1))))
+    ∙ ap (λ (bits : Option ℕ). constant_after bits (decimal v)) (spelt_number 1 32 n (omega arith) h.0 h.1)
+    ∙ ap (option_map (Constant n)) (decimal_within-decimal 0 (2 ^ n - 1) v (constant_small n v h.1 h.2) (omega arith)
+    (omega (arith, h.2)))
+
 field_of-field_text : (f : Field) → IsField f → field_of (field_text f) ≡ Some f
 field_of-field_text (Unsigned n) h = ap (option_map Unsigned) (spelt_number 1 128 n (omega arith) h.0 h.1)
 field_of-field_text (Signed n) h = ap (option_map Signed) (spelt_number 1 128 n (omega arith) h.0 h.1)
@@ -75,6 +120,7 @@ field_of-field_text (Unary stop) h =
 field_of-field_text (Variable size) h = ap (option_map Variable) (size_back size)
 field_of-field_text (SignedVariable size) h = ap (option_map SignedVariable) (size_back size)
 field_of-field_text (Bytes n) h = ap (option_map Bytes) (spelt_number 1 65536 n (omega arith) h.0 h.1)
+field_of-field_text (Constant n v) h = constant_back n v h
 field_of-field_text (Padding n) h = ap (option_map Padding) (spelt_number 1 4096 n (omega arith) h.0 h.1)
 field_of-field_text Align h = refl
 
@@ -146,6 +192,45 @@ size_spelt {P = P} rest (Some n) make f e h found =
         let written = (decimal-of_within 4 8 n rest (lit< tt) e).2 in
         found size (ap decimal (size_by (n == 4) (n == 8) n size refl refl is) ∙ written) same
 
+-- a constant that is spelt is the one that is written
+constant_after_spelt : {P : Type 0} (front back : List ℕ) (n : ℕ) (number : Option ℕ) (f : Field)
+    → decimal_within 1 32 front ≡ Some n → decimal_within 0 (2 ^ n - 1) back ≡ number
+    → option_map (Constant n) number ≡ Some f
+    → ((n v : ℕ) → IsField (Constant n v) → decimal n ++ 61 ∷ decimal v ≡ front ++ 61 ∷ back → Constant n v ≡ f → P) → P
+constant_after_spelt front back n None f e d h found = absurd (cc)
+constant_after_spelt front back n (Some v) f e d h found =
+    let p = decimal-of_within 1 32 n front (lit< tt) e in
+    let some : 1 ≤ n = p.0 in
+    let few : n ≤ 32 = p.1 in
+    let top = limit_small n (omega arith) in
+    let q = decimal-of_within 0 (2 ^ n - 1) v back (omega arith) d in
+    let most = q.1 in
+    let least : 0 ≤ n = omega arith in
+    let some_number : 2 ^ 0 ≤ 2 ^ n = pow_mono least in
+    let same : Constant n v ≡ f = cc in
+    found n v (some, few, omega arith) (ap (λ t. t ++ 61 ∷ decimal v) p.2 ∙ ap (λ t. front ++ 61 ∷ t) q.2) same
+
+constant_bits_spelt : {P : Type 0} (front back : List ℕ) (bits : Option ℕ) (f : Field) → decimal_within 1 32 front ≡ bits
+    → constant_after bits back ≡ Some f
+    → ((n v : ℕ) → IsField (Constant n v) → decimal n ++ 61 ∷ decimal v ≡ front ++ 61 ∷ back → Constant n v ≡ f → P) → P
+constant_bits_spelt front back None f e h found = absurd (cc)
+constant_bits_spelt front back (Some n) f e h found =
+    constant_after_spelt front back n (decimal_within 0 (2 ^ n - 1) back) f e refl h found
+
+constant_spelt : {P : Type 0} (rest : List ℕ) (sign : Option ℕ) (f : Field) → position (λ b. b == 61) rest ≡ sign
+    → constant_at sign rest ≡ Some f
+    → ((n v : ℕ) → IsField (Constant n v) → decimal n ++ 61 ∷ decimal v ≡ rest → Constant n v ≡ f → P) → P
+constant_spelt rest None f e h found = absurd (cc)
+constant_spelt rest (Some sign) f e h found =
+    let p = position-Some (λ b. b == 61) rest sign 0 e in
+    let cut : drop sign rest ≡ get_or rest sign 0 ∷ drop (sign + 1) rest = rw add-one (drop-cons rest sign 0 p.0) in
+    let here : get_or rest sign 0 ≡ 61 = eqb-true (get_or rest sign 0) 61 p.1 in
+    let whole : take sign rest ++ 61 ∷ drop (sign + 1) rest ≡ rest =
+    ap (λ b. take sign rest ++ b ∷ drop (sign + 1) rest) (sym here) ∙ ap (λ t. take sign rest ++ t) (sym cut)
+    ∙ take-append-drop sign rest in
+    constant_bits_spelt (take sign rest) (drop (sign + 1) rest) (decimal_within 1 32 (take sign rest)) f refl h
+    (λ n v range spells same. found n v range (spells ∙ whole) same)
+
 -- a letter, if it is this one, decides the field; else the letters that follow do
 by_letter : {P : Type 0} (is : Bool) (letter c : ℕ) (x y : Option Field) (f : Field) → (letter == c) ≡ is
     → (letter ≡ c → x ≡ Some f → P) → (y ≡ Some f → P) → (if is then x else y) ≡ Some f → P
@@ -193,10 +278,14 @@ letter_spelt letter rest f h =
     (by_letter (letter == 98) letter 98 _ _ f refl
     (λ is k. number_spelt 1 65536 rest (decimal_within 1 65536 rest) Bytes f (omega arith) refl k
     (λ n some most spells same. written letter 98 rest (decimal n) (Bytes n) f is same (some, most) refl spells))
+    (by_letter (letter == 99) letter 99 _ _ f refl
+    (λ is k. constant_spelt rest (position (λ b. b == 61) rest) f refl k
+    (λ n v range spells same. written letter 99 rest (decimal n ++ 61 ∷ decimal v) (Constant n v) f is same range refl
+    spells))
     (by_letter (letter == 112) letter 112 _ _ f refl
     (λ is k. number_spelt 1 4096 rest (decimal_within 1 4096 rest) Padding f (omega arith) refl k
     (λ n some most spells same. written letter 112 rest (decimal n) (Padding n) f is same (some, most) refl spells))
-    (align_spelt (letter == 97 && (length rest == 0)) letter rest f refl))))))) h
+    (align_spelt (letter == 97 && (length rest == 0)) letter rest f refl)))))))) h
 
 -- a field that is spelt is in range, and written as its segment
 pub segment_spelt : (segment : List ℕ) (f : Field) → field_of segment ≡ Some f → IsSpelt segment f

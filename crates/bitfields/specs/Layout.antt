@@ -1,11 +1,11 @@
 -- Layouts: the fields that a text spells.
-use Rattle.std.specs.Prelude.{ℕ, ◌+◌, ◌≡◌, ◌≤◌, ◌⊎◌, ◌==◌, ◌&&◌, if◌then◌else◌, List, [], ◌∷◌, length, map, option_map, Option, Some, None, Result, Ok, Err, nat_lt, All}
+use Rattle.std.specs.Prelude.{ℕ, ◌+◌, ◌-◌, ◌^◌, ◌<◌, ◌≡◌, ◌≤◌, ◌⊎◌, ◌==◌, ◌&&◌, if◌then◌else◌, List, [], ◌∷◌, ◌++◌, length, take, drop, position, map, option_map, Option, Some, None, Result, Ok, Err, nat_lt, All}
 use Rattle.std.specs.List.{slice_split, join_with_byte}
 use Rattle.std.specs.Fmt.{decimal}
 use Rattle.bitfields.specs.declared.fault.Reason.TheVariants.{TooManyFields, BadLayout, OutOfMemory}
 use Rattle.bitfields.specs.declared.fault.Fault.{Fault}
 use Rattle.bitfields.specs.declared.field.Field.{Field}
-use Rattle.bitfields.specs.declared.field.Field.TheVariants.{Unsigned, Signed, Unary, Variable, SignedVariable, Bytes, Padding, Align}
+use Rattle.bitfields.specs.declared.field.Field.TheVariants.{Unsigned, Signed, Unary, Variable, SignedVariable, Bytes, Constant, Padding, Align}
 use Rattle.bitfields.specs.declared.field.GroupSize.{GroupSize}
 use Rattle.bitfields.specs.declared.field.GroupSize.TheVariants.{Four, Eight}
 use Rattle.bitstream_io.specs.Word.{digit_value}
@@ -21,7 +21,21 @@ group_size_of (Some n) = if n == 4 then Some Four else if n == 8 then Some Eight
 abbrev pub group_size : List ℕ → Option GroupSize
 group_size text = group_size_of (decimal_within 4 8 text)
 
--- the field of a letter (u, i, n, v, s, b, p, a) and of what follows it
+-- the constant of this many bits whose number a text spells
+abbrev pub constant_after : Option ℕ → List ℕ → Option Field
+constant_after None text = None
+constant_after (Some n) text = option_map (Constant n) (decimal_within 0 (2 ^ n - 1) text)
+
+-- the constant that a text spells whose `=` stands at this place
+abbrev pub constant_at : Option ℕ → List ℕ → Option Field
+constant_at None text = None
+constant_at (Some sign) text = constant_after (decimal_within 1 32 (take sign text)) (drop (sign + 1) text)
+
+-- the constant that a text spells: its number of bits, `=`, and a number that fits them
+abbrev pub constant : List ℕ → Option Field
+constant text = constant_at (position (λ b. b == 61) text) text
+
+-- the field of a letter (u, i, n, v, s, b, c, p, a) and of what follows it
 abbrev pub field_after : ℕ → List ℕ → Option Field
 field_after letter rest =
     if letter == 117 then option_map Unsigned (decimal_within 1 128 rest)
@@ -30,6 +44,7 @@ field_after letter rest =
     else if letter == 118 then option_map Variable (group_size rest)
     else if letter == 115 then option_map SignedVariable (group_size rest)
     else if letter == 98 then option_map Bytes (decimal_within 1 65536 rest)
+    else if letter == 99 then constant rest
     else if letter == 112 then option_map Padding (decimal_within 1 4096 rest)
     else if (letter == 97 && (length rest == 0)) then Some Align
     else None
@@ -72,6 +87,7 @@ abbrev pub IsField : Field → Type 0
 IsField (Unsigned n) = (1 ≤ n) × (n ≤ 128)
 IsField (Signed n) = (1 ≤ n) × (n ≤ 128)
 IsField (Bytes n) = (1 ≤ n) × (n ≤ 65536)
+IsField (Constant n v) = (1 ≤ n) × (n ≤ 32) × (v < 2 ^ n)
 IsField (Padding n) = (1 ≤ n) × (n ≤ 4096)
 IsField field = Unit {0}
 
@@ -86,7 +102,7 @@ abbrev pub group_bits : GroupSize → ℕ
 group_bits Four = 4
 group_bits Eight = 8
 
--- how a field is written: its letter, and its number if it has one
+-- how a field is written: its letter, and its number if it has one; a constant has two, with `=` between them
 abbrev pub field_text : Field → List ℕ
 field_text (Unsigned n) = 117 ∷ decimal n
 field_text (Signed n) = 105 ∷ decimal n
@@ -94,6 +110,7 @@ field_text (Unary stop) = 110 ∷ decimal (digit_value stop)
 field_text (Variable size) = 118 ∷ decimal (group_bits size)
 field_text (SignedVariable size) = 115 ∷ decimal (group_bits size)
 field_text (Bytes n) = 98 ∷ decimal n
+field_text (Constant n v) = 99 ∷ decimal n ++ 61 ∷ decimal v
 field_text (Padding n) = 112 ∷ decimal n
 field_text Align = 97 ∷ []
 

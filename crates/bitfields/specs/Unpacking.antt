@@ -1,5 +1,5 @@
 -- Unpacking: the values that bits hold for fields.
-use Rattle.std.specs.Prelude.{◌≡◌, ◌⊎◌, ◌<◌, ◌≤◌, ◌*◌, ◌^◌, Result, Ok, Err, Option, Some, None, ℕ, ◌+◌, Bool, true, false, List, [], ◌∷◌, ◌++◌, length, map}
+use Rattle.std.specs.Prelude.{◌≡◌, ◌⊎◌, ◌<◌, ◌≤◌, ◌*◌, ◌^◌, Result, Ok, Err, Option, Some, None, ℕ, ◌+◌, ◌==◌, if◌then◌else◌, Bool, true, false, List, [], ◌∷◌, ◌++◌, length, map}
 use Rattle.std.specs.Io.KnownBytes.{Consumes}
 use Rattle.bitstream_io.specs.Word.{Order, bits}
 use Rattle.bitstream_io.specs.Error.{Error}
@@ -12,10 +12,10 @@ use Rattle.bitstream_io.specs.Refusal.{Refusal, IsTrueEnd}
 use Rattle.bitstream_io.specs.Reads.{BitSource}
 use Rattle.bitstream_io.specs.Own.{ReadsOwn}
 use Rattle.bitfields.specs.declared.fault.Reason.{Reason}
-use Rattle.bitfields.specs.declared.fault.Reason.TheVariants.{BitsEnded, LimitPassed, StreamFault, OutOfMemory}
+use Rattle.bitfields.specs.declared.fault.Reason.TheVariants.{BitsEnded, ConstantDiffers, LimitPassed, StreamFault, OutOfMemory}
 use Rattle.bitfields.specs.declared.fault.Fault.{Fault}
 use Rattle.bitfields.specs.declared.field.Field.{Field}
-use Rattle.bitfields.specs.declared.field.Field.TheVariants.{Unsigned, Signed, Unary, Variable, SignedVariable, Bytes, Padding, Align}
+use Rattle.bitfields.specs.declared.field.Field.TheVariants.{Unsigned, Signed, Unary, Variable, SignedVariable, Bytes, Constant, Padding, Align}
 use Rattle.bitfields.specs.declared.field_value.FieldValue.{FieldValue}
 use Rattle.bitfields.specs.declared.field_value.FieldValue.TheVariants as Value
 use Rattle.bitfields.specs.Fault.{fault}
@@ -54,6 +54,8 @@ field_read o (Variable size) = chain (vbr_entry o (group_bits size) 64 (2 ^ 64))
 field_read o (SignedVariable size) = chain (signed_vbr_entry o (group_bits size) 64)
     (λ x. gives (Ok (Some (Value.Signed x))))
 field_read o (Bytes n) = chain (bytes_entry o n) (λ bytes. gives (Ok (Some (Value.Bytes bytes))))
+field_read o (Constant n v) = chain (unsigned_entry o 32 n)
+    (λ u. gives (if u == v then Ok None else Err ConstantDiffers))
 field_read o (Padding n) = chain (skip_entry n) (λ _. gives (Ok None))
 field_read o Align = chain align_entry (λ _. gives (Ok None))
 

@@ -1,7 +1,7 @@
 //! The fields of a layout, and the segments of text that spell them.
 
-ghost use Rattle.std.specs.Prelude.{◌≡◌};
-ghost use Rattle.bitfields.specs.Layout.{field_of, group_size as group_size_of};
+ghost use Rattle.std.specs.Prelude.{◌≡◌, ◌==◌, ◌-◌, ◌^◌, ◌≤◌, position};
+ghost use Rattle.bitfields.specs.Layout.{constant as constant_of, field_of, group_size as group_size_of};
 
 use crate::decimal::decimal_between;
 
@@ -20,6 +20,9 @@ pub enum Field {
     SignedVariable(GroupSize),
     /// `bN`: N bytes.
     Bytes(u32),
+    /// `cN=V`: the unsigned number V in N bits. It has no value. Bits that hold another number are
+    /// an error.
+    Constant { bits: u32, value: u32 },
     /// `pN`: N zeros. Any N bits are read for it.
     Padding(u32),
     /// `a`: zeros up to the next byte boundary.
@@ -47,6 +50,7 @@ pub fn parse_field(segment: &[u8]) -> Option<Field>
         b'v' => group_size(rest).map(Field::Variable),
         b's' => group_size(rest).map(Field::SignedVariable),
         b'b' => decimal_between(1, 65536, rest).map(Field::Bytes),
+        b'c' => constant(rest),
         b'p' => decimal_between(1, 4096, rest).map(Field::Padding),
         b'a' if rest.is_empty() => Some(Field::Align),
         _ => None,
@@ -62,4 +66,31 @@ fn group_size(text: &[u8]) -> Option<GroupSize>
         Some(8) => Some(GroupSize::Eight),
         _ => None,
     }
+}
+
+/// Returns the constant that a text spells, if it spells one: its number of bits, `=`, and a number
+/// that fits them.
+fn constant(text: &[u8]) -> Option<Field>
+    ensures { result ≡ constant_of text.now }
+{
+    let sign = sign_at(text)?;
+    let bits = decimal_between(1, 32, &text[..sign])?;
+    let value = decimal_between(0, greatest(bits), &text[sign + 1..])?;
+    Some(Field::Constant { bits, value })
+}
+
+/// Returns the place of the first `=`.
+fn sign_at(text: &[u8]) -> Option<usize>
+    ensures { result ≡ position (λ b. b == 61) text.now }
+{
+    text.iter().position(|byte| *byte == b'=')
+}
+
+/// Returns the greatest number of this many bits.
+fn greatest(bits: u32) -> u32
+    requires some { 1 ≤ bits }
+    requires most { bits ≤ 32 }
+    ensures { result ≡ 2 ^ bits - 1 }
+{
+    u32::MAX >> (32 - bits)
 }

@@ -95,7 +95,7 @@ pub fn value_kind(field: Field) -> ValueKind
         Field::Variable(_) => ValueKind::Unsigned(64),
         Field::SignedVariable(_) => ValueKind::Signed(64),
         Field::Bytes(count) => ValueKind::Bytes(count),
-        Field::Padding(_) | Field::Align => ValueKind::Absent,
+        Field::Constant { .. } | Field::Padding(_) | Field::Align => ValueKind::Absent,
     }
 }
 

@@ -1,16 +1,18 @@
 //! Laws of layouts and values, whatever parses or packs them.
 
-ghost use Rattle.std.specs.Prelude.{◌≡◌, ◌++◌, ◌+◌, ◌^◌, ◌<◌, ◌≤◌, ℕ, Bool, false, List, [], ◌∷◌, length, drop, map, replicate, None, Ok};
+ghost use Rattle.std.specs.Prelude.{◌≡◌, ◌≢◌, ◌++◌, ◌+◌, ◌^◌, ◌<◌, ◌≤◌, ℕ, Bool, false, List, [], ◌∷◌, length, take, drop, map, replicate, Option, None, Ok, Err};
 ghost use Rattle.std.specs.List.{All};
 ghost use Rattle.bitstream_io.specs.Word.{Order, bits, word, number};
 ghost use Rattle.bitstream_io.specs.Alignment.{to_boundary};
+ghost use Rattle.bitstream_io.specs.Entry.{TooFew, Takes};
+ghost use Rattle.bitstream_io.specs.Error.{Error};
 ghost use Rattle.bitstream_io.specs.Run.{write_run, write_refusals, read_run};
 ghost use Rattle.bitstream_io.specs.WriteTable.{align};
 ghost use Rattle.bitfields.specs.Fault.{fault};
 ghost use Rattle.bitfields.specs.Layout.{layout_of, layout_text, IsField, IsLayout};
 ghost use Rattle.bitfields.specs.Packing.{packed, field_word, field_writes};
-ghost use Rattle.bitfields.specs.Unpacking.{unpacked, Unpacks, Stops, values_and, field_read, answered};
-ghost use Rattle.bitfields.specs.Value.{lines, values, printed_lines, ended_lines, value_count, Fit, FitsField};
+ghost use Rattle.bitfields.specs.Unpacking.{unpacked, Unpacks, Stops, values_and, field_read, read_reason, answered};
+ghost use Rattle.bitfields.specs.Value.{lines, values, printed_lines, ended_lines, value_count, value_list, Fit, FitsField};
 
 use crate::fault::Reason;
 use crate::field::Field;
@@ -84,9 +86,28 @@ pub fn packing_goes_by_fields()
     ensures end { (o : Order) (at : ℕ) → packed o [] [] at ≡ replicate (to_boundary at) false }
 {}
 
-/// A field's number is that of its word. The bits of an alignment say nothing. If a field has too
-/// few bits left, the bits ended.
+/// A field's value is that of its word, which its read call finds. If the call finds no value, its
+/// error or its own reason is the fault, and if it has too few bits left, the bits ended. A field's
+/// number is that of its word. The bits of an alignment say nothing. Those of a constant must hold
+/// its number.
 pub fn unpacking_goes_by_fields()
+    ensures word { (o : Order) (k : ℕ) (f : Field) (fields : List Field) (vs : List FieldValue) (at : ℕ)
+        (rest : List Bool) → IsField f → FitsField f vs → (let written = field_word o f vs at in
+        unpacked o k (f ∷ fields) at (written ++ rest)
+        ≡ values_and (take (value_count f) vs) (unpacked o (k + 1) fields (at + length written) rest)) }
+    ensures value { (o : Order) (k : ℕ) (f : Field) (fields : List Field) (at : ℕ) (w rest : List Bool)
+        (v : Option FieldValue) → (field_read o f).reads at (w ++ rest) ≡ Takes (length w) (Ok (Ok v))
+        → unpacked o k (f ∷ fields) at (w ++ rest)
+        ≡ values_and (value_list v) (unpacked o (k + 1) fields (at + length w) rest) }
+    ensures reason { (o : Order) (k : ℕ) (f : Field) (fields : List Field) (at n : ℕ) (bits : List Bool)
+        (why : Reason) → (field_read o f).reads at bits ≡ Takes n (Ok (Err why))
+        → unpacked o k (f ∷ fields) at bits ≡ Stops (fault k why) }
+    ensures error { (o : Order) (k : ℕ) (f : Field) (fields : List Field) (at n : ℕ) (bits : List Bool)
+        (e : Error) → (field_read o f).reads at bits ≡ Takes n (Err e)
+        → unpacked o k (f ∷ fields) at bits ≡ Stops (fault k (read_reason e)) }
+    ensures too_few { (o : Order) (k : ℕ) (f : Field) (fields : List Field) (at : ℕ) (bits : List Bool)
+        → (field_read o f).reads at bits ≡ TooFew
+        → unpacked o k (f ∷ fields) at bits ≡ Stops (fault k Reason.BitsEnded) }
     ensures number { (o : Order) (k n : ℕ) (fields : List Field) (at : ℕ) (w rest : List Bool)
         → n ≤ 128 → length w ≡ n
         → unpacked o k (Field.Unsigned n ∷ fields) at (w ++ rest)
@@ -95,10 +116,19 @@ pub fn unpacking_goes_by_fields()
         → length w ≡ to_boundary at
         → unpacked o k (Field.Align ∷ fields) at (w ++ rest)
         ≡ unpacked o (k + 1) fields (at + to_boundary at) rest }
+    ensures constant { (o : Order) (k n v : ℕ) (fields : List Field) (at : ℕ) (w rest : List Bool)
+        → n ≤ 32 → length w ≡ n → number o w ≡ v
+        → unpacked o k (Field.Constant n v ∷ fields) at (w ++ rest) ≡ unpacked o (k + 1) fields (at + n) rest }
+    ensures constant_differs { (o : Order) (k n v : ℕ) (fields : List Field) (at : ℕ) (w rest : List Bool)
+        → n ≤ 32 → length w ≡ n → number o w ≢ v
+        → unpacked o k (Field.Constant n v ∷ fields) at (w ++ rest) ≡ Stops (fault k Reason.ConstantDiffers) }
     ensures few { (o : Order) (k n : ℕ) (fields : List Field) (at : ℕ) (bits : List Bool)
         → n ≤ 128 → length bits < n
         → unpacked o k (Field.Unsigned n ∷ fields) at bits ≡ Stops (fault k Reason.BitsEnded) }
     ensures few_to_align { (o : Order) (k : ℕ) (fields : List Field) (at : ℕ) (bits : List Bool)
         → length bits < to_boundary at
         → unpacked o k (Field.Align ∷ fields) at bits ≡ Stops (fault k Reason.BitsEnded) }
+    ensures few_for_constant { (o : Order) (k n v : ℕ) (fields : List Field) (at : ℕ) (bits : List Bool)
+        → n ≤ 32 → length bits < n
+        → unpacked o k (Field.Constant n v ∷ fields) at bits ≡ Stops (fault k Reason.BitsEnded) }
 {}

@@ -99,6 +99,7 @@ fn append_field<W: BitWrite>(
             append_signed_groups(size, first_signed(64, values), writer)
         }
         Field::Bytes(count) => writer.write_bytes(first_bytes(count, values)),
+        Field::Constant { bits, value } => writer.write_unsigned_var(bits, value),
         Field::Padding(bits) => writer.pad(bits),
         Field::Align => writer.byte_align(),
     }

@@ -250,6 +250,33 @@ const BYTES: [Row; 28] = [
     Row("pack be b2", b"1 2\n3", b"", "0: value left over", 3),
 ];
 
+/// Constants: no line says their number, and other bits are a fault.
+const CONSTANTS: [Row; 23] = [
+    Row("unpack be u2,c3=5", &[0xb1], b"", "2: constant differs", 4),
+    Row("unpack be u2,c3=6", &[0xb1], b"2\n", "", 0),
+    Row("unpack le c3=1,u5", &[0xb1], b"22\n", "", 0),
+    Row("unpack be c3=4,u9", &[0xb1], b"", "1: constant differs", 4),
+    Row("unpack be c3=5,u9", &[0xb1], b"", "2: bits ended", 4),
+    Row("unpack be c9=1", &[0xb1], b"", "1: bits ended", 4),
+    Row("unpack le c32=4294967295", &[0xff; 4], b"", "", 0),
+    Row("pack be c8=177", b"", &[0xb1], "", 0),
+    Row("pack be c8=177", b"177\n", b"", "0: value left over", 3),
+    Row("pack be u3,c7=85,i6", b"5\n-2\n", &[0xb5, 0x7e], "", 0),
+    Row("unpack be u3,c7=85,i6", &[0xb5, 0x7e], b"5\n-2\n", "", 0),
+    Row("pack le u3,c7=85,i6", b"5\n-2\n", &[0xad, 0xfa], "", 0),
+    Row("unpack le u3,c7=85,i6", &[0xad, 0xfa], b"5\n-2\n", "", 0),
+    Row("unpack be c33=0", b"", b"", "1: bad layout", 2),
+    Row("unpack be c32=4294967296", b"", b"", "1: bad layout", 2),
+    Row("unpack be c2=4", b"", b"", "1: bad layout", 2),
+    Row("unpack be c0=0", b"", b"", "1: bad layout", 2),
+    Row("unpack be c3=05", b"", b"", "1: bad layout", 2),
+    Row("unpack be c03=5", b"", b"", "1: bad layout", 2),
+    Row("unpack be c3=5=5", b"", b"", "1: bad layout", 2),
+    Row("unpack be c3=", b"", b"", "1: bad layout", 2),
+    Row("unpack be c=3", b"", b"", "1: bad layout", 2),
+    Row("unpack be c3", b"", b"", "1: bad layout", 2),
+];
+
 /// Which request of each stream is refused, if any: the first is 0. Each later one is served again.
 #[derive(Clone, Copy, Drop)]
 struct Refused {
@@ -374,6 +401,14 @@ fn r09_headline(rt: HostRuntime) -> Result<(), Fail> {
 fn bytes_have_one_line(rt: HostRuntime) -> Result<(), Fail> {
     for row in &BYTES {
         assert!(rt; is_right(rt.alloc(), row)?, "{} of {:?}", row.0, row.1);
+    }
+    Ok(())
+}
+
+#[test]
+fn constants(rt: HostRuntime) -> Result<(), Fail> {
+    for row in &CONSTANTS {
+        assert!(rt; is_right(rt.alloc(), row)?, "{}", row.0);
     }
     Ok(())
 }

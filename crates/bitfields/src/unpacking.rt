@@ -1,6 +1,6 @@
 //! Unpacking: the lines of the values that bits hold for the fields of a layout.
 
-ghost use Rattle.std.specs.Prelude.{◌≡◌, ◌++◌, ◌^◌, ℕ, List, Some, true, length, string_bytes, IfOk, IsErr, IsSome, OnOk};
+ghost use Rattle.std.specs.Prelude.{◌≡◌, ◌++◌, ◌^◌, ℕ, List, Some, true, length, string_bytes, IfOk, IsErr, IsSome, OnOk, None, Ok, Err, if◌then◌else◌};
 ghost use Rattle.bitstream_io.specs.Gather.{seen};
 ghost use Rattle.bitstream_io.specs.Refusal.{MayRefuse, TrueEnds};
 ghost use Rattle.bitstream_io.specs.ReadTable.{unary_entry, vbr_entry, signed_vbr_entry};
@@ -23,11 +23,11 @@ use std::alloc::{AllocError, Global};
 ///
 /// # Errors
 ///
-/// `BitsEnded` at the first field whose bits are not all there, `LimitPassed` at the first whose
-/// number passes its limit, `StreamFault` or `OutOfMemory` at
-/// the field for which the stream refused a request, `OutOfMemory` at the field for whose bytes or
-/// line memory was refused. If each refusal of the stream is a true end, as of a `Slice`, the bits alone
-/// decide the answer, memory aside.
+/// `BitsEnded` at the first field whose bits are not all there, `ConstantDiffers` at the first
+/// constant whose bits hold another number, `LimitPassed` at the first whose number passes its
+/// limit, `StreamFault` or `OutOfMemory` at the field for which the stream refused a request,
+/// `OutOfMemory` at the field for whose bytes or line memory was refused. If each refusal of the
+/// stream is a true end, as of a `Slice`, the bits alone decide the answer, memory aside.
 pub fn unpack<E: Endianness, R: Source>(
     alloc: Global,
     layout: &Layout,
@@ -49,8 +49,8 @@ pub fn unpack<E: Endianness, R: Source>(
 ///
 /// # Errors
 ///
-/// At the first field whose call answers an error, or for whose bytes or line memory is refused. No
-/// call is made after it.
+/// At the first field whose call answers an error, at the first constant whose bits hold another
+/// number, or at the first field for whose bytes or line memory is refused. No call is made after it.
 pub fn unpack_from<R: BitRead>(
     alloc: Global,
     fields: &[Field],
@@ -76,6 +76,11 @@ pub fn unpack_from<R: BitRead>(
 }
 
 /// Reads a field: its value, if it has one. The room is for its bytes.
+///
+/// # Errors
+///
+/// `ConstantDiffers` if the bits of a constant hold another number, whose bits are taken then. Else
+/// the reason for the reader's error.
 fn unpack_field<R: BitRead>(
     field: Field,
     mut room: Vec<u8>,
@@ -108,6 +113,10 @@ fn unpack_field<R: BitRead>(
         Field::Bytes(_) => {
             reader.read_bytes(room.as_mut_slice())?;
             Ok(Some(FieldValue::Bytes(ByteList::new(room))))
+        }
+        Field::Constant { bits, value } => {
+            let held: u32 = reader.read_unsigned_var(bits)?;
+            no_value_if(held == value)
         }
         Field::Padding(bits) => {
             reader.skip(bits)?;
@@ -164,6 +173,17 @@ fn room_for(alloc: Global, field: Field) -> Result<Vec<u8>, AllocError>
     match field {
         Field::Bytes(count) => vec![in alloc; 0; count as usize],
         _ => Ok(Vec::new(alloc)),
+    }
+}
+
+/// Returns no value, or `ConstantDiffers` if the bits of a constant hold another number.
+fn no_value_if(same: bool) -> Result<Option<FieldValue>, Reason>
+    ensures { result ≡ (if same then Ok None else Err Reason.ConstantDiffers) }
+{
+    if same {
+        Ok(None)
+    } else {
+        Err(Reason::ConstantDiffers)
     }
 }
 

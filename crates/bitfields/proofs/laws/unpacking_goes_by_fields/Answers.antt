@@ -1,5 +1,20 @@
-use Rattle.bitfields.proofs.FieldCalls.{unpacked-number, unpacked-align, unpacked-few, unpacked-few_to_align}
+use Rattle.bitfields.proofs.FieldCalls.{unpacked-word, unpacked-first, unpacked-told, unpacked-refused, unpacked-short, unpacked-number, unpacked-align, unpacked-constant, unpacked-differs, unpacked-few, unpacked-few_to_align, unpacked-few_for_constant}
 use Rattle.bitfields.proofs.laws.unpacking_goes_by_fields.Goals as goal
+
+pub returns-clause-word : goal.returns-clause-word
+returns-clause-word c = unpacked-word
+
+pub returns-clause-value : goal.returns-clause-value
+returns-clause-value c = unpacked-first
+
+pub returns-clause-reason : goal.returns-clause-reason
+returns-clause-reason c = unpacked-told
+
+pub returns-clause-error : goal.returns-clause-error
+returns-clause-error c = unpacked-refused
+
+pub returns-clause-too_few : goal.returns-clause-too_few
+returns-clause-too_few c = unpacked-short
 
 pub returns-clause-number : goal.returns-clause-number
 returns-clause-number c = unpacked-number
@@ -7,8 +22,17 @@ returns-clause-number c = unpacked-number
 pub returns-clause-align : goal.returns-clause-align
 returns-clause-align c = unpacked-align
 
+pub returns-clause-constant : goal.returns-clause-constant
+returns-clause-constant c = unpacked-constant
+
+pub returns-clause-constant_differs : goal.returns-clause-constant_differs
+returns-clause-constant_differs c = unpacked-differs
+
 pub returns-clause-few : goal.returns-clause-few
 returns-clause-few c = unpacked-few
 
 pub returns-clause-few_to_align : goal.returns-clause-few_to_align
 returns-clause-few_to_align c = unpacked-few_to_align
+
+pub returns-clause-few_for_constant : goal.returns-clause-few_for_constant
+returns-clause-few_for_constant c = unpacked-few_for_constant

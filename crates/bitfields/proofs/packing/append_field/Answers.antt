@@ -29,6 +29,9 @@ returns-in-SignedVariable g c =
       c.first_signed-in-SignedVariable.ensures.first,
     ) at c.append_signed_groups.ensures)
 
+pub returns-in-Constant : goal.returns-in-Constant
+returns-in-Constant g c = rw c.in-Constant.is c.write_unsigned_var-in-Constant.ensures.writes
+
 pub returns-in-Padding : goal.returns-in-Padding
 returns-in-Padding g c = rw c.in-Padding.is c.pad.ensures.writes
 

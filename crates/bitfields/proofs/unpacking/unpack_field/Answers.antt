@@ -1,5 +1,6 @@
 use borrow.Author.Rules.{sfits_of}
-use Rattle.std.proofs.Common.{rules, ◌≡◌, ◌∙◌, SFits, to_z, of_z, Result, Ok, Err, Some, None, refl, length, arith}
+use Rattle.std.proofs.Common.{rules, ℕ, ◌≡◌, ◌∙◌, SFits, to_z, of_z, Option, Result, Ok, Err, Some, None, refl, length, arith}
+use Rattle.std.specs.Prelude.{◌==◌, if◌then◌else◌}
 use Rattle.std.specs.Int.{w64, w128}
 use Rattle.std.specs.Result.{IsErrAnd}
 use Rattle.std.proofs.lemmas.Grind.{common_steps}
@@ -10,6 +11,8 @@ use Rattle.bitstream_io.specs.Own.{ReadsOwn}
 use Rattle.bitstream_io.specs.Reads.{BitSource, Reads}
 use Rattle.bitstream_io.proofs.ReadsLemmas.{Reads-chain-ok, Reads-chain-err, Reads-gives}
 use Rattle.bitfields.specs.declared.fault.Reason.{Reason}
+use Rattle.bitfields.specs.declared.fault.Reason.TheVariants.{ConstantDiffers}
+use Rattle.bitfields.specs.declared.field_value.FieldValue.{FieldValue}
 use Rattle.bitfields.specs.declared.field_value.FieldValue.TheVariants as Value
 use Rattle.bitfields.specs.Unpacking.{IsReadReason}
 use Rattle.bitfields.proofs.unpacking.unpack_field.Goals as goal
@@ -26,6 +29,10 @@ module _ {R A B : Type 0} {K : BitSource R} {e : ReadEntry A} (f : A → Result 
   stops : {x : Error} {r : Result B Reason} → IsErrAnd r (IsReadReason x) → Reads K e s (Err x) t
       → ReadsOwn K IsReadReason (chain e (λ v. gives (f v))) s r t
   stops {x = x} is h = record { plain = Err x; called = Reads-chain-err e (λ v. gives (f v)) h; answer = is }
+
+-- what a constant answers of a number
+constant_of : ℕ → ℕ → Result (Option FieldValue) Reason
+constant_of v u = if u == v then Ok None else Err ConstantDiffers
 
 pub returns-in_err-value-in-Unsigned : goal.returns-in_err-value-in-Unsigned
 returns-in_err-value-in-Unsigned g c =
@@ -90,6 +97,18 @@ returns-in_ok-read_bytes-in-Bytes g c =
     let bytes : c.new.result ≡ c.read_bytes.new.buf = grind (arith, common_steps) in
     rw (c.in-Bytes.is, bytes) (answers (λ bytes. Ok (Some (Value.Bytes bytes)))
     (rw size at c.in_ok-read_bytes-in-Bytes.ensures.reads))
+
+pub returns-in_err-held-in-Constant : goal.returns-in_err-held-in-Constant
+unfolding constant_of
+returns-in_err-held-in-Constant g c =
+    rw c.in-Constant.is (stops (constant_of c.in-Constant.value) c.from_residual-in_err-held-in-Constant.ensures.1
+    c.in_err-held-in-Constant.ensures.reads)
+
+pub returns-in_ok-held-in-Constant : goal.returns-in_ok-held-in-Constant
+unfolding constant_of
+returns-in_ok-held-in-Constant g c =
+    rw (c.in-Constant.is, c.no_value_if.ensures) (answers (constant_of c.in-Constant.value)
+    c.in_ok-held-in-Constant.ensures.reads)
 
 pub returns-in_err-skip-in-Padding : goal.returns-in_err-skip-in-Padding
 returns-in_err-skip-in-Padding g c =
