@@ -140,7 +140,7 @@ pub decimal_within-decimal : (low high n : ℕ) → n < 10 ^ 64 → low ≤ n �
 decimal_within-decimal low high n h a b =
     rw (is_decimal-decimal n h, decimal_value-decimal n h, le-leb low n a, le-leb n high b) refl
 
-both : (a b : Bool) → (a && b) ≡ true → (a ≡ true) × (b ≡ true)
+pub both : (a b : Bool) → (a && b) ≡ true → (a ≡ true) × (b ≡ true)
 both true true h = (refl, refl)
 both true false h = absurd (cc)
 both false b h = absurd (cc)

@@ -1,7 +1,7 @@
 -- The calls of fields, one behind the other.
 use Rattle.std.specs.Prelude.{ℤ, Bool, ◌==◌, ◌≢◌, if◌then◌else◌, take, drop, replicate, false}
 use Rattle.std.specs.List.{AllByRecursion}
-use Rattle.std.proofs.Common.{◌≡◌, ℕ, ◌+◌, ◌<◌, ◌≤◌, ◌^◌, List, [], ◌∷◌, ◌++◌, length, Option, Some, None, Result, Ok, Err, refl, sym, ap, subst, ◌∙◌, arith, inl, inr, append_assoc, length-append, add-zero, eq-eqb, lit<}
+use Rattle.std.proofs.Common.{◌≡◌, ℕ, ◌+◌, ◌<◌, ◌≤◌, ◌^◌, List, [], ◌∷◌, ◌++◌, length, Option, Some, None, Result, Ok, Err, refl, sym, ap, subst, ◌∙◌, arith, inl, inr, append_assoc, length-append, append-nil, add-zero, eq-eqb, lit<, All}
 use Rattle.std.proofs.Math.Nat.{mod-eq_of_lt}
 use Rattle.std.proofs.Math.Seq.{drop-append_seam, take-append_seam}
 use Rattle.std.proofs.lemmas.Bool.{cases_lt, le-leb, ne_eqb}
@@ -10,15 +10,16 @@ use Rattle.bitstream_io.proofs.UnaryLemmas.{read_unary-unary}
 use Rattle.bitstream_io.proofs.VbrLemmas.{read_vbr-IsAccepted, vbr_word_accepted, zig-lt}
 use Rattle.bitstream_io.specs.Unary.{unary}
 use Rattle.bitstream_io.specs.Vbr.{vbr_word}
-use Rattle.bitstream_io.specs.Word.{Order, word, number, signed_word, signed_number, FitsSignedBits, zig, zag}
+use Rattle.bitstream_io.specs.Word.{Order, word, number, signed_word, signed_number, FitsSignedBits, bits, zig, zag}
 use Rattle.bitstream_io.proofs.BackLemmas.{signed-word}
+use Rattle.bitstream_io.proofs.CallsBack.{bytes-read}
 use Rattle.bitstream_io.proofs.SignedLemmas.{signed_number-signed_word, zag-zig}
 use Rattle.bitstream_io.proofs.WordLemmas.{length-word, number-word}
 use Rattle.bitstream_io.specs.Error.{Error}
 use Rattle.bitstream_io.specs.Error.TheVariants as errors
 use Rattle.bitstream_io.specs.Entry.{ReadEntry, WriteEntry, TooFew, Takes, chain, gives, word_front}
 use Rattle.bitstream_io.specs.Alignment.{to_boundary}
-use Rattle.bitstream_io.specs.ReadTable.{unsigned_entry, signed_entry, unary_entry, vbr_entry, signed_vbr_entry, skip_entry, align_entry}
+use Rattle.bitstream_io.specs.ReadTable.{unsigned_entry, signed_entry, unary_entry, vbr_entry, signed_vbr_entry, bytes_entry, skip_entry, align_entry}
 use Rattle.bitstream_io.specs.Run.{accepted, write_run, write_refusals}
 use Rattle.bitstream_io.specs.WriteTable.{align}
 use Rattle.bitstream_io.proofs.EntryLemmas.{map_takes, chain-ok, chain-none, word_front-some, word_front-none}
@@ -27,7 +28,7 @@ use Rattle.bitstream_io.proofs.WriteLemmas.{unsigned-fits, signed-accepts}
 use Rattle.bitfields.specs.declared.fault.Reason.{Reason}
 use Rattle.bitfields.specs.declared.fault.Reason.TheVariants.{BitsEnded, ConstantDiffers}
 use Rattle.bitfields.specs.declared.field.Field.{Field}
-use Rattle.bitfields.specs.declared.field.Field.TheVariants.{Unsigned, Signed, Unary, Variable, SignedVariable, Constant, Padding, Align}
+use Rattle.bitfields.specs.declared.field.Field.TheVariants.{Unsigned, Signed, Unary, Variable, SignedVariable, Bytes, Constant, Padding, Align}
 use Rattle.bitfields.specs.declared.field.GroupSize.{GroupSize}
 use Rattle.bitfields.specs.declared.field.GroupSize.TheVariants.{Four, Eight}
 use Rattle.bitfields.specs.declared.field_value.FieldValue.{FieldValue}
@@ -38,7 +39,7 @@ use Rattle.bitfields.specs.Fault.{fault}
 use Rattle.bitfields.specs.Layout.{IsField, group_bits}
 use Rattle.bitfields.specs.Packing.{field_word, field_write, field_writes, packed}
 use Rattle.bitfields.specs.Unpacking.{Unpacked, Unpacks, Stops, field_read, read_reason, unpacked, values_and}
-use Rattle.bitfields.specs.Value.{kind_count, value_count, value_kind, value_list, first_unsigned, first_signed, Fit, FitsField, FitsKind}
+use Rattle.bitfields.specs.Value.{kind_count, value_count, value_kind, value_list, first_unsigned, first_signed, first_bytes, Fit, FitsField, FitsKind}
 
 -- ---- a field's read call
 
@@ -118,12 +119,21 @@ pub unsigned_first : (n : ℕ) (vs : List FieldValue) → FitsKind (Kind.Unsigne
 unsigned_first n [] h = absurd h
 unsigned_first n (Value.Unsigned v ∷ vs) h = (h, refl)
 unsigned_first n (Value.Signed x ∷ vs) h = absurd h
+unsigned_first n (Value.Bytes bytes ∷ vs) h = absurd h
 
 pub signed_first : (n : ℕ) (vs : List FieldValue) → FitsKind (Kind.Signed n) vs → FitsSignedBits n (first_signed vs)
     × (vs ≡ Value.Signed (first_signed vs) ∷ drop 1 vs)
 signed_first n [] h = absurd h
 signed_first n (Value.Unsigned v ∷ vs) h = absurd h
 signed_first n (Value.Signed x ∷ vs) h = (h, refl)
+signed_first n (Value.Bytes bytes ∷ vs) h = absurd h
+
+pub bytes_first : (n : ℕ) (vs : List FieldValue) → FitsKind (Kind.Bytes n) vs → (length (first_bytes vs) ≡ n)
+    × All (λ b. b < 256) (first_bytes vs) × (vs ≡ Value.Bytes (first_bytes vs) ∷ drop 1 vs)
+bytes_first n [] h = absurd h
+bytes_first n (Value.Unsigned v ∷ vs) h = absurd h
+bytes_first n (Value.Signed x ∷ vs) h = absurd h
+bytes_first n (Value.Bytes bytes ∷ vs) h = (h.0, h.1, refl)
 
 -- a call and what is made of its answer
 made : {A B : Type 0} (e : ReadEntry A) (f : A → B) (p n : ℕ) (b : List Bool) (a : A) → e.reads p b ≡ Takes n (Ok a)
@@ -163,6 +173,14 @@ unary-answers : (stop : Bool) (v p : ℕ) (more : List Bool) → v < 2 ^ 32
     → (unary_entry stop).reads p (unary stop v ++ more) ≡ Takes (length (unary stop v)) (Ok v)
 unfolding unary_entry
 unary-answers stop v p more h = read_unary-unary stop v more h
+
+bytes-answers : (o : Order) (n : ℕ) (bytes : List ℕ) (p : ℕ) (more : List Bool) → length bytes ≡ n
+    → All (λ b. b < 256) bytes
+    → (bytes_entry o n).reads p (bits o bytes ++ more) ≡ Takes (length (bits o bytes)) (Ok bytes)
+bytes-answers o n bytes p more size fit =
+    subst (λ (m : ℕ). (bytes_entry o m).reads p (bits o bytes ++ more) ≡ Takes (length (bits o bytes)) (Ok bytes)) size
+    (subst (λ (w : List Bool). (bytes_entry o (length bytes)).reads p (w ++ more) ≡ Takes (length w) (Ok bytes))
+    (append-nil (bits o bytes)) (bytes-read o bytes fit 0 p more))
 
 skip-answers : (n p : ℕ) (more : List Bool) → (skip_entry n).reads p (replicate n false ++ more)
     ≡ Takes (length (replicate n false)) (Ok tt)
@@ -220,6 +238,11 @@ trips o (SignedVariable size) vs at i h =
     trip o (SignedVariable size) vs at (signed_vbr_entry o (group_bits size) 64) Value.Signed x
     (vbr_word o (group_bits size) (zig x)) refl refl
     (λ more. signed_vbr-answers o (group_bits size) x at more (two_bits size) p.0) p.1
+trips o (Bytes n) vs at i h =
+    let bytes = first_bytes vs in
+    let p = bytes_first n vs h in
+    trip o (Bytes n) vs at (bytes_entry o n) Value.Bytes bytes (bits o bytes) refl refl
+    (λ more. bytes-answers o n bytes at more p.0 p.1) p.2
 trips o (Constant n v) vs at i h =
     let w = word o n v in
     let none : Result (Option FieldValue) Reason = Ok None in
@@ -334,6 +357,7 @@ field_word-written o (Signed n) vs at i h = signed-accepts o 128 n (first_signed
 field_word-written o (Unary stop) vs at i h = refl
 field_word-written o (Variable size) vs at i h = refl
 field_word-written o (SignedVariable size) vs at i h = refl
+field_word-written o (Bytes n) vs at i h = refl
 field_word-written o (Constant n v) vs at i h = unsigned-fits o 32 n v at i.1 i.2
 field_word-written o (Padding n) vs at i h = refl
 field_word-written o Align vs at i h = refl
@@ -427,6 +451,8 @@ fits-count (Kind.Unsigned n) [] h = absurd h
 fits-count (Kind.Unsigned n) (v ∷ vs) h = omega arith
 fits-count (Kind.Signed n) [] h = absurd h
 fits-count (Kind.Signed n) (v ∷ vs) h = omega arith
+fits-count (Kind.Bytes n) [] h = absurd h
+fits-count (Kind.Bytes n) (v ∷ vs) h = omega arith
 
 -- the values of the first field are the first values
 first_values : (f : Field) (vs : List FieldValue) (v : Option FieldValue) → FitsField f vs

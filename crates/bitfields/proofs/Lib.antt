@@ -1,3 +1,4 @@
+pub mod BytesLemmas
 pub mod DecimalLemmas
 pub mod FieldCalls
 pub mod LayoutLemmas

@@ -16,10 +16,11 @@ use Rattle.bitfields.specs.declared.field_value.FieldValue.{FieldValue}
 use Rattle.bitfields.specs.declared.field_value.FieldValue.TheVariants as Value
 use Rattle.bitfields.specs.declared.field_value.ValueKind.{ValueKind}
 use Rattle.bitfields.specs.declared.field_value.ValueKind.TheVariants as Kind
-use Rattle.bitfields.specs.Decimal.{decimal_below, signed_within}
+use Rattle.bitfields.specs.Decimal.{bytes_text, bytes_within, decimal_below, signed_within}
 use Rattle.bitfields.specs.Fault.{fault}
 use Rattle.bitfields.specs.Layout.{IsField, one_more}
 use Rattle.bitfields.specs.Value.{ended, ended_lines, lines, values, value_and, value_count, value_in, value_kind, value_list, value_of, value_text, kind_count, some_value, Fit, FitsKind, IsKind, printed_line, printed_lines}
+use Rattle.bitfields.proofs.BytesLemmas.{bytes_text-lacks, bytes_within-Ok, bytes_within-bytes_text}
 use Rattle.bitfields.proofs.DecimalLemmas.{decimal_below-decimal, decimal-of_below, decimal_lacks, limit_small, signed_decimal-lacks, signed_decimal-of_within, signed_within-signed_decimal}
 use Rattle.bitfields.proofs.ValueLemmas.{kind-in_range, some_value-Ok, value_and-Ok}
 
@@ -60,9 +61,15 @@ kind-lacks_end (Kind.Unsigned n) [] i h rest = absurd h
 kind-lacks_end (Kind.Unsigned n) (Value.Unsigned v ∷ vs) i h rest =
     (decimal_lacks 10 v (lit< tt) (value_small n v i.1 h), rest)
 kind-lacks_end (Kind.Unsigned n) (Value.Signed x ∷ vs) i h rest = absurd h
+kind-lacks_end (Kind.Unsigned n) (Value.Bytes bytes ∷ vs) i h rest = absurd h
 kind-lacks_end (Kind.Signed n) [] i h rest = absurd h
 kind-lacks_end (Kind.Signed n) (Value.Unsigned v ∷ vs) i h rest = absurd h
 kind-lacks_end (Kind.Signed n) (Value.Signed x ∷ vs) i h rest = (signed_decimal-lacks 10 n x (lit< tt) i.1 h, rest)
+kind-lacks_end (Kind.Signed n) (Value.Bytes bytes ∷ vs) i h rest = absurd h
+kind-lacks_end (Kind.Bytes n) [] i h rest = absurd h
+kind-lacks_end (Kind.Bytes n) (Value.Unsigned v ∷ vs) i h rest = absurd h
+kind-lacks_end (Kind.Bytes n) (Value.Signed x ∷ vs) i h rest = absurd h
+kind-lacks_end (Kind.Bytes n) (Value.Bytes bytes ∷ vs) i h rest = (bytes_text-lacks 10 bytes (lit< tt) h.1, rest)
 
 texts-lack_end : (fields : List Field) (vs : List FieldValue) → AllByRecursion IsField fields → Fit fields vs
     → AllByRecursion (λ v. lacks_end (value_text v)) vs
@@ -82,11 +89,19 @@ kind-text k (Kind.Unsigned n) (Value.Unsigned v ∷ vs) others i h rest =
     ap (λ (r : Result ℕ Reason). value_and k (some_value Value.Unsigned r) (others (map value_text vs)))
     (decimal_below-decimal (2 ^ n) v (value_small n v i.1 h) h) ∙ ap (one_more (Value.Unsigned v)) rest
 kind-text k (Kind.Unsigned n) (Value.Signed x ∷ vs) others i h rest = absurd h
+kind-text k (Kind.Unsigned n) (Value.Bytes bytes ∷ vs) others i h rest = absurd h
 kind-text k (Kind.Signed n) [] others i h rest = absurd h
 kind-text k (Kind.Signed n) (Value.Unsigned v ∷ vs) others i h rest = absurd h
 kind-text k (Kind.Signed n) (Value.Signed x ∷ vs) others i h rest =
     ap (λ (r : Result ℤ Reason). value_and k (some_value Value.Signed r) (others (map value_text vs)))
     (signed_within-signed_decimal n x i.0 i.1 h) ∙ ap (one_more (Value.Signed x)) rest
+kind-text k (Kind.Signed n) (Value.Bytes bytes ∷ vs) others i h rest = absurd h
+kind-text k (Kind.Bytes n) [] others i h rest = absurd h
+kind-text k (Kind.Bytes n) (Value.Unsigned v ∷ vs) others i h rest = absurd h
+kind-text k (Kind.Bytes n) (Value.Signed x ∷ vs) others i h rest = absurd h
+kind-text k (Kind.Bytes n) (Value.Bytes bytes ∷ vs) others i h rest =
+    ap (λ (r : Result (List ℕ) Reason). value_and k (some_value Value.Bytes r) (others (map value_text vs)))
+    (bytes_within-bytes_text n bytes i.0 h.0 h.1) ∙ ap (one_more (Value.Bytes bytes)) rest
 
 values-texts : (k : ℕ) (fields : List Field) (vs : List FieldValue) → AllByRecursion IsField fields → Fit fields vs
     → values k fields (map value_text vs) ≡ Ok vs
@@ -125,6 +140,11 @@ value_of-printed (Kind.Signed n) (line ∷ lines) o i h =
     let p = some_value-Ok Value.Signed (signed_within n line) o h in
     subst (IsPrinted (Kind.Signed n) (line ∷ lines)) (sym p.2)
     (one_line (signed_decimal p.0) line (ended_lines lines) ((signed_decimal-of_within n line p.0 p.1).1 i.1))
+value_of-printed (Kind.Bytes n) [] o i h = absurd (cc)
+value_of-printed (Kind.Bytes n) (line ∷ lines) o i h =
+    let p = some_value-Ok Value.Bytes (bytes_within n line) o h in
+    subst (IsPrinted (Kind.Bytes n) (line ∷ lines)) (sym p.2)
+    (one_line (bytes_text p.0) line (ended_lines lines) (bytes_within-Ok n line p.0 p.1).2)
 
 none_over : (none : Bool) (lines : List (List ℕ)) (vs : List FieldValue) → (length lines == 0) ≡ none
     → (let r : Result (List FieldValue) Fault = if none then Ok [] else Err (fault 0 ValueLeftOver) in r) ≡ Ok vs

@@ -16,7 +16,7 @@ use Rattle.bitfields.specs.declared.fault.Fault.{Fault}
 use Rattle.bitfields.specs.declared.field.Field.{Field}
 use Rattle.bitfields.specs.declared.fault.Reason.TheVariants.{TooManyFields}
 use Rattle.bitfields.specs.Fault.{fault}
-use Rattle.bitfields.specs.declared.field.Field.TheVariants.{Unsigned, Signed, Unary, Variable, SignedVariable, Constant, Padding, Align}
+use Rattle.bitfields.specs.declared.field.Field.TheVariants.{Unsigned, Signed, Unary, Variable, SignedVariable, Bytes, Constant, Padding, Align}
 use Rattle.bitfields.specs.declared.field.GroupSize.{GroupSize}
 use Rattle.bitfields.specs.declared.field.GroupSize.TheVariants.{Four, Eight}
 use Rattle.bitstream_io.specs.Word.{digit_value}
@@ -28,13 +28,13 @@ use Rattle.std.proofs.lemmas.Grind.{common_steps}
 abbrev lacks_comma : List ℕ → Type 0
 lacks_comma text = All (λ b. (b == 44) ≡ false) text
 
-small : (n : ℕ) → n ≤ 4096 → n < 10 ^ 64
+small : (n : ℕ) → n ≤ 65536 → n < 10 ^ 64
 small n h =
-    let top : 4096 < 10 ^ 64 = lit< tt in
+    let top : 65536 < 10 ^ 64 = lit< tt in
     omega (arith, top)
 
 -- a letter and a number have no comma
-letter-lacks_comma : (letter n : ℕ) → 44 < letter → n ≤ 4096 → lacks_comma (letter ∷ decimal n)
+letter-lacks_comma : (letter n : ℕ) → 44 < letter → n ≤ 65536 → lacks_comma (letter ∷ decimal n)
 letter-lacks_comma letter n above h = All-cons (λ b. (b == 44)
     ≡ false) letter (decimal n) (ne_eqb letter 44 (λ e. omega arith)) (decimal_lacks 44 n (lit< tt) (small n h))
 
@@ -67,12 +67,13 @@ field_text-lacks_comma (Variable size) h = letter-lacks_comma 118 (group_bits si
     (omega (arith, (size_small size).1))
 field_text-lacks_comma (SignedVariable size) h = letter-lacks_comma 115 (group_bits size) (lit< tt)
     (omega (arith, (size_small size).1))
+field_text-lacks_comma (Bytes n) h = letter-lacks_comma 98 n (lit< tt) h.1
 field_text-lacks_comma (Constant n v) h = constant_text-lacks_comma n v h
-field_text-lacks_comma (Padding n) h = letter-lacks_comma 112 n (lit< tt) h.1
+field_text-lacks_comma (Padding n) h = letter-lacks_comma 112 n (lit< tt) (omega (arith, h.1))
 field_text-lacks_comma Align h = All-cons (λ b. (b == 44) ≡ false) 97 [] refl (All-nil (λ b. (b == 44) ≡ false))
 
 -- the number that is written is spelt
-spelt_number : (low high n : ℕ) → high ≤ 4096 → low ≤ n → n ≤ high → decimal_within low high (decimal n) ≡ Some n
+spelt_number : (low high n : ℕ) → high ≤ 65536 → low ≤ n → n ≤ high → decimal_within low high (decimal n) ≡ Some n
 spelt_number low high n top from to = decimal_within-decimal low high n (small n (omega arith)) from to
 
 stop_back : (stop : Bool) → Unary (digit_value stop == 1) ≡ Unary stop
@@ -118,6 +119,7 @@ field_of-field_text (Unary stop) h =
     (bit_small stop)) ∙ ap Some (stop_back stop)
 field_of-field_text (Variable size) h = ap (option_map Variable) (size_back size)
 field_of-field_text (SignedVariable size) h = ap (option_map SignedVariable) (size_back size)
+field_of-field_text (Bytes n) h = ap (option_map Bytes) (spelt_number 1 65536 n (omega arith) h.0 h.1)
 field_of-field_text (Constant n v) h = constant_back n v h
 field_of-field_text (Padding n) h = ap (option_map Padding) (spelt_number 1 4096 n (omega arith) h.0 h.1)
 field_of-field_text Align h = refl
@@ -150,7 +152,7 @@ abbrev pub IsSpelt : List ℕ → Field → Type 0
 IsSpelt segment f = IsField f × (field_text f ≡ segment)
 
 -- a number that is spelt is the one that is written
-number_spelt : {P : Type 0} (low high : ℕ) (rest : List ℕ) (o : Option ℕ) (make : ℕ → Field) (f : Field) → high ≤ 4096
+number_spelt : {P : Type 0} (low high : ℕ) (rest : List ℕ) (o : Option ℕ) (make : ℕ → Field) (f : Field) → high ≤ 65536
     → decimal_within low high rest ≡ o → option_map make o ≡ Some f
     → ((n : ℕ) → low ≤ n → n ≤ high → decimal n ≡ rest → make n ≡ f → P) → P
 number_spelt low high rest None make f top e h found = absurd (cc)
@@ -273,6 +275,9 @@ letter_spelt letter rest f h =
     (λ is k. size_spelt rest (decimal_within 4 8 rest) SignedVariable f refl k
     (λ size spells same. written letter 115 rest (decimal (group_bits size)) (SignedVariable size) f is same tt refl
     spells))
+    (by_letter (letter == 98) letter 98 _ _ f refl
+    (λ is k. number_spelt 1 65536 rest (decimal_within 1 65536 rest) Bytes f (omega arith) refl k
+    (λ n some most spells same. written letter 98 rest (decimal n) (Bytes n) f is same (some, most) refl spells))
     (by_letter (letter == 99) letter 99 _ _ f refl
     (λ is k. constant_spelt rest (position (λ b. b == 61) rest) f refl k
     (λ n v range spells same. written letter 99 rest (decimal n ++ 61 ∷ decimal v) (Constant n v) f is same range refl
@@ -280,7 +285,7 @@ letter_spelt letter rest f h =
     (by_letter (letter == 112) letter 112 _ _ f refl
     (λ is k. number_spelt 1 4096 rest (decimal_within 1 4096 rest) Padding f (omega arith) refl k
     (λ n some most spells same. written letter 112 rest (decimal n) (Padding n) f is same (some, most) refl spells))
-    (align_spelt (letter == 97 && (length rest == 0)) letter rest f refl))))))) h
+    (align_spelt (letter == 97 && (length rest == 0)) letter rest f refl)))))))) h
 
 -- a field that is spelt is in range, and written as its segment
 pub segment_spelt : (segment : List ℕ) (f : Field) → field_of segment ≡ Some f → IsSpelt segment f

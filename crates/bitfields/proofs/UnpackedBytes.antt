@@ -64,7 +64,7 @@ UnpacksKnown-from o may allowed fields known reference_names (Err f) t is demand
   taken = bytes_taken known reference_names (length h.word) h.gone t demands h.loses h.fetched h.taken;
   says = told_whatever o (unpacked o 1 fields 0) h.gone h.word h.rest (Stops f) h.parts h.says;
 })
-UnpacksKnown-from o may allowed fields known reference_names (Err f) t is demands (inr (inl h)) = inr (inl (record {
+UnpacksKnown-from o may allowed fields known reference_names (Err f) t is demands (inr (inl (inl h))) = inr (inl (inl (record {
   front = h.front;
   here = h.here;
   back = h.back;
@@ -80,7 +80,22 @@ UnpacksKnown-from o may allowed fields known reference_names (Err f) t is demand
   value = h.value;
   says = told_by o (unpacked o 1 (h.front ++ h.here ∷ []) 0) h.took.gone h.word t.queue
       (Unpacks (h.values ++ h.value ∷ []) t.taken) h.took.parts h.says;
-}))
+})))
+UnpacksKnown-from o may allowed fields known reference_names (Err f) t is demands (inr (inl (inr h))) = inr (inl (inr (record {
+  front = h.front;
+  here = h.here;
+  back = h.back;
+  parts = h.parts;
+  asks = h.asks;
+  reason = h.reason;
+  gone = h.took.gone;
+  len = t.taken;
+  taken = bytes_taken known reference_names (length h.word) h.took.gone t demands h.took.loses h.took.fetched
+      h.took.taken;
+  values = h.values;
+  before = told_by o (unpacked o 1 h.front 0) h.took.gone h.word t.queue (Unpacks h.values t.taken) h.took.parts
+      h.before;
+})))
 UnpacksKnown-from o may allowed fields known reference_names (Err f) t is demands (inr (inr h)) = inr (inr (record {
   field = h.field;
   refusal = h.refusal;
@@ -156,5 +171,8 @@ said known may o fields old new (Ok text) h ends xs told = record {
 }
 said known may o fields old new (Err f) (inl h) ends xs told =
     inr (said_by o (unpacked o 1 fields 0) (known old) (known new) h.gone xs (Stops f) h.taken.loses told h.says)
-said known may o fields old new (Err f) (inr (inl h)) ends xs told = inl (ap (λ (why : Fault). why.reason) h.reason)
+said known may o fields old new (Err f) (inr (inl (inl h))) ends xs told =
+    inl (ap (λ (why : Fault). why.reason) h.reason)
+said known may o fields old new (Err f) (inr (inl (inr h))) ends xs told =
+    inl (ap (λ (why : Fault). why.reason) h.reason)
 said known may o fields old new (Err f) (inr (inr h)) ends xs told = inr (h.ended (ends h.refusal h.allowed) xs told)

@@ -1,5 +1,5 @@
 -- Unpacking from a reader, field by field.
-use Rattle.std.specs.Prelude.{Bool, false, IsSome}
+use Rattle.std.specs.Prelude.{Bool, true, false, IsSome}
 use Rattle.std.proofs.Common.{◌≡◌, ℕ, ◌+◌, ◌<◌, ◌≤◌, List, [], ◌∷◌, ◌++◌, length, drop, get_or, Option, Some, None, Result, Ok, Err, refl, sym, ap, ◌∙◌, subst, inl, inr, ◌⊎◌, arith, append_assoc, add-one, drop-cons, length-append, append-nil}
 use Rattle.std.proofs.KnownBytes.{Consumes-trans}
 use Rattle.std.proofs.lemmas.List.{drop_all}
@@ -20,7 +20,7 @@ use Rattle.bitfields.specs.declared.fault.Reason.TheVariants.{BitsEnded, OutOfMe
 use Rattle.bitfields.specs.declared.field.Field.{Field}
 use Rattle.bitfields.specs.declared.field_value.FieldValue.{FieldValue}
 use Rattle.bitfields.specs.Fault.{fault}
-use Rattle.bitfields.specs.Unpacking.{Unpacked, Unpacks, Stops, unpacked, values_and, field_read, read_reason, behind, IsReadReason, ReadsField, ReadsFields, ReadsLines}
+use Rattle.bitfields.specs.Unpacking.{Unpacked, Unpacks, asks_memory, Stops, unpacked, values_and, field_read, read_reason, behind, IsReadReason, ReadsField, ReadsFields, ReadsLines}
 use Rattle.bitfields.specs.Value.{printed_line, printed_lines, value_list}
 use Rattle.bitfields.proofs.FieldCalls.{unpacked-first, unpacked-told, unpacked-refused, unpacked-short}
 
@@ -104,23 +104,34 @@ some_of : (v : Option FieldValue) → IsSome v → (u : FieldValue) × (v ≡ So
 some_of (Some u) h = (u, refl)
 some_of None h = absurd (cc)
 
-pub Unpacking-memory_refused : {R : Type 0} (K : BitSource R) (fields : List Field) (i : ℕ) (d : Field) (old now new :
+pub Unpacking-line_refused : {R : Type 0} (K : BitSource R) (fields : List Field) (i : ℕ) (d : Field) (old now new :
     R) (text : List ℕ) (v : Option FieldValue) (f : Fault) → i < length fields → Unpacking K fields i old text now
     → ReadsField K (get_or fields i d) now (Ok v) new → IsSome v → f ≡ fault (i + 1) OutOfMemory
     → ReadsLines K fields old (Err f) new
 unfolding ReadsFields
-Unpacking-memory_refused K fields i d old now new text v f h known reads some is =
+Unpacking-line_refused K fields i d old now new text v f h known reads some is =
     let u = some_of v some in
     record {
       answer = Err f;
-      reads = remaining K fields i d old text now h known (Err f) new (inl (record {
+      reads = remaining K fields i d old text now h known (Err f) new (inl (inl (record {
         value = u.0;
         reads = subst (λ (u : Option FieldValue). ReadsField K (get_or fields i d) now (Ok u) new) u.1
             reads;
         answer = ap Err is;
-      }));
+      })));
       prints = refl;
     }
+
+pub Unpacking-buffer_refused : {R : Type 0} (K : BitSource R) (fields : List Field) (i : ℕ) (d : Field) (old now :
+    R) (text : List ℕ) (f : Fault) → i < length fields → Unpacking K fields i old text now
+    → asks_memory (get_or fields i d) ≡ true → f ≡ fault (i + 1) OutOfMemory → ReadsLines K fields old (Err f) now
+unfolding ReadsFields
+Unpacking-buffer_refused K fields i d old now text f h known asks is = record {
+  answer = Err f;
+  reads = remaining K fields i d old text now h known (Err f) now
+      (inl (inr (record { asks = asks; same = refl; answer = ap Err is })));
+  prints = refl;
+}
 
 -- ---- what the calls come to
 
@@ -156,7 +167,7 @@ pub record ToldFields (o : Order) (k : ℕ) (fields : List Field) (old : ReaderS
   pub says : (more : List Bool) → unpacked o k fields old.taken (word ++ more) ≡ Stops f
 
 -- the calls of the first fields answered, and no memory was left for the line of the last of them
-pub record MemoryRefusedFields (o : Order) (k : ℕ) (fields : List Field) (old : ReaderState) (f : Fault)
+pub record LineRefusedFields (o : Order) (k : ℕ) (fields : List Field) (old : ReaderState) (f : Fault)
     (new : ReaderState) : Type 0 where
   pub front : List Field
   pub here : Field
@@ -171,6 +182,25 @@ pub record MemoryRefusedFields (o : Order) (k : ℕ) (fields : List Field) (old 
   pub value : FieldValue
   pub says : (more : List Bool) → unpacked o k (front ++ here ∷ []) old.taken (word ++ more)
       ≡ Unpacks (values ++ value ∷ []) new.taken
+
+-- the calls of the first fields answered, and no memory was left for the bytes of the next of them
+pub record BufferRefusedFields (o : Order) (k : ℕ) (fields : List Field) (old : ReaderState) (f : Fault)
+    (new : ReaderState) : Type 0 where
+  pub front : List Field
+  pub here : Field
+  pub back : List Field
+  pub parts : fields ≡ front ++ here ∷ back
+  pub asks : asks_memory here ≡ true
+  pub reason : f ≡ fault (k + length front) OutOfMemory
+  pub word : List Bool
+  pub took : Took o old word new
+  pub values : List FieldValue
+  pub before : (more : List Bool) → unpacked o k front old.taken (word ++ more) ≡ Unpacks values new.taken
+
+-- the calls of the first fields answered, and no memory was left for a field
+abbrev pub MemoryRefusedFields : Order → ℕ → List Field → ReaderState → Fault → ReaderState → Type 0
+MemoryRefusedFields o k fields old f new = LineRefusedFields o k fields old f new
+    ⊎ BufferRefusedFields o k fields old f new
 
 -- a request was refused for a field
 pub record UnpackingRefusedFields (o : Order) (may : Refusal → Type 0) (k : ℕ) (fields : List Field)
@@ -199,7 +229,8 @@ pub ComesTo-reference_names : (o : Order) (may : Refusal → Type 0) (k : ℕ) (
     → new.reference_names ≡ old.reference_names
 ComesTo-reference_names o may k fields old (Ok vs) new h = h.took.reference_names
 ComesTo-reference_names o may k fields old (Err f) new (inl h) = h.reference_names
-ComesTo-reference_names o may k fields old (Err f) new (inr (inl h)) = h.took.reference_names
+ComesTo-reference_names o may k fields old (Err f) new (inr (inl (inl h))) = h.took.reference_names
+ComesTo-reference_names o may k fields old (Err f) new (inr (inl (inr h))) = h.took.reference_names
 ComesTo-reference_names o may k fields old (Err f) new (inr (inr h)) = h.reference_names
 
 -- the first field's word, and what follows it
@@ -236,10 +267,10 @@ ToldFields-later o k f fs v why s t z h x =
       says = word_then o k f fs v s t h x.word (Stops why) x.says;
     }
 
-MemoryRefusedFields-later : (o : Order) (k : ℕ) (f : Field) (fs : List Field) (v : Option FieldValue) (why :
-    Fault) (s t z : ReaderState) → ReadDone o (field_read o f) s (Ok (Ok v)) t → MemoryRefusedFields o (k + 1) fs t why z
-    → MemoryRefusedFields o k (f ∷ fs) s why z
-MemoryRefusedFields-later o k f fs v why s t z h x =
+LineRefusedFields-later : (o : Order) (k : ℕ) (f : Field) (fs : List Field) (v : Option FieldValue) (why :
+    Fault) (s t z : ReaderState) → ReadDone o (field_read o f) s (Ok (Ok v)) t → LineRefusedFields o (k + 1) fs t why z
+    → LineRefusedFields o k (f ∷ fs) s why z
+LineRefusedFields-later o k f fs v why s t z h x =
     let place : k + 1 + length x.front ≡ k + length (f ∷ x.front) = omega arith in
     record {
       front = f ∷ x.front;
@@ -258,6 +289,24 @@ MemoryRefusedFields-later o k f fs v why s t z h x =
           more
           ∙ ap (λ (us : List FieldValue). Unpacks us z.taken)
           (sym (append_assoc (value_list v) x.values (x.value ∷ [])));
+    }
+
+BufferRefusedFields-later : (o : Order) (k : ℕ) (f : Field) (fs : List Field) (v : Option FieldValue) (why :
+    Fault) (s t z : ReaderState) → ReadDone o (field_read o f) s (Ok (Ok v)) t
+    → BufferRefusedFields o (k + 1) fs t why z → BufferRefusedFields o k (f ∷ fs) s why z
+BufferRefusedFields-later o k f fs v why s t z h x =
+    let place : k + 1 + length x.front ≡ k + length (f ∷ x.front) = omega arith in
+    record {
+      front = f ∷ x.front;
+      here = x.here;
+      back = x.back;
+      parts = ap (λ (gs : List Field). f ∷ gs) x.parts;
+      asks = x.asks;
+      reason = x.reason ∙ ap (λ (n : ℕ). fault n OutOfMemory) place;
+      word = h.word ++ x.word;
+      took = Took-trans o h.word x.word s t z (took o (field_read o f) (Ok v) s t h) x.took;
+      values = value_list v ++ x.values;
+      before = word_then o k f x.front v s t h x.word (Unpacks x.values z.taken) x.before;
     }
 
 UnpackingRefusedFields-later : (o : Order) (may : Refusal → Type 0) (k : ℕ) (f : Field) (fs : List Field)
@@ -294,8 +343,10 @@ ComesTo-later o may k f fs v (Ok ws) s t z h x = record {
   says = word_then o k f fs v s t h x.word (Unpacks ws z.taken) x.says;
 }
 ComesTo-later o may k f fs v (Err why) s t z h (inl x) = inl (ToldFields-later o k f fs v why s t z h x)
-ComesTo-later o may k f fs v (Err why) s t z h (inr (inl x)) =
-    inr (inl (MemoryRefusedFields-later o k f fs v why s t z h x))
+ComesTo-later o may k f fs v (Err why) s t z h (inr (inl (inl x))) =
+    inr (inl (inl (LineRefusedFields-later o k f fs v why s t z h x)))
+ComesTo-later o may k f fs v (Err why) s t z h (inr (inl (inr x))) =
+    inr (inl (inr (BufferRefusedFields-later o k f fs v why s t z h x)))
 ComesTo-later o may k f fs v (Err why) s t z h (inr (inr x)) =
     inr (inr (UnpackingRefusedFields-later o may k f fs v why s t z h x))
 
@@ -337,9 +388,9 @@ UnpackingRefusedFields-here o may k f fs x s t h =
     }
 
 -- no memory was left for a field's line
-MemoryRefusedFields-here : (o : Order) (k : ℕ) (f : Field) (fs : List Field) (v : FieldValue) (s t : ReaderState)
-    → ReadDone o (field_read o f) s (Ok (Ok (Some v))) t → MemoryRefusedFields o k (f ∷ fs) s (fault k OutOfMemory) t
-MemoryRefusedFields-here o k f fs v s t h =
+LineRefusedFields-here : (o : Order) (k : ℕ) (f : Field) (fs : List Field) (v : FieldValue) (s t : ReaderState)
+    → ReadDone o (field_read o f) s (Ok (Ok (Some v))) t → LineRefusedFields o k (f ∷ fs) s (fault k OutOfMemory) t
+LineRefusedFields-here o k f fs v s t h =
     let place : k ≡ k + 0 = omega arith in
     record {
       front = [];
@@ -356,19 +407,37 @@ MemoryRefusedFields-here o k f fs v s t h =
       says = first_then o k f [] (Some v) s t h;
     }
 
+-- no memory was left for a field's bytes
+BufferRefusedFields-here : (o : Order) (k : ℕ) (f : Field) (fs : List Field) (s : ReaderState) → s.failed ≡ false
+    → asks_memory f ≡ true → BufferRefusedFields o k (f ∷ fs) s (fault k OutOfMemory) s
+BufferRefusedFields-here o k f fs s fine asks =
+    let place : k ≡ k + 0 = omega arith in
+    record {
+      front = [];
+      here = f;
+      back = fs;
+      parts = refl;
+      asks = asks;
+      reason = ap (λ (n : ℕ). fault n OutOfMemory) place;
+      word = [];
+      took = Took-nil o s fine;
+      values = [];
+      before = λ more. refl;
+    }
+
 ComesTo-none : (o : Order) (may : Refusal → Type 0) (k : ℕ) (s : ReaderState) → s.failed ≡ false
     → ComesTo o may k [] s (Ok []) s
 ComesTo-none o may k s fine = record { word = []; took = Took-nil o s fine; says = λ more. refl }
 
 -- one call, and what the others come to
-memory_refused_here : {R : Type 0} (K : BitSource R) (k : ℕ) (f : Field) (fs : List Field) (v : FieldValue)
+line_refused_here : {R : Type 0} (K : BitSource R) (k : ℕ) (f : Field) (fs : List Field) (v : FieldValue)
     (old new : R) → (K.state old).failed ≡ false → Reads K (field_read K.order f) old (Ok (Ok (Some v))) new
     → ComesTo K.order K.may k (f ∷ fs) (K.state old) (Err (fault k OutOfMemory)) (K.state new)
-memory_refused_here K k f fs v old new fine (had_failed x) = absurd (let failed = x.failed in cc)
-memory_refused_here K k f fs v old new fine (was_done x) =
-    inr (inl (MemoryRefusedFields-here K.order k f fs v (K.state old) (K.state new) x))
-memory_refused_here K k f fs v old new fine (was_refused x) = absurd (let a = x.answer in cc)
-memory_refused_here K k f fs v old new fine (memory_refused grows x) = absurd (cc)
+line_refused_here K k f fs v old new fine (had_failed x) = absurd (let failed = x.failed in cc)
+line_refused_here K k f fs v old new fine (was_done x) =
+    inr (inl (inl (LineRefusedFields-here K.order k f fs v (K.state old) (K.state new) x)))
+line_refused_here K k f fs v old new fine (was_refused x) = absurd (let a = x.answer in cc)
+line_refused_here K k f fs v old new fine (memory_refused grows x) = absurd (cc)
 
 refused_here : {R : Type 0} (K : BitSource R) (k : ℕ) (f : Field) (fs : List Field) (e : Error) (old new : R)
     → (K.state old).failed ≡ false → Reads K (field_read K.order f) old (Err e) new
@@ -431,9 +500,14 @@ ComesTo-calls {R} K k [] old r new fine h =
     subst (λ (x : Result (List FieldValue) Fault). ComesTo K.order K.may k [] (K.state old) x (K.state new)) (sym h.0)
     (subst (λ (z : R). ComesTo K.order K.may k [] (K.state old) (Ok []) (K.state z)) (sym h.1)
     (ComesTo-none K.order K.may k (K.state old) fine))
-ComesTo-calls K k (f ∷ fs) old r new fine (inl h) =
+ComesTo-calls {R} K k (f ∷ fs) old r new fine (inl (inr h)) =
     subst (λ (x : Result (List FieldValue) Fault). ComesTo K.order K.may k (f ∷ fs) (K.state old) x (K.state new))
-    (sym h.answer) (memory_refused_here K k f fs h.value old new fine
+    (sym h.answer)
+    (subst (λ (z : R). ComesTo K.order K.may k (f ∷ fs) (K.state old) (Err (fault k OutOfMemory)) (K.state z))
+    (sym h.same) (inr (inl (inr (BufferRefusedFields-here K.order k f fs (K.state old) fine h.asks)))))
+ComesTo-calls K k (f ∷ fs) old r new fine (inl (inl h)) =
+    subst (λ (x : Result (List FieldValue) Fault). ComesTo K.order K.may k (f ∷ fs) (K.state old) x (K.state new))
+    (sym h.answer) (line_refused_here K k f fs h.value old new fine
     (value_read K f (Some h.value) old new h.reads.plain h.reads.called h.reads.answer))
 ComesTo-calls K k (f ∷ fs) old r new fine (inr (inl h)) =
     subst (λ (x : Result (List FieldValue) Fault). ComesTo K.order K.may k (f ∷ fs) (K.state old) x (K.state new))

@@ -4,15 +4,16 @@ use Rattle.std.proofs.Common.{◌≡◌, ℕ, ◌+◌, ◌^◌, List, [], ◌∷
 use Rattle.bitfields.specs.declared.fault.Reason.{Reason}
 use Rattle.bitfields.specs.declared.fault.Fault.{Fault}
 use Rattle.bitfields.specs.declared.field.Field.{Field}
-use Rattle.bitfields.specs.declared.field.Field.TheVariants.{Unsigned, Signed, Unary, Variable, SignedVariable, Constant, Padding, Align}
+use Rattle.bitfields.specs.declared.field.Field.TheVariants.{Unsigned, Signed, Unary, Variable, SignedVariable, Bytes, Constant, Padding, Align}
 use Rattle.bitfields.specs.declared.field_value.FieldValue.{FieldValue}
 use Rattle.bitfields.specs.declared.field_value.FieldValue.TheVariants as Value
 use Rattle.bitfields.specs.declared.field_value.ValueKind.{ValueKind}
 use Rattle.bitfields.specs.declared.field_value.ValueKind.TheVariants as Kind
-use Rattle.bitfields.specs.Decimal.{decimal_below, signed_within}
+use Rattle.bitfields.specs.Decimal.{decimal_below, signed_within, bytes_within}
 use Rattle.bitfields.specs.Value.{values, value_and, value_in, value_of, value_list, value_kind, value_count, kind_count, some_value, Fit, FitsKind, IsKind}
 use Rattle.bitfields.specs.Fault.{fault}
 use Rattle.bitfields.specs.Layout.{IsField, IsUnlessMemory}
+use Rattle.bitfields.proofs.BytesLemmas.{bytes_within-Ok}
 use Rattle.bitfields.proofs.DecimalLemmas.{decimal_below-lt, signed_decimal-of_within}
 use Rattle.bitfields.proofs.LayoutLemmas.{after, after-one_more}
 use Rattle.bitfields.proofs.MemoryLemmas.{value_expected}
@@ -50,6 +51,11 @@ value_of-fits (Kind.Signed n) [] o vs h = absurd (cc)
 value_of-fits (Kind.Signed n) (line ∷ lines) o vs h =
     let p = some_value-Ok Value.Signed (signed_within n line) o h in
     subst (IsBefore (Kind.Signed n) vs) (sym p.2) ((signed_decimal-of_within n line p.0 p.1).0, refl)
+value_of-fits (Kind.Bytes n) [] o vs h = absurd (cc)
+value_of-fits (Kind.Bytes n) (line ∷ lines) o vs h =
+    let p = some_value-Ok Value.Bytes (bytes_within n line) o h in
+    let q = bytes_within-Ok n line p.0 p.1 in
+    subst (IsBefore (Kind.Bytes n) vs) (sym p.2) ((q.0, q.1), refl)
 
 pub kind-in_range : (f : Field) → IsField f → IsKind (value_kind f)
 kind-in_range (Unsigned n) h = h
@@ -57,6 +63,7 @@ kind-in_range (Signed n) h = h
 kind-in_range (Unary stop) h = (omega arith, omega arith)
 kind-in_range (Variable size) h = (omega arith, omega arith)
 kind-in_range (SignedVariable size) h = (omega arith, omega arith)
+kind-in_range (Bytes n) h = h
 kind-in_range (Constant n v) h = tt
 kind-in_range (Padding n) h = tt
 kind-in_range Align h = tt

@@ -1,7 +1,8 @@
 -- Decimals, as layouts and value lines spell numbers.
-use Rattle.std.specs.Prelude.{ℕ, zero, suc, ◌+◌, ◌-◌, ◌^◌, ℤ, pos, negsuc, [], ◌∷◌, Bool, ◌==◌, ◌&&◌, ◌||◌, not, if◌then◌else◌, List, length, slice_index, Option, Some, None, Result, Ok, Err, nat_lt, nat_le}
+use Rattle.std.specs.Prelude.{ℕ, zero, suc, ◌+◌, ◌-◌, ◌^◌, ℤ, pos, negsuc, [], ◌∷◌, Bool, ◌==◌, ◌&&◌, ◌||◌, not, if◌then◌else◌, List, length, map, slice_index, Option, Some, None, Result, Ok, Err, nat_lt, nat_le}
 use Rattle.std.specs.Char.{is_ascii_digit}
-use Rattle.std.specs.List.{list_all}
+use Rattle.std.specs.Fmt.{decimal}
+use Rattle.std.specs.List.{list_all, slice_split, join_with_byte}
 use Rattle.std.specs.Str.Parse.{digits_value}
 use Rattle.bitfields.specs.declared.fault.Reason.{Reason}
 use Rattle.bitfields.specs.declared.fault.Reason.TheVariants.{ValueMisspelt, ValueDoesNotFit}
@@ -50,3 +51,26 @@ signed_after n first rest =
 abbrev pub signed_within : ℕ → List ℕ → Result ℤ Reason
 signed_within n [] = Err ValueMisspelt
 signed_within n (first ∷ rest) = signed_after n first rest
+
+-- the parts between single spaces
+abbrev pub spaced : List ℕ → List (List ℕ)
+spaced text = slice_split (λ b. b == 32) text
+
+-- whether the number of a decimal is a byte
+abbrev pub is_byte : List ℕ → Bool
+is_byte text = nat_lt (decimal_value text) 256
+
+-- the bytes that parts spell, or the reason why they do not: n decimals, each of them a byte
+abbrev pub bytes_of_parts : ℕ → List (List ℕ) → Result (List ℕ) Reason
+bytes_of_parts n parts =
+    if (length parts == n) && list_all is_decimal parts
+    then (if list_all is_byte parts then Ok (map decimal_value parts) else Err ValueDoesNotFit)
+    else Err ValueMisspelt
+
+-- the n bytes that a text spells, as decimals with single spaces between, or the reason why it does not
+abbrev pub bytes_within : ℕ → List ℕ → Result (List ℕ) Reason
+bytes_within n text = bytes_of_parts n (spaced text)
+
+-- bytes as decimals, with single spaces between
+abbrev pub bytes_text : List ℕ → List ℕ
+bytes_text bytes = join_with_byte 32 (map decimal bytes)

@@ -12,16 +12,16 @@ use Rattle.bitstream_io.specs.Fault.{refusal_of}
 use Rattle.bitstream_io.specs.Refusal.{Refusal}
 use Rattle.bitstream_io.specs.Run.{write_run}
 use Rattle.bitstream_io.specs.Sink.{Sink, Appended, WriteRefused}
-use Rattle.bitstream_io.specs.WriteTable.{unsigned, signed, unary_word, vbr, signed_vbr, zeros, align}
+use Rattle.bitstream_io.specs.WriteTable.{unsigned, signed, unary_word, vbr, signed_vbr, buffer, zeros, align}
 use Rattle.bitfields.specs.declared.fault.Reason.{Reason}
 use Rattle.bitfields.specs.declared.fault.Reason.TheVariants.{OutOfMemory, StreamFault}
 use Rattle.bitfields.specs.declared.fault.Fault.{Fault}
 use Rattle.bitfields.specs.declared.field.Field.{Field}
-use Rattle.bitfields.specs.declared.field.Field.TheVariants.{Unsigned, Signed, Unary, Variable, SignedVariable, Constant, Padding, Align}
+use Rattle.bitfields.specs.declared.field.Field.TheVariants.{Unsigned, Signed, Unary, Variable, SignedVariable, Bytes, Constant, Padding, Align}
 use Rattle.bitfields.specs.declared.field_value.FieldValue.{FieldValue}
 use Rattle.bitfields.specs.Fault.{fault}
 use Rattle.bitfields.specs.Layout.{group_bits}
-use Rattle.bitfields.specs.Value.{value_count, first_unsigned, first_signed}
+use Rattle.bitfields.specs.Value.{value_count, first_unsigned, first_signed, first_bytes}
 
 -- the write call of a field whose value is the first of these
 abbrev pub field_write : Order → Field → List FieldValue → WriteEntry
@@ -30,6 +30,7 @@ field_write o (Signed n) vs = signed o 128 n (first_signed vs)
 field_write o (Unary stop) vs = unary_word stop (first_unsigned vs)
 field_write o (Variable size) vs = vbr o (group_bits size) (first_unsigned vs)
 field_write o (SignedVariable size) vs = signed_vbr o (group_bits size) (first_signed vs)
+field_write o (Bytes n) vs = buffer o (first_bytes vs)
 field_write o (Constant n v) vs = unsigned o 32 n v
 field_write o (Padding n) vs = zeros n
 field_write o Align vs = align
@@ -41,6 +42,7 @@ field_word o (Signed n) vs at = signed_word o n (first_signed vs)
 field_word o (Unary stop) vs at = unary stop (first_unsigned vs)
 field_word o (Variable size) vs at = vbr_word o (group_bits size) (first_unsigned vs)
 field_word o (SignedVariable size) vs at = vbr_word o (group_bits size) (zig (first_signed vs))
+field_word o (Bytes n) vs at = bits o (first_bytes vs)
 field_word o (Constant n v) vs at = word o n v
 field_word o (Padding n) vs at = replicate n false
 field_word o Align vs at = replicate (to_boundary at) false

@@ -1,11 +1,11 @@
 -- Unpacking: the values that bits hold for fields.
-use Rattle.std.specs.Prelude.{◌≡◌, ◌⊎◌, ◌<◌, ◌≤◌, ◌*◌, ◌^◌, Result, Ok, Err, Option, Some, None, ℕ, ◌+◌, ◌==◌, if◌then◌else◌, Bool, List, [], ◌∷◌, ◌++◌, length, map}
+use Rattle.std.specs.Prelude.{◌≡◌, ◌⊎◌, ◌<◌, ◌≤◌, ◌*◌, ◌^◌, Result, Ok, Err, Option, Some, None, ℕ, ◌+◌, ◌==◌, if◌then◌else◌, Bool, true, false, List, [], ◌∷◌, ◌++◌, length, map}
 use Rattle.std.specs.Io.KnownBytes.{Consumes}
 use Rattle.bitstream_io.specs.Word.{Order, bits}
 use Rattle.bitstream_io.specs.Error.{Error}
 use Rattle.bitstream_io.specs.Error.TheVariants as errors
 use Rattle.bitstream_io.specs.Entry.{ReadEntry, chain, gives}
-use Rattle.bitstream_io.specs.ReadTable.{unsigned_entry, signed_entry, unary_entry, vbr_entry, signed_vbr_entry, skip_entry, align_entry}
+use Rattle.bitstream_io.specs.ReadTable.{unsigned_entry, signed_entry, unary_entry, vbr_entry, signed_vbr_entry, bytes_entry, skip_entry, align_entry}
 use Rattle.bitstream_io.specs.Run.{read_run}
 use Rattle.bitstream_io.specs.Fault.{read_refusal_of}
 use Rattle.bitstream_io.specs.Refusal.{Refusal, IsTrueEnd}
@@ -15,7 +15,7 @@ use Rattle.bitfields.specs.declared.fault.Reason.{Reason}
 use Rattle.bitfields.specs.declared.fault.Reason.TheVariants.{BitsEnded, ConstantDiffers, LimitPassed, StreamFault, OutOfMemory}
 use Rattle.bitfields.specs.declared.fault.Fault.{Fault}
 use Rattle.bitfields.specs.declared.field.Field.{Field}
-use Rattle.bitfields.specs.declared.field.Field.TheVariants.{Unsigned, Signed, Unary, Variable, SignedVariable, Constant, Padding, Align}
+use Rattle.bitfields.specs.declared.field.Field.TheVariants.{Unsigned, Signed, Unary, Variable, SignedVariable, Bytes, Constant, Padding, Align}
 use Rattle.bitfields.specs.declared.field_value.FieldValue.{FieldValue}
 use Rattle.bitfields.specs.declared.field_value.FieldValue.TheVariants as Value
 use Rattle.bitfields.specs.Fault.{fault}
@@ -53,10 +53,21 @@ field_read o (Variable size) = chain (vbr_entry o (group_bits size) 64 (2 ^ 64))
     (λ v. gives (Ok (Some (Value.Unsigned v))))
 field_read o (SignedVariable size) = chain (signed_vbr_entry o (group_bits size) 64)
     (λ x. gives (Ok (Some (Value.Signed x))))
+field_read o (Bytes n) = chain (bytes_entry o n) (λ bytes. gives (Ok (Some (Value.Bytes bytes))))
 field_read o (Constant n v) = chain (unsigned_entry o 32 n)
     (λ u. gives (if u == v then Ok None else Err ConstantDiffers))
 field_read o (Padding n) = chain (skip_entry n) (λ _. gives (Ok None))
 field_read o Align = chain align_entry (λ _. gives (Ok None))
+
+-- the number of bytes that are read for a field, as bytes
+abbrev pub byte_count : Field → ℕ
+byte_count (Bytes n) = n
+byte_count field = 0
+
+-- whether memory is asked for before a field is read
+abbrev pub asks_memory : Field → Bool
+asks_memory (Bytes n) = true
+asks_memory field = false
 
 -- what the answers of the fields' read calls come to; the fields are numbered from k on
 abbrev pub answered : ℕ → List Field → ℕ → List (Result (Result (Option FieldValue) Reason) Error × ℕ) → Unpacked
@@ -83,11 +94,22 @@ abbrev pub ReadsField : {R : Type 0} → BitSource R → Field → R → Result 
 ReadsField K field old result new = ReadsOwn K IsReadReason (field_read K.order field) old result new
 
 -- A field's value was read, and memory for its line was refused.
-pub record MemoryRefused {R : Type 0} (K : BitSource R) (k : ℕ) (field : Field) (old : R)
+pub record LineRefused {R : Type 0} (K : BitSource R) (k : ℕ) (field : Field) (old : R)
     (result : Result (List FieldValue) Fault) (new : R) : Type 0 where
   pub value : FieldValue
   pub reads : ReadsField K field old (Ok (Some value)) new
   pub answer : result ≡ Err (fault k OutOfMemory)
+
+-- Memory for a field's bytes was refused before they were read. The reader is as it was.
+pub record BufferRefused {R : Type 0} (k : ℕ) (field : Field) (old : R) (result : Result (List FieldValue) Fault)
+    (new : R) : Type 0 where
+  pub asks : asks_memory field ≡ true
+  pub same : new ≡ old
+  pub answer : result ≡ Err (fault k OutOfMemory)
+
+-- memory was refused for a field's line, or for its bytes
+abbrev pub MemoryRefused : {R : Type 0} → BitSource R → ℕ → Field → R → Result (List FieldValue) Fault → R → Type 0
+MemoryRefused K k field old result new = LineRefused K k field old result new ⊎ BufferRefused k field old result new
 
 -- a field's read call answered a reason
 pub record AnswersReason {R : Type 0} (K : BitSource R) (k : ℕ) (field : Field) (old : R)
@@ -97,7 +119,7 @@ pub record AnswersReason {R : Type 0} (K : BitSource R) (k : ℕ) (field : Field
   pub answer : result ≡ Err (fault k why)
 
 -- The read calls of fields, which are numbered from k on, in order: the values that they answer, up to the first that
--- answers a reason or for whose line memory was refused. Of no fields, nothing at all.
+-- answers a reason or for which memory was refused. Of no fields, nothing at all.
 unfoldable pub ReadsFields : {R : Type 0} → BitSource R → ℕ → List Field → R → Result (List FieldValue) Fault → R
     → Type 0
 ReadsFields K k [] old result new = (result ≡ Ok []) × (new ≡ old)
@@ -147,7 +169,7 @@ pub record ToldBytes (o : Order) (fields : List Field) (old : Option (List ℕ))
 
 -- Memory for the line of a field was refused. The bytes taken hold that field's bits and those of the fields before it,
 -- and no more.
-pub record MemoryRefusedBytes (o : Order) (fields : List Field) (old : Option (List ℕ)) (f : Fault)
+pub record LineRefusedBytes (o : Order) (fields : List Field) (old : Option (List ℕ)) (f : Fault)
     (new : Option (List ℕ)) : Type 0 where
   pub front : List Field
   pub here : Field
@@ -162,6 +184,25 @@ pub record MemoryRefusedBytes (o : Order) (fields : List Field) (old : Option (L
   pub before : unpacked o 1 front 0 (bits o gone) ≡ Unpacks values at
   pub value : FieldValue
   pub says : unpacked o 1 (front ++ here ∷ []) 0 (bits o gone) ≡ Unpacks (values ++ value ∷ []) len
+
+-- Memory for the bytes of a field was refused. The bytes taken hold the bits of the fields before it, and no more.
+pub record BufferRefusedBytes (o : Order) (fields : List Field) (old : Option (List ℕ)) (f : Fault)
+    (new : Option (List ℕ)) : Type 0 where
+  pub front : List Field
+  pub here : Field
+  pub back : List Field
+  pub parts : fields ≡ front ++ here ∷ back
+  pub asks : asks_memory here ≡ true
+  pub reason : f ≡ fault (1 + length front) OutOfMemory
+  pub gone : List ℕ
+  pub len : ℕ
+  pub taken : TakesLeastBytes old gone len new
+  pub values : List FieldValue
+  pub before : unpacked o 1 front 0 (bits o gone) ≡ Unpacks values len
+
+-- memory was refused for the line of a field, or for its bytes
+abbrev pub MemoryRefusedBytes : Order → List Field → Option (List ℕ) → Fault → Option (List ℕ) → Type 0
+MemoryRefusedBytes o fields old f new = LineRefusedBytes o fields old f new ⊎ BufferRefusedBytes o fields old f new
 
 -- The stream refused a request for a field, as it may refuse. The bytes taken before end within that field, and the
 -- stream is as the refusal left it. If that was a true end, all bytes of the stream end within that field.

@@ -1,5 +1,5 @@
 -- Value lines: what an input says for the fields of a layout, and what is printed of values.
-use Rattle.std.specs.Prelude.{ℕ, ℤ, pos, ◌≤◌, ◌≡◌, ◌+◌, ◌-◌, ◌^◌, ◌<◌, ◌==◌, ⊤, if◌then◌else◌, List, [], ◌∷◌, ◌++◌, length, take, drop, slice_index_or, Option, Some, None, Result, Ok, Err}
+use Rattle.std.specs.Prelude.{ℕ, ℤ, pos, ◌≤◌, ◌≡◌, ◌+◌, ◌-◌, ◌^◌, ◌<◌, ◌==◌, ⊤, All, if◌then◌else◌, List, [], ◌∷◌, ◌++◌, length, take, drop, slice_index_or, Option, Some, None, Result, Ok, Err}
 use Rattle.std.specs.List.{slice_split, flat_map}
 use Rattle.std.specs.Fmt.{decimal, signed_decimal}
 use Rattle.bitstream_io.specs.Word.{FitsSignedBits}
@@ -7,12 +7,12 @@ use Rattle.bitfields.specs.declared.fault.Reason.{Reason}
 use Rattle.bitfields.specs.declared.fault.Reason.TheVariants.{ValueMissing, ValueLeftOver}
 use Rattle.bitfields.specs.declared.fault.Fault.{Fault}
 use Rattle.bitfields.specs.declared.field.Field.{Field}
-use Rattle.bitfields.specs.declared.field.Field.TheVariants.{Unsigned, Signed, Unary, Variable, SignedVariable, Constant, Padding, Align}
+use Rattle.bitfields.specs.declared.field.Field.TheVariants.{Unsigned, Signed, Unary, Variable, SignedVariable, Bytes, Constant, Padding, Align}
 use Rattle.bitfields.specs.declared.field_value.FieldValue.{FieldValue}
 use Rattle.bitfields.specs.declared.field_value.FieldValue.TheVariants as Value
 use Rattle.bitfields.specs.declared.field_value.ValueKind.{ValueKind}
 use Rattle.bitfields.specs.declared.field_value.ValueKind.TheVariants as Kind
-use Rattle.bitfields.specs.Decimal.{decimal_below, signed_within}
+use Rattle.bitfields.specs.Decimal.{decimal_below, signed_within, bytes_within, bytes_text}
 use Rattle.bitfields.specs.Fault.{fault}
 use Rattle.bitfields.specs.Layout.{one_more}
 
@@ -32,15 +32,17 @@ value_kind (Signed n) = Kind.Signed n
 value_kind (Unary stop) = Kind.Unsigned 32
 value_kind (Variable size) = Kind.Unsigned 64
 value_kind (SignedVariable size) = Kind.Signed 64
+value_kind (Bytes n) = Kind.Bytes n
 value_kind (Constant n v) = Kind.Absent
 value_kind (Padding n) = Kind.Absent
 value_kind Align = Kind.Absent
 
--- the numbers of values have 1 to 128 bits
+-- the numbers of values have 1 to 128 bits, and there are 1 to 65536 bytes
 abbrev pub IsKind : ValueKind → Type 0
 IsKind Kind.Absent = ⊤
 IsKind (Kind.Unsigned n) = (1 ≤ n) × (n ≤ 128)
 IsKind (Kind.Signed n) = (1 ≤ n) × (n ≤ 128)
+IsKind (Kind.Bytes n) = (1 ≤ n) × (n ≤ 65536)
 
 -- the number of values of a kind: one, or none
 abbrev pub kind_count : ValueKind → ℕ
@@ -63,6 +65,8 @@ value_of (Kind.Unsigned n) [] = Err ValueMissing
 value_of (Kind.Unsigned n) (line ∷ others) = some_value Value.Unsigned (decimal_below (2 ^ n) line)
 value_of (Kind.Signed n) [] = Err ValueMissing
 value_of (Kind.Signed n) (line ∷ others) = some_value Value.Signed (signed_within n line)
+value_of (Kind.Bytes n) [] = Err ValueMissing
+value_of (Kind.Bytes n) (line ∷ others) = some_value Value.Bytes (bytes_within n line)
 
 -- the value of a field that the first of the lines spells
 abbrev pub value_in : Field → List (List ℕ) → Result (Option FieldValue) Reason
@@ -91,6 +95,7 @@ abbrev pub FitsKind : ValueKind → List FieldValue → Type 0
 FitsKind Kind.Absent vs = ⊤
 FitsKind (Kind.Unsigned n) (Value.Unsigned v ∷ vs) = v < 2 ^ n
 FitsKind (Kind.Signed n) (Value.Signed x ∷ vs) = FitsSignedBits n x
+FitsKind (Kind.Bytes n) (Value.Bytes bytes ∷ vs) = (length bytes ≡ n) × All (λ b. b < 256) bytes
 FitsKind kind vs = ⊥
 
 -- the field's value is there, the first of these, and fits the field
@@ -107,6 +112,11 @@ abbrev pub first_signed : List FieldValue → ℤ
 first_signed (Value.Signed x ∷ vs) = x
 first_signed vs = pos 0
 
+-- the bytes that stand first, else none
+abbrev pub first_bytes : List FieldValue → List ℕ
+first_bytes (Value.Bytes bytes ∷ vs) = bytes
+first_bytes vs = []
+
 -- these are the values of the fields that have one, in their order, and each fits its field
 abbrev pub Fit : List Field → List FieldValue → Type 0
 Fit [] vs = vs ≡ []
@@ -116,6 +126,7 @@ Fit (field ∷ fields) vs = FitsField field vs × Fit fields (drop (value_count 
 abbrev pub value_text : FieldValue → List ℕ
 value_text (Value.Unsigned v) = decimal v
 value_text (Value.Signed x) = signed_decimal x
+value_text (Value.Bytes bytes) = bytes_text bytes
 
 -- a value's text, and LF
 abbrev pub printed_line : FieldValue → List ℕ

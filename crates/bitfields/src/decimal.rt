@@ -1,11 +1,14 @@
 //! Decimals, as layouts and value lines spell numbers.
 
-ghost use Rattle.std.specs.Prelude.{◌≡◌, ◌≤◌, ◌<◌, ◌+◌, ◌-◌, ◌^◌, pos, Ok};
+ghost use Rattle.std.specs.Prelude.{◌≡◌, ◌≤◌, ◌<◌, ◌+◌, ◌-◌, ◌^◌, pos, map, Ok, IfOk};
 ghost use Rattle.std.specs.List.{list_all};
 ghost use Rattle.std.specs.Char.{is_ascii_digit};
-ghost use Rattle.bitfields.specs.Decimal.{is_decimal as spells_decimal, decimal_below, decimal_within, negative as negative_of, positive as positive_of, signed_within};
+ghost use Rattle.bitfields.specs.Decimal.{is_decimal as spells_decimal, decimal_below, decimal_within, bytes_within, negative as negative_of, positive as positive_of, signed_within};
 
 use crate::fault::Reason;
+use crate::lines::parts;
+use bitstream_io::script::ByteList;
+use std::alloc::{AllocError, Global};
 
 /// Returns whether a text is `0`, or a digit 1 to 9 followed by digits.
 fn is_decimal(text: &[u8]) -> bool
@@ -149,4 +152,44 @@ fn negated(value: u128) -> Result<i128, Reason>
         Some(below) => Ok(!(below as i128)),
         None => Err(Reason::ValueMisspelt),
     }
+}
+
+/// Returns the bytes that a text spells: `count` decimals up to 255, with single spaces between. If
+/// it spells none, the reason is `ValueMisspelt` if it is no such list of decimals, else
+/// `ValueDoesNotFit` if one of them is above 255.
+///
+/// # Errors
+///
+/// If memory is refused.
+pub fn spaced_bytes(
+    alloc: Global,
+    count: u32,
+    text: &[u8],
+) -> Result<Result<ByteList, Reason>, AllocError>
+    ensures { IfOk result (λ bytes. bytes ≡ bytes_within count text.now) }
+{
+    let parts = parts(alloc, b' ', text)?;
+    if parts.len() != count as usize || !are_decimals(&parts) {
+        return Ok(Err(Reason::ValueMisspelt));
+    }
+    let mut bytes = Vec::with_capacity(alloc, parts.len())?;
+    for part in &parts {
+        match decimal_of_width(8, part) {
+            Ok(value) => bytes.push(value as u8)?,
+            Err(reason) => return Ok(Err(reason)),
+        }
+    }
+    Ok(Ok(ByteList::new(bytes)))
+}
+
+/// Returns whether each text is a decimal.
+fn are_decimals(texts: &[&[u8]]) -> bool
+    ensures { result ≡ list_all spells_decimal (map (λ x. x.now) texts.now) }
+{
+    for text in texts {
+        if !is_decimal(text) {
+            return false;
+        }
+    }
+    true
 }

@@ -18,6 +18,8 @@ pub enum Field {
     Variable(GroupSize),
     /// `s4` and `s8`: a signed number of variable width.
     SignedVariable(GroupSize),
+    /// `bN`: N bytes.
+    Bytes(u32),
     /// `cN=V`: the unsigned number V in N bits. It has no value. Bits that hold another number are
     /// an error.
     Constant { bits: u32, value: u32 },
@@ -47,6 +49,7 @@ pub fn parse_field(segment: &[u8]) -> Option<Field>
         b'n' => decimal_between(0, 1, rest).map(|stop| Field::Unary(stop == 1)),
         b'v' => group_size(rest).map(Field::Variable),
         b's' => group_size(rest).map(Field::SignedVariable),
+        b'b' => decimal_between(1, 65536, rest).map(Field::Bytes),
         b'c' => constant(rest),
         b'p' => decimal_between(1, 4096, rest).map(Field::Padding),
         b'a' if rest.is_empty() => Some(Field::Align),

@@ -1,24 +1,27 @@
 //! The values of fields: how lines spell them, and how they are printed.
 
-ghost use Rattle.std.specs.Prelude.{◌≡◌, ◌++◌, ◌≤◌, ◌<◌, ◌^◌, length, map, string_bytes, OnOk};
+ghost use Rattle.std.specs.Prelude.{◌≡◌, ◌++◌, ◌≤◌, ◌<◌, ◌^◌, length, map, string_bytes, IfOk, OnOk};
 ghost use Rattle.bitstream_io.specs.Word.{FitsSignedBits};
 ghost use Rattle.bitfields.specs.Layout.{IsField};
-ghost use Rattle.bitfields.specs.Value.{printed_line, value_count, value_kind as value_kind_of, value_in as value_in_of, IsKind, FitsKind, first_unsigned as first_unsigned_of, first_signed as first_signed_of};
+ghost use Rattle.bitfields.specs.Value.{printed_line, value_count, value_kind as value_kind_of, value_in as value_in_of, value_of, IsKind, FitsKind, first_unsigned as first_unsigned_of, first_signed as first_signed_of, first_bytes as first_bytes_of};
 
-use crate::decimal::{decimal_of_width, signed_of_width};
+use crate::decimal::{decimal_of_width, signed_of_width, spaced_bytes};
 use crate::fault::Reason;
 use crate::field::Field;
-use std::alloc::AllocError;
+use bitstream_io::script::ByteList;
+use std::alloc::{AllocError, Global};
 use std::fmt;
 use std::fmt::Write;
 
 /// A value of a field, by its kind.
-#[derive(Clone, Copy, Debug, PartialEq, Eq, Drop)]
+#[derive(Drop)]
 pub enum FieldValue {
     /// A number without a sign.
     Unsigned(u128),
     /// A signed number.
     Signed(i128),
+    /// Bytes.
+    Bytes(ByteList),
 }
 
 /// The value as its line spells it.
@@ -32,7 +35,38 @@ impl fmt::Display for FieldValue {
         match self {
             FieldValue::Unsigned(value) => write!(f, "{value}"),
             FieldValue::Signed(value) => write!(f, "{value}"),
+            FieldValue::Bytes(bytes) => write!(
+                f,
+                "{}",
+                Spaced {
+                    bytes: bytes.as_slice()
+                }
+            ),
         }
+    }
+}
+
+/// Bytes as decimals, with single spaces between.
+#[derive(Drop)]
+struct Spaced<'a> {
+    bytes: &'a [u8],
+}
+
+impl fmt::Display for Spaced<'_> {
+    ghost use Rattle.std.specs.Prelude.{Some};
+    ghost use Rattle.bitfields.specs.Decimal.{bytes_text};
+
+    ghost output = { λ s. Some (bytes_text s.bytes.now) };
+
+    fn fmt<W: fmt::Write>(&self, f: &mut fmt::Formatter<W>) -> fmt::Result {
+        let Some((first, rest)) = self.bytes.split_first() else {
+            return Ok(());
+        };
+        write!(f, "{first}")?;
+        for byte in rest {
+            write!(f, " {byte}")?;
+        }
+        Ok(())
     }
 }
 
@@ -45,6 +79,8 @@ pub enum ValueKind {
     Unsigned(u32),
     /// A signed number of this many bits.
     Signed(u32),
+    /// This many bytes.
+    Bytes(u32),
 }
 
 /// Returns what the value of a field is.
@@ -58,34 +94,75 @@ pub fn value_kind(field: Field) -> ValueKind
         Field::Unary(_) => ValueKind::Unsigned(32),
         Field::Variable(_) => ValueKind::Unsigned(64),
         Field::SignedVariable(_) => ValueKind::Signed(64),
+        Field::Bytes(count) => ValueKind::Bytes(count),
         Field::Constant { .. } | Field::Padding(_) | Field::Align => ValueKind::Absent,
     }
 }
 
 /// Returns the value of a field, which the first of the lines spells, or `None` if the field has no
-/// value.
+/// value. If there is no value, the reason is `ValueMissing` if there is no line, `ValueMisspelt` if
+/// the line spells no value of this kind, `ValueDoesNotFit` if a number needs more bits.
 ///
 /// # Errors
 ///
-/// `ValueMissing` if there is no line, `ValueMisspelt` if the line spells no value of this kind,
-/// `ValueDoesNotFit` if the number needs more bits.
-pub fn value_in(field: Field, lines: &[&[u8]]) -> Result<Option<FieldValue>, Reason>
+/// If memory is refused, which only bytes ask for.
+pub fn value_in(
+    alloc: Global,
+    field: Field,
+    lines: &[&[u8]],
+) -> Result<Result<Option<FieldValue>, Reason>, AllocError>
     requires { IsField field }
-    ensures value { result ≡ value_in_of field (map (λ x. x.now) lines.now) }
-    ensures line { OnOk result (value_count field ≤ length lines.now) }
+    ensures value { IfOk result (λ value. value
+        ≡ value_in_of field (map (λ x. x.now) lines.now)) }
+    ensures line { IfOk result (λ value. OnOk value (value_count field ≤ length lines.now)) }
 {
     match value_kind(field) {
-        ValueKind::Absent => Ok(None),
-        ValueKind::Unsigned(width) => {
-            let line = lines.first().ok_or(Reason::ValueMissing)?;
-            let value = decimal_of_width(width, line)?;
-            Ok(Some(FieldValue::Unsigned(value)))
-        }
-        ValueKind::Signed(width) => {
-            let line = lines.first().ok_or(Reason::ValueMissing)?;
-            let value = signed_of_width(width, line)?;
-            Ok(Some(FieldValue::Signed(value)))
-        }
+        ValueKind::Absent => Ok(Ok(None)),
+        ValueKind::Unsigned(width) => Ok(unsigned_in(width, lines)),
+        ValueKind::Signed(width) => Ok(signed_in(width, lines)),
+        ValueKind::Bytes(count) => bytes_in(alloc, count, lines),
+    }
+}
+
+/// Returns the unsigned number of `width` bits that the first of the lines spells.
+fn unsigned_in(width: u32, lines: &[&[u8]]) -> Result<Option<FieldValue>, Reason>
+    requires { width ≤ 128 }
+    ensures value { result ≡ value_of (ValueKind.Unsigned width) (map (λ x. x.now) lines.now) }
+    ensures line { OnOk result (1 ≤ length lines.now) }
+{
+    let line = lines.first().ok_or(Reason::ValueMissing)?;
+    let value = decimal_of_width(width, line)?;
+    Ok(Some(FieldValue::Unsigned(value)))
+}
+
+/// Returns the signed number of `width` bits that the first of the lines spells.
+fn signed_in(width: u32, lines: &[&[u8]]) -> Result<Option<FieldValue>, Reason>
+    requires some { 1 ≤ width }
+    requires most { width ≤ 128 }
+    ensures value { result ≡ value_of (ValueKind.Signed width) (map (λ x. x.now) lines.now) }
+    ensures line { OnOk result (1 ≤ length lines.now) }
+{
+    let line = lines.first().ok_or(Reason::ValueMissing)?;
+    let value = signed_of_width(width, line)?;
+    Ok(Some(FieldValue::Signed(value)))
+}
+
+/// Returns the bytes, `count` of them, that the first of the lines spells.
+fn bytes_in(
+    alloc: Global,
+    count: u32,
+    lines: &[&[u8]],
+) -> Result<Result<Option<FieldValue>, Reason>, AllocError>
+    ensures value { IfOk result (λ value. value
+        ≡ value_of (ValueKind.Bytes count) (map (λ x. x.now) lines.now)) }
+    ensures line { IfOk result (λ value. OnOk value (1 ≤ length lines.now)) }
+{
+    let Some(line) = lines.first() else {
+        return Ok(Err(Reason::ValueMissing));
+    };
+    match spaced_bytes(alloc, count, line)? {
+        Ok(bytes) => Ok(Ok(Some(FieldValue::Bytes(bytes)))),
+        Err(reason) => Ok(Err(reason)),
     }
 }
 
@@ -95,9 +172,9 @@ pub fn first_unsigned(width: u32, values: &[FieldValue]) -> u128
     ensures first { result ≡ first_unsigned_of values.now }
     ensures fits { result < 2 ^ width }
 {
-    match values[0] {
-        FieldValue::Unsigned(value) => value,
-        FieldValue::Signed(_) => unreachable!(),
+    match &values[0] {
+        FieldValue::Unsigned(value) => *value,
+        _ => unreachable!(),
     }
 }
 
@@ -107,9 +184,20 @@ pub fn first_signed(width: u32, values: &[FieldValue]) -> i128
     ensures first { result ≡ first_signed_of values.now }
     ensures fits { FitsSignedBits width result }
 {
-    match values[0] {
-        FieldValue::Signed(value) => value,
-        FieldValue::Unsigned(_) => unreachable!(),
+    match &values[0] {
+        FieldValue::Signed(value) => *value,
+        _ => unreachable!(),
+    }
+}
+
+/// Returns the bytes, `count` of them, that stand first.
+pub fn first_bytes(count: u32, values: &[FieldValue]) -> &[u8]
+    requires { FitsKind (ValueKind.Bytes count) values.now }
+    ensures { result.now ≡ first_bytes_of values.now }
+{
+    match &values[0] {
+        FieldValue::Bytes(bytes) => bytes.as_slice(),
+        _ => unreachable!(),
     }
 }
 

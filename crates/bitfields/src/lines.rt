@@ -15,7 +15,7 @@ use std::alloc::{AllocError, Global};
 pub fn lines(alloc: Global, input: &[u8]) -> Result<Vec<&[u8]>, AllocError>
     ensures { IfOk result (λ v. map (λ x. x.now) v.items ≡ lines_of input.now) }
 {
-    let mut lines = parts(alloc, input)?;
+    let mut lines = parts(alloc, b'\n', input)?;
     if let Some(last) = lines.last()
         && last.is_empty()
     {
@@ -24,8 +24,14 @@ pub fn lines(alloc: Global, input: &[u8]) -> Result<Vec<&[u8]>, AllocError>
     Ok(lines)
 }
 
-fn parts(alloc: Global, input: &[u8]) -> Result<Vec<&[u8]>, AllocError>
-    ensures { IfOk result (λ v. map (λ x. x.now) v.items ≡ slice_split (λ b. b == 10) input.now) }
+/// Returns the parts of a text between separators.
+///
+/// # Errors
+///
+/// If memory is refused.
+pub fn parts(alloc: Global, separator: u8, text: &[u8]) -> Result<Vec<&[u8]>, AllocError>
+    ensures { IfOk result (λ v. map (λ x. x.now) v.items
+        ≡ slice_split (λ b. b == separator) text.now) }
 {
-    input.split(|b| *b == b'\n').collect(alloc)
+    text.split(|b| *b == separator).collect(alloc)
 }

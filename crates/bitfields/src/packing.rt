@@ -10,7 +10,7 @@ ghost use Rattle.bitfields.specs.Value.{lines as lines_of, values as values_of, 
 
 use crate::fault::{Fault, Reason};
 use crate::field::{Field, GroupSize};
-use crate::field_value::{FieldValue, first_signed, first_unsigned};
+use crate::field_value::{FieldValue, first_bytes, first_signed, first_unsigned};
 use crate::layout::Layout;
 use crate::value::{behind_value, values};
 use bitstream_io::{BitWrite, BitWriter, Bits, Endianness, Error, Lent, Target};
@@ -98,6 +98,7 @@ fn append_field<W: BitWrite>(
         Field::SignedVariable(size) => {
             append_signed_groups(size, first_signed(64, values), writer)
         }
+        Field::Bytes(count) => writer.write_bytes(first_bytes(count, values)),
         Field::Constant { bits, value } => writer.write_unsigned_var(bits, value),
         Field::Padding(bits) => writer.pad(bits),
         Field::Align => writer.byte_align(),

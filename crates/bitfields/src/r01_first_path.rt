@@ -161,6 +161,95 @@ const HEADLINE: [Row; 33] = [
     Row("unpack be ", b"", b"", "1: bad layout", 2),
 ];
 
+/// Values of which the last is two bytes, and the lines that spell them.
+const BYTES_LAST: &[u8] = b"5\n4\n8\n-3\n1 255\n";
+
+const BYTES: [Row; 28] = [
+    Row(
+        "pack be u3,a,n1,v4,s4,b2",
+        BYTES_LAST,
+        &[0xa0, 0x0c, 0x0a, 0x80, 0xff, 0x80],
+        "",
+        0,
+    ),
+    Row(
+        "unpack be u3,a,n1,v4,s4,b2",
+        &[0xa0, 0x0c, 0x0a, 0x80, 0xff, 0x80],
+        BYTES_LAST,
+        "",
+        0,
+    ),
+    Row(
+        "pack le u3,a,n1,v4,s4,b2",
+        BYTES_LAST,
+        &[0x05, 0x10, 0xa3, 0x02, 0xfe, 0x01],
+        "",
+        0,
+    ),
+    Row(
+        "unpack le u3,a,n1,v4,s4,b2",
+        &[0x05, 0x10, 0xa3, 0x02, 0xfe, 0x01],
+        BYTES_LAST,
+        "",
+        0,
+    ),
+    Row(
+        "pack be u3,b3,u5",
+        b"5\n1 255 0\n31",
+        &[0xa0, 0x3f, 0xe0, 0x1f],
+        "",
+        0,
+    ),
+    Row(
+        "unpack be u3,b3,u5",
+        &[0xa0, 0x3f, 0xe0, 0x1f],
+        b"5\n1 255 0\n31\n",
+        "",
+        0,
+    ),
+    Row(
+        "pack le u3,b3,u5",
+        b"5\n1 255 0\n31",
+        &[0x0d, 0xf8, 0x07, 0xf8],
+        "",
+        0,
+    ),
+    Row(
+        "unpack le u3,b3,u5",
+        &[0x0d, 0xf8, 0x07, 0xf8],
+        b"5\n1 255 0\n31\n",
+        "",
+        0,
+    ),
+    Row("unpack be b1,u8,b2", D, b"177\n237\n59 193\n", "", 0),
+    Row("unpack be b65536", &[0xff; 10], b"", "1: bits ended", 4),
+    Row("unpack le u1,b2", &[0xff; 2], b"", "2: bits ended", 4),
+    Row("pack be b65537", b"", b"", "1: bad layout", 2),
+    Row("pack be b0", b"", b"", "1: bad layout", 2),
+    Row("pack be b01", b"", b"", "1: bad layout", 2),
+    Row("pack be b", b"", b"", "1: bad layout", 2),
+    Row("pack be b2", b"", b"", "1: value missing", 3),
+    Row(
+        "pack be u1,b2",
+        b"1\n1 256",
+        b"",
+        "2: value does not fit",
+        3,
+    ),
+    Row("pack be b2", b"1", b"", "1: value misspelt", 3),
+    Row("pack be b2", b"1 2 3", b"", "1: value misspelt", 3),
+    Row("pack be b2", b"1  2", b"", "1: value misspelt", 3),
+    Row("pack be b2", b" 1 2", b"", "1: value misspelt", 3),
+    Row("pack be b2", b"1 2 ", b"", "1: value misspelt", 3),
+    Row("pack be b2", b"01 2", b"", "1: value misspelt", 3),
+    Row("pack be b2", b"1 -2", b"", "1: value misspelt", 3),
+    Row("pack be b1", b"\n", b"", "1: value misspelt", 3),
+    // Another number of decimals, or a part that is none, comes before a number that does not fit.
+    Row("pack be b2", b"256", b"", "1: value misspelt", 3),
+    Row("pack be b2", b"256 x", b"", "1: value misspelt", 3),
+    Row("pack be b2", b"1 2\n3", b"", "0: value left over", 3),
+];
+
 /// Constants: no line says their number, and other bits are a fault.
 const CONSTANTS: [Row; 23] = [
     Row("unpack be u2,c3=5", &[0xb1], b"", "2: constant differs", 4),
@@ -304,6 +393,14 @@ fn r01_first_path(rt: HostRuntime) -> Result<(), Fail> {
 fn r09_headline(rt: HostRuntime) -> Result<(), Fail> {
     for row in &HEADLINE {
         assert!(rt; is_right(rt.alloc(), row)?, "{}", row.0);
+    }
+    Ok(())
+}
+
+#[test]
+fn bytes_have_one_line(rt: HostRuntime) -> Result<(), Fail> {
+    for row in &BYTES {
+        assert!(rt; is_right(rt.alloc(), row)?, "{} of {:?}", row.0, row.1);
     }
     Ok(())
 }

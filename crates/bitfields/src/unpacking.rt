@@ -1,18 +1,19 @@
 //! Unpacking: the lines of the values that bits hold for the fields of a layout.
 
-ghost use Rattle.std.specs.Prelude.{◌≡◌, ◌++◌, ◌^◌, ℕ, List, Some, string_bytes, IsErr, IsSome, OnOk};
+ghost use Rattle.std.specs.Prelude.{◌≡◌, ◌++◌, ◌^◌, ℕ, List, Some, true, length, string_bytes, IfOk, IsErr, IsSome, OnOk, None, Ok, Err, if◌then◌else◌};
 ghost use Rattle.bitstream_io.specs.Gather.{seen};
 ghost use Rattle.bitstream_io.specs.Refusal.{MayRefuse, TrueEnds};
 ghost use Rattle.bitstream_io.specs.ReadTable.{unary_entry, vbr_entry, signed_vbr_entry};
 ghost use Rattle.bitstream_io.specs.Reads.{Reads};
 ghost use Rattle.bitfields.specs.Layout.{group_bits};
-ghost use Rattle.bitfields.specs.Unpacking.{read_reason as read_reason_of, IsSaid, ReadsField, ReadsLines, UnpacksBytes};
+ghost use Rattle.bitfields.specs.Unpacking.{asks_memory, byte_count, read_reason as read_reason_of, IsSaid, ReadsField, ReadsLines, UnpacksBytes};
 ghost use Rattle.bitfields.specs.Value.{value_list, printed_lines};
 
 use crate::fault::{Fault, Reason};
 use crate::field::{Field, GroupSize};
 use crate::field_value::{FieldValue, print_value};
 use crate::layout::Layout;
+use bitstream_io::script::ByteList;
 use bitstream_io::{BitRead, BitReader, Bits, Endianness, Error, Lent, Source};
 use std::alloc::{AllocError, Global};
 
@@ -25,8 +26,8 @@ use std::alloc::{AllocError, Global};
 /// `BitsEnded` at the first field whose bits are not all there, `ConstantDiffers` at the first
 /// constant whose bits hold another number, `LimitPassed` at the first whose number passes its
 /// limit, `StreamFault` or `OutOfMemory` at the field for which the stream refused a request,
-/// `OutOfMemory` at the field for whose line memory was refused. If each refusal of the stream is a
-/// true end, as of a `Slice`, the bits alone decide the answer, memory aside.
+/// `OutOfMemory` at the field for whose bytes or line memory was refused. If each refusal of the
+/// stream is a true end, as of a `Slice`, the bits alone decide the answer, memory aside.
 pub fn unpack<E: Endianness, R: Source>(
     alloc: Global,
     layout: &Layout,
@@ -49,7 +50,7 @@ pub fn unpack<E: Endianness, R: Source>(
 /// # Errors
 ///
 /// At the first field whose call answers an error, at the first constant whose bits hold another
-/// number, or at the first field for whose line memory is refused. No call is made after it.
+/// number, or at the first field for whose bytes or line memory is refused. No call is made after it.
 pub fn unpack_from<R: BitRead>(
     alloc: Global,
     fields: &[Field],
@@ -59,7 +60,10 @@ pub fn unpack_from<R: BitRead>(
 {
     let mut lines = String::new(alloc);
     for (index, field) in fields.iter().enumerate() {
-        match unpack_field(*field, reader) {
+        let Ok(room) = room_for(alloc, *field) else {
+            return Err(Fault::new(index + 1, Reason::OutOfMemory));
+        };
+        match unpack_field(*field, room, reader) {
             Ok(value) => {
                 if print_field(&mut lines, value).is_err() {
                     return Err(Fault::new(index + 1, Reason::OutOfMemory));
@@ -71,13 +75,18 @@ pub fn unpack_from<R: BitRead>(
     Ok(lines)
 }
 
-/// Reads a field: its value, if it has one.
+/// Reads a field: its value, if it has one. The room is for its bytes.
 ///
 /// # Errors
 ///
 /// `ConstantDiffers` if the bits of a constant hold another number, whose bits are taken then. Else
 /// the reason for the reader's error.
-fn unpack_field<R: BitRead>(field: Field, reader: &mut R) -> Result<Option<FieldValue>, Reason>
+fn unpack_field<R: BitRead>(
+    field: Field,
+    mut room: Vec<u8>,
+    reader: &mut R,
+) -> Result<Option<FieldValue>, Reason>
+    requires { length room.items ≡ byte_count field }
     ensures { ReadsField R.source field reader.old result reader.new }
 {
     match field {
@@ -101,13 +110,13 @@ fn unpack_field<R: BitRead>(field: Field, reader: &mut R) -> Result<Option<Field
             let value = read_signed_groups(size, reader)?;
             Ok(Some(FieldValue::Signed(widened(value))))
         }
+        Field::Bytes(_) => {
+            reader.read_bytes(room.as_mut_slice())?;
+            Ok(Some(FieldValue::Bytes(ByteList::new(room))))
+        }
         Field::Constant { bits, value } => {
             let held: u32 = reader.read_unsigned_var(bits)?;
-            if held == value {
-                Ok(None)
-            } else {
-                Err(Reason::ConstantDiffers)
-            }
+            no_value_if(held == value)
         }
         Field::Padding(bits) => {
             reader.skip(bits)?;
@@ -149,6 +158,32 @@ fn read_signed_groups<R: BitRead>(size: GroupSize, reader: &mut R) -> Result<i64
     match size {
         GroupSize::Four => reader.read_signed_vbr::<Bits<4>, i64>(),
         GroupSize::Eight => reader.read_signed_vbr::<Bits<8>, i64>(),
+    }
+}
+
+/// Returns room for the bytes that are read for a field: of a field of another kind for none.
+///
+/// # Errors
+///
+/// If memory is refused.
+fn room_for(alloc: Global, field: Field) -> Result<Vec<u8>, AllocError>
+    ensures room { IfOk result (λ room. length room.items ≡ byte_count field) }
+    ensures asks { IsErr result → asks_memory field ≡ true }
+{
+    match field {
+        Field::Bytes(count) => vec![in alloc; 0; count as usize],
+        _ => Ok(Vec::new(alloc)),
+    }
+}
+
+/// Returns no value, or `ConstantDiffers` if the bits of a constant hold another number.
+fn no_value_if(same: bool) -> Result<Option<FieldValue>, Reason>
+    ensures { result ≡ (if same then Ok None else Err Reason.ConstantDiffers) }
+{
+    if same {
+        Ok(None)
+    } else {
+        Err(Reason::ConstantDiffers)
     }
 }
 

@@ -38,7 +38,7 @@ fn read_values(alloc: Global, fields: &[Field], lines: &[&[u8]]) -> Result<Vec<F
     let mut values = Vec::new(alloc);
     let mut rest = lines;
     for (index, field) in fields.iter().enumerate() {
-        let value = match value_in(*field, rest) {
+        let value = match value_in(alloc, *field, rest)? {
             Ok(value) => value,
             Err(reason) => return Err(Fault::new(index + 1, reason)),
         };
@@ -67,7 +67,7 @@ pub fn value_count(field: Field) -> usize
 {
     match value_kind(field) {
         ValueKind::Absent => 0,
-        ValueKind::Unsigned(_) | ValueKind::Signed(_) => 1,
+        ValueKind::Unsigned(_) | ValueKind::Signed(_) | ValueKind::Bytes(_) => 1,
     }
 }
 

@@ -37,3 +37,6 @@ returns-in-Padding g c = rw c.in-Padding.is c.pad.ensures.writes
 
 pub returns-in-Align : goal.returns-in-Align
 returns-in-Align g c = rw c.in-Align.is c.byte_align.ensures.writes
+
+pub returns-in-Bytes : goal.returns-in-Bytes
+returns-in-Bytes g c = rw c.in-Bytes.is (rw c.first_bytes.ensures at c.write_bytes.ensures.writes)

@@ -1,9 +1,9 @@
 use borrow.Author.Rules.{sfits_of}
-use Rattle.std.proofs.Common.{rules, ℕ, ◌≡◌, ◌≢◌, ◌∙◌, SFits, to_z, of_z, Option, Result, Ok, Err, Some, None, refl, subst, eq-eqb}
+use Rattle.std.proofs.Common.{rules, ℕ, ◌≡◌, ◌∙◌, SFits, to_z, of_z, Option, Result, Ok, Err, Some, None, refl, length, arith}
 use Rattle.std.specs.Prelude.{◌==◌, if◌then◌else◌}
-use Rattle.std.proofs.lemmas.Bool.{ne_eqb}
 use Rattle.std.specs.Int.{w64, w128}
 use Rattle.std.specs.Result.{IsErrAnd}
+use Rattle.std.proofs.lemmas.Grind.{common_steps}
 use Rattle.std.proofs.lemmas.Int.{to_z-of_z}
 use Rattle.bitstream_io.specs.Error.{Error}
 use Rattle.bitstream_io.specs.Entry.{ReadEntry, chain, gives}
@@ -33,23 +33,6 @@ module _ {R A B : Type 0} {K : BitSource R} {e : ReadEntry A} (f : A → Result 
 -- what a constant answers of a number
 constant_of : ℕ → ℕ → Result (Option FieldValue) Reason
 constant_of v u = if u == v then Ok None else Err ConstantDiffers
-
-module _ {R : Type 0} {K : BitSource R} {e : ReadEntry ℕ} {s t : R} (v u : ℕ) where
-  holds : u ≡ v → Reads K e s (Ok u) t
-      → ReadsOwn K IsReadReason (chain e (λ u. gives (constant_of v u))) s (Ok None) t
-  unfolding constant_of
-  holds is h =
-      let same : constant_of v u ≡ Ok None = rw (eq-eqb u v is) refl in
-      subst (λ r. ReadsOwn K IsReadReason (chain e (λ u. gives (constant_of v u))) s r t) same
-      (answers (constant_of v) h)
-
-  differs : u ≢ v → Reads K e s (Ok u) t
-      → ReadsOwn K IsReadReason (chain e (λ u. gives (constant_of v u))) s (Err ConstantDiffers) t
-  unfolding constant_of
-  differs other h =
-      let same : constant_of v u ≡ Err ConstantDiffers = rw (ne_eqb u v other) refl in
-      subst (λ r. ReadsOwn K IsReadReason (chain e (λ u. gives (constant_of v u))) s r t) same
-      (answers (constant_of v) h)
 
 pub returns-in_err-value-in-Unsigned : goal.returns-in_err-value-in-Unsigned
 returns-in_err-value-in-Unsigned g c =
@@ -100,22 +83,31 @@ returns-in_ok-value-in-SignedVariable g c =
     ∙ to_z-of_z w64 value fits in
     rw (c.in-SignedVariable.is, same) (answers (λ v. Ok (Some (Value.Signed v))) c.in_ok-value-in-SignedVariable.ensures)
 
+pub returns-in_err-read_bytes-in-Bytes : goal.returns-in_err-read_bytes-in-Bytes
+returns-in_err-read_bytes-in-Bytes g c =
+    let whole = c.as_mut_slice.ensures.value in
+    let size : length c.as_mut_slice.result.now ≡ c.in-Bytes.field-0 = search rules in
+    rw c.in-Bytes.is (stops (λ bytes. Ok (Some (Value.Bytes bytes)))
+    c.from_residual-in_err-read_bytes-in-Bytes.ensures.1
+    (rw size at c.in_err-read_bytes-in-Bytes.ensures.reads))
+
+pub returns-in_ok-read_bytes-in-Bytes : goal.returns-in_ok-read_bytes-in-Bytes
+returns-in_ok-read_bytes-in-Bytes g c =
+    let size : length c.as_mut_slice.result.now ≡ c.in-Bytes.field-0 = search rules in
+    let bytes : c.new.result ≡ c.read_bytes.new.buf = grind (arith, common_steps) in
+    rw (c.in-Bytes.is, bytes) (answers (λ bytes. Ok (Some (Value.Bytes bytes)))
+    (rw size at c.in_ok-read_bytes-in-Bytes.ensures.reads))
+
 pub returns-in_err-held-in-Constant : goal.returns-in_err-held-in-Constant
 unfolding constant_of
 returns-in_err-held-in-Constant g c =
     rw c.in-Constant.is (stops (constant_of c.in-Constant.value) c.from_residual-in_err-held-in-Constant.ensures.1
     c.in_err-held-in-Constant.ensures.reads)
 
-pub returns-then-held-value : goal.returns-then-held-value
+pub returns-in_ok-held-in-Constant : goal.returns-in_ok-held-in-Constant
 unfolding constant_of
-returns-then-held-value g c =
-    rw c.in-Constant.is (holds c.in-Constant.value c.in_ok-held-in-Constant.held c.if-held-value.true
-    c.in_ok-held-in-Constant.ensures.reads)
-
-pub returns-else-held-value : goal.returns-else-held-value
-unfolding constant_of
-returns-else-held-value g c =
-    rw c.in-Constant.is (differs c.in-Constant.value c.in_ok-held-in-Constant.held c.if-held-value.false
+returns-in_ok-held-in-Constant g c =
+    rw (c.in-Constant.is, c.no_value_if.ensures) (answers (constant_of c.in-Constant.value)
     c.in_ok-held-in-Constant.ensures.reads)
 
 pub returns-in_err-skip-in-Padding : goal.returns-in_err-skip-in-Padding

@@ -1,4 +1,4 @@
-use Rattle.std.proofs.Common.{rules, ◌≡◌, ◌++◌, ◌<◌, length, arith, sym}
+use Rattle.std.proofs.Common.{rules, ◌≡◌, ◌++◌, ◌<◌, length, arith, sym, ◌∙◌}
 use Rattle.bitfields.specs.Value.{value_list}
 use Rattle.bitfields.proofs.ValueLemmas.{one_value}
 use Rattle.bitfields.proofs.value.read_values.Goals as goal
@@ -9,5 +9,5 @@ loop-index-preserved c =
     let h : i < length c.args.fields.now = omega arith in
     let pushed : c.push_value.new.values.items ≡ c.loop-index.values.items ++ value_list c.in-Ok.value = search rules in
     let more = one_value c.args.fields.now i _ c.loop-index.values.items _ c.in-Ok.value h c.loop-index.invariant
-    (sym c.in-Ok.ensures.value) in
+    (sym c.in_ok-value.ensures.value ∙ c.in-Ok.is) in
     rw pushed (search (rules, more))
