@@ -1,5 +1,4 @@
-use Rattle.std.proofs.Common.{◌≡◌, ◌++◌, ◌∷◌, [], ◌∙◌, rules, refl}
-use Rattle.std.specs.Fmt.{decimal}
+use Rattle.std.proofs.Common.{◌∙◌, rules, refl}
 use Rattle.bitfields.specs.Streams.{ReadToEnd}
 use Rattle.bitfields.proofs.PackingLemmas.{result_err}
 use Rattle.bitfields.proofs.RunLemmas.{sizing_fault, sizing_refused, sizing_unflushed, sized}
