@@ -278,11 +278,11 @@ trips o Align vs at i h =
     }
 
 -- an accepted call, and those that follow it
-run-more : (entry : WriteEntry) (entries : List WriteEntry) (w : List Bool) (len : ℕ) → entry len ≡ Ok w
+pub run-more : (entry : WriteEntry) (entries : List WriteEntry) (w : List Bool) (len : ℕ) → entry len ≡ Ok w
     → write_run (entry ∷ entries) len ≡ w ++ write_run entries (len + length w)
 run-more entry entries w len e = rw e refl
 
-refusals-more : (entry : WriteEntry) (entries : List WriteEntry) (w : List Bool) (len : ℕ) → entry len ≡ Ok w
+pub refusals-more : (entry : WriteEntry) (entries : List WriteEntry) (w : List Bool) (len : ℕ) → entry len ≡ Ok w
     → write_refusals (entry ∷ entries) len ≡ None ∷ write_refusals entries (len + length w)
 refusals-more entry entries w len e = rw e refl
 
@@ -347,7 +347,7 @@ packed-first o f fields vs at w e = run-more (field_write o f vs) (field_writes 
     ++ align ∷ []) w at e
 
 -- a value that fits is accepted, and its word is written
-field_word-written : (o : Order) (f : Field) (vs : List FieldValue) (at : ℕ) → IsField f → FitsField f vs
+pub field_word-written : (o : Order) (f : Field) (vs : List FieldValue) (at : ℕ) → IsField f → FitsField f vs
     → field_write o f vs at ≡ Ok (field_word o f vs at)
 field_word-written o (Unsigned n) vs at i h = unsigned-fits o 128 n (first_unsigned vs) at i.1 (unsigned_first n vs h).0
 field_word-written o (Signed n) vs at i h = signed-accepts o 128 n (first_signed vs) at i.0 (

@@ -7,6 +7,7 @@ pub mod PackingLemmas
 pub mod PrintedLines
 pub mod Rows
 pub mod RunLemmas
+pub mod SizeLemmas
 pub mod SpelledLayouts
 pub mod UnpackedBytes
 pub mod UnpackingLemmas

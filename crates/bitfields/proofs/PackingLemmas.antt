@@ -14,10 +14,11 @@ use Rattle.bitstream_io.specs.Refusal.{Refusal}
 use Rattle.bitstream_io.proofs.TakeLemmas.{word-none}
 use Rattle.bitstream_io.specs.Alignment.{to_boundary}
 use Rattle.bitstream_io.specs.Run.{accepted, refusal_if_any, write_run, write_refusals}
-use Rattle.bitstream_io.specs.Sink.{Sink, IsPastLimit, Appended, WriteRefused, Writes, WritesAll, had_failed, was_rejected, past_limit, was_refused, was_done}
+use Rattle.bitstream_io.specs.Sink.{Sink, IsWithin, Appended, WriteRefused, Writes, WritesAll, had_failed, was_rejected, past_limit, was_refused, was_done}
 use Rattle.bitstream_io.specs.WriteTable.{align}
 use Rattle.bitstream_io.specs.Carries.{WriterState, Carries, Fills}
 use Rattle.bitstream_io.specs.Writer.{new_writer_state}
+use Rattle.bitstream_io.proofs.SinkLemmas.{not_past_limit, within_less}
 use Rattle.bitstream_io.proofs.SinkParts.{WriteRefused-behind, WriteRefused-longer}
 use Rattle.bitstream_io.proofs.WriteParts.{all_none, all_err, all_more}
 use Rattle.bitfields.specs.declared.fault.Fault.{Fault}
@@ -30,21 +31,22 @@ use Rattle.bitfields.specs.Packing.{WritesBits, PackedBytes, PackingRefused, Pac
 use Rattle.bitfields.specs.Value.{value_count, FitsField, Fit}
 use Rattle.bitfields.proofs.FieldCalls.{refusals-none, write_run-append}
 
--- ---- a list of accepted calls, to a sink without a limit
+-- ---- a list of accepted calls, to a sink that has room
 
--- a call whose word is x adds it to a sink that has not failed and has no limit, or a request is refused
+-- a call whose word is x adds it to a sink that has not failed and has room for it, or a request is refused
 WritesBits-from : {S : Type 0} (K : Sink S) (entry : WriteEntry) (x : List Bool) (old : S)
-    (r : Result (Unit {0}) Error) (new : S) → K.failed old ≡ false → K.limit ≡ None → entry (K.len old) ≡ Ok x
-    → Writes K entry old r new → WritesBits K x old r new
-WritesBits-from K entry x old r new sound unlimited is (had_failed p q k) = absurd (cc)
-WritesBits-from K entry x old r new sound unlimited is (was_rejected error p q e k) = absurd (cc)
-WritesBits-from K entry x old r new sound unlimited is (past_limit w p q beyond e k) =
-    absurd (subst (λ (m : Option ℕ). IsPastLimit m (K.len old + length w)) unlimited beyond)
-WritesBits-from K entry x old r new sound unlimited is (was_refused w error p q within e f) =
+    (r : Result (Unit {0}) Error) (new : S) → K.failed old ≡ false → IsWithin K.limit (K.len old + length x)
+    → entry (K.len old) ≡ Ok x → Writes K entry old r new → WritesBits K x old r new
+WritesBits-from K entry x old r new sound room is (had_failed p q k) = absurd (cc)
+WritesBits-from K entry x old r new sound room is (was_rejected error p q e k) = absurd (cc)
+WritesBits-from K entry x old r new sound room is (past_limit w p q beyond e k) =
+    let same : w ≡ x = cc in
+    absurd (not_past_limit K.limit _ _ room (omega (arith, ap length same)) beyond)
+WritesBits-from K entry x old r new sound room is (was_refused w error p q within e f) =
     let same : w ≡ x = cc in
     subst (λ (a : Result (Unit {0}) Error). WritesBits K x old a new) (sym e)
     (subst (λ (y : List Bool). WriteRefused K old y error new) same f)
-WritesBits-from K entry x old r new sound unlimited is (was_done w done p q within e a) =
+WritesBits-from K entry x old r new sound room is (was_done w done p q within e a) =
     let same : w ≡ x = cc in
     subst (λ (b : Result (Unit {0}) Error). WritesBits K x old b new) (sym e)
     (subst (λ (y : List Bool). Appended K old y new) same a)
@@ -78,26 +80,32 @@ accepted-word (Ok w) h = refl
 accepted-word (Err e) h = absurd (cc)
 
 -- calls that are all accepted add their write run
-WritesBits-all : {S : Type 0} (K : Sink S) (es : List WriteEntry) (old : S) (r : Result (Unit {0}) Error) (new : S)
-    → K.failed old ≡ false → K.limit ≡ None
+pub WritesBits-all : {S : Type 0} (K : Sink S) (es : List WriteEntry) (old : S) (r : Result (Unit {0}) Error) (new : S)
+    → K.failed old ≡ false → IsWithin K.limit (K.len old + length (write_run es (K.len old)))
     → AllByRecursion (λ e. e ≡ None) (write_refusals es (K.len old)) → WritesAll K es old r new
     → WritesBits K (write_run es (K.len old)) old r new
 unfolding WritesAll
-WritesBits-all K [] old r new sound unlimited fine w =
+WritesBits-all K [] old r new sound room fine w =
     subst (λ (s : Result (Unit {0}) Error). WritesBits K [] old s new) (sym w.0)
     (subst (λ (z : _). Appended K old [] z) (sym w.1) (Appended-nil K old sound))
-WritesBits-all K (e ∷ es) old r new sound unlimited fine (inl h) =
+WritesBits-all K (e ∷ es) old r new sound room fine (inl h) =
     let x = accepted (e (K.len old)) in
-    let here = WritesBits-from K e x old r new sound unlimited (accepted-word (e (K.len old)) fine.0) h.1 in
-    WritesBits-first K x (write_run es (K.len old + length x)) old r new h.0 here
-WritesBits-all K (e ∷ es) old r new sound unlimited fine (inr (mid, first, others)) =
+    let rest = write_run es (K.len old + length x) in
+    let near = within_less K.limit (K.len old + length x) _ (omega (arith, length-append x rest)) room in
+    let here = WritesBits-from K e x old r new sound near (accepted-word (e (K.len old)) fine.0) h.1 in
+    WritesBits-first K x rest old r new h.0 here
+WritesBits-all K (e ∷ es) old r new sound room fine (inr (mid, first, others)) =
     let x = accepted (e (K.len old)) in
-    let here = WritesBits-from K e x old (Ok tt) mid sound unlimited (accepted-word (e (K.len old)) fine.0) first in
+    let rest = write_run es (K.len old + length x) in
+    let near = within_less K.limit (K.len old + length x) _ (omega (arith, length-append x rest)) room in
+    let here = WritesBits-from K e x old (Ok tt) mid sound near (accepted-word (e (K.len old)) fine.0) first in
     let place : K.len mid ≡ K.len old + length x = K.appends_len old mid x here.grown in
-    let rest = WritesBits-all K es mid r new here.sound unlimited
+    let far = within_less K.limit (K.len old + length x + length rest) _ (omega (arith, length-append x rest)) room in
+    let later = WritesBits-all K es mid r new here.sound
+    (subst (λ (n : ℕ). IsWithin K.limit (n + length (write_run es n))) (sym place) far)
     (subst (λ (n : ℕ). AllByRecursion (λ e. e ≡ None) (write_refusals es n)) (sym place) fine.1) others in
-    WritesBits-later K x (write_run es (K.len old + length x)) old mid r new here
-    (subst (λ (n : ℕ). WritesBits K (write_run es n) mid r new) place rest)
+    WritesBits-later K x rest old mid r new here
+    (subst (λ (n : ℕ). WritesBits K (write_run es n) mid r new) place later)
 
 -- values that fit are packed
 pub WritesBits-packed : {S : Type 0} (K : Sink S) (fields : List Field) (vs : List FieldValue) (old : S)
@@ -106,7 +114,9 @@ pub WritesBits-packed : {S : Type 0} (K : Sink S) (fields : List Field) (vs : Li
     → WritesBits K (packed K.order fields vs (K.len old)) old r new
 WritesBits-packed K fields vs old r new layout fit w sound unlimited =
     let each = recursion_from_All IsField fields layout.in_range in
-    WritesBits-all K (field_writes K.order fields vs ++ align ∷ []) old r new sound unlimited
+    let room = subst (λ (m : Option ℕ). IsWithin m (K.len old + length (packed K.order fields vs (K.len old))))
+    (sym unlimited) tt in
+    WritesBits-all K (field_writes K.order fields vs ++ align ∷ []) old r new sound room
     (refusals-none K.order fields vs (K.len old) each fit) w
 
 -- ---- the fields' calls, one behind the other

@@ -4,6 +4,7 @@ pub mod Fault
 pub mod Layout
 pub mod Packing
 pub mod Run
+pub mod Size
 pub mod Streams
 pub mod Unpacking
 pub mod Value

@@ -1,5 +1,6 @@
 -- What a call of the program does to its streams.
-use Rattle.std.specs.Prelude.{◌≡◌, ◌⊎◌, ℕ, List, length, Option, Some, None, Result, Ok, Err}
+use Rattle.std.specs.Prelude.{◌≡◌, ◌⊎◌, ℕ, List, [], ◌∷◌, ◌++◌, length, Option, Some, None, Result, Ok, Err}
+use Rattle.std.specs.Fmt.{decimal}
 use Rattle.std.specs.Io.KnownBytes.{Appends}
 use Rattle.std.specs.declared.io.ErrorKind.{ErrorKind}
 use Rattle.bitstream_io.specs.Word.{Order}
@@ -9,11 +10,12 @@ use Rattle.bitfields.specs.declared.fault.Fault.{Fault}
 use Rattle.bitfields.specs.declared.field.Field.{Field}
 use Rattle.bitfields.specs.declared.field_value.FieldValue.{FieldValue}
 use Rattle.bitfields.specs.declared.run.Command.{Command}
-use Rattle.bitfields.specs.declared.run.Command.TheVariants.{Pack, Unpack}
+use Rattle.bitfields.specs.declared.run.Command.TheVariants.{Pack, Unpack, Size}
 use Rattle.bitfields.specs.Call.{Request}
 use Rattle.bitfields.specs.Fault.{fault, fault_line}
 use Rattle.bitfields.specs.Layout.{IsUnlessMemory, layout_of}
 use Rattle.bitfields.specs.Packing.{PackedBytes, PackingRefused}
+use Rattle.bitfields.specs.Size.{size_of}
 use Rattle.bitfields.specs.Streams.{InputStream, OutputStream, ReadToEnd, RefusedInput, RefusedOutput, Flushed}
 use Rattle.bitfields.specs.Unpacking.{UnpackedBytes, UnpacksBytes}
 use Rattle.bitfields.specs.Value.{lines, values}
@@ -110,6 +112,50 @@ UnpacksInput I O o fields input output (Ok done) input_after output_after =
 UnpacksInput I O o fields input output (Err f) input_after output_after =
     UnpackingFault I O o fields input output f input_after output_after
 
+-- ---- sizes
+
+-- the line of the values' size
+abbrev pub size_line : Order → List Field → List FieldValue → List ℕ
+size_line o fields vs = decimal (size_of o fields vs) ++ 10 ∷ []
+
+-- the line of the size of the values that the input's lines spell was written, and the output was flushed behind it
+pub record SizedInput {R W : Type 0} (I : InputStream R) (O : OutputStream W) (o : Order)
+    (fields : List Field) (input : R) (output : W) (input_after : R) (output_after : W) : Type 0 where
+  pub vs : List FieldValue
+  pub reads : SpelledInput fields (I.remaining input) (Ok vs) (I.remaining input_after)
+  pub filled : W
+  pub writes : Appends (O.contents output) (O.contents filled) (size_line o fields vs)
+  pub flushed : Flushed O filled output_after
+
+-- Why an input's values are not known: it refused to be read, its lines have a fault, or memory was refused behind its
+-- end.
+abbrev pub ValuesFault : {R : Type 0} → InputStream R → List Field → R → Fault → R → Type 0
+ValuesFault I fields input f input_after =
+    RefusedInput I input f input_after
+    ⊎ SpelledInput fields (I.remaining input) (Err f) (I.remaining input_after)
+    ⊎ ((bytes : List ℕ) × ReadToEnd (I.remaining input) bytes (I.remaining input_after) × (f ≡ fault 0 OutOfMemory))
+
+-- Why the size of an input's values was not written: the values are not known, or memory for the line was refused, and
+-- then the output is as it was. Else the output refused the one request for the line, or the flush behind it.
+pub data SizingFault {R W : Type 0} (I : InputStream R) (O : OutputStream W) (o : Order) (fields : List Field)
+    (input : R) (output : W) (f : Fault) (input_after : R) (output_after : W) : Type 0 where
+  unknown_values : ValuesFault I fields input f input_after → output_after ≡ output
+      → SizingFault I O o fields input output f input_after output_after
+  refused_line : (vs : List FieldValue) → SpelledInput fields (I.remaining input) (Ok vs) (I.remaining input_after)
+      → RefusedOutput O output (length (size_line o fields vs)) f output_after
+      → SizingFault I O o fields input output f input_after output_after
+  unflushed_line : (vs : List FieldValue) → SpelledInput fields (I.remaining input) (Ok vs) (I.remaining input_after)
+      → UnflushedLines O output (size_line o fields vs) f output_after
+      → SizingFault I O o fields input output f input_after output_after
+
+-- writing the size of an input's values
+abbrev pub SizesInput : {R W : Type 0} → InputStream R → OutputStream W → Order → List Field → R → W
+    → Result (Unit {0}) Fault → R → W → Type 0
+SizesInput I O o fields input output (Ok done) input_after output_after =
+    SizedInput I O o fields input output input_after output_after
+SizesInput I O o fields input output (Err f) input_after output_after =
+    SizingFault I O o fields input output f input_after output_after
+
 -- ---- a call
 
 -- a command's work
@@ -117,6 +163,7 @@ abbrev pub Performs : {R W : Type 0} → InputStream R → OutputStream W → Co
     → Result (Unit {0}) Fault → R → W → Type 0
 Performs I O Pack = PacksInput I O
 Performs I O Unpack = UnpacksInput I O
+Performs I O Size = SizesInput I O
 
 -- memory was refused before a stream was touched
 abbrev pub IsMemoryRefused : {R W : Type 0} → R → W → Result (Unit {0}) Fault → R → W → Type 0

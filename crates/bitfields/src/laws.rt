@@ -1,6 +1,6 @@
 //! Laws of layouts and values, whatever parses or packs them.
 
-ghost use Rattle.std.specs.Prelude.{◌≡◌, ◌≢◌, ◌++◌, ◌+◌, ◌^◌, ◌<◌, ◌≤◌, ℕ, Bool, false, List, [], ◌∷◌, length, take, drop, map, replicate, Option, None, Ok, Err};
+ghost use Rattle.std.specs.Prelude.{◌≡◌, ◌≢◌, ◌++◌, ◌+◌, ◌*◌, ◌^◌, ◌<◌, ◌≤◌, ℕ, Bool, false, List, [], ◌∷◌, length, take, drop, map, replicate, Option, None, Ok, Err};
 ghost use Rattle.std.specs.List.{All};
 ghost use Rattle.bitstream_io.specs.Word.{Order, bits, word, number};
 ghost use Rattle.bitstream_io.specs.Alignment.{to_boundary};
@@ -11,6 +11,7 @@ ghost use Rattle.bitstream_io.specs.WriteTable.{align};
 ghost use Rattle.bitfields.specs.Fault.{fault};
 ghost use Rattle.bitfields.specs.Layout.{layout_of, layout_text, IsField, IsLayout};
 ghost use Rattle.bitfields.specs.Packing.{packed, field_word, field_writes};
+ghost use Rattle.bitfields.specs.Size.{size_of};
 ghost use Rattle.bitfields.specs.Unpacking.{unpacked, Unpacks, Stops, values_and, field_read, read_reason, answered};
 ghost use Rattle.bitfields.specs.Value.{lines, values, printed_lines, ended_lines, value_count, value_list, Fit, FitsField};
 
@@ -60,6 +61,21 @@ pub fn packing_is_a_write_run()
     ensures accepted { (o : Order) (fields : List Field) (vs : List FieldValue) (at : ℕ)
         → All IsField fields → Fit fields vs
         → All (λ r. r ≡ None) (write_refusals (field_writes o fields vs ++ align ∷ []) at) }
+{}
+
+/// The packed bits are as many as their size says, and then zeros up to a whole byte. Values that fit
+/// have one size in both orders of bits, and at most 2^40 bits.
+pub fn packed_values_have_their_size()
+    ensures bits { (o : Order) (fields : List Field) (vs : List FieldValue)
+        → packed o fields vs 0
+        ≡ write_run (field_writes o fields vs) 0 ++ replicate (to_boundary (size_of o fields vs)) false }
+    ensures bytes { (o : Order) (fields : List Field) (vs : List FieldValue) (bytes : List ℕ)
+        → bits o bytes ≡ packed o fields vs 0
+        → 8 * length bytes ≡ size_of o fields vs + to_boundary (size_of o fields vs) }
+    ensures order { (o p : Order) (fields : List Field) (vs : List FieldValue)
+        → IsLayout fields → Fit fields vs → size_of o fields vs ≡ size_of p fields vs }
+    ensures most { (o : Order) (fields : List Field) (vs : List FieldValue)
+        → IsLayout fields → Fit fields vs → size_of o fields vs ≤ 2 ^ 40 }
 {}
 
 /// Unpacking makes the fields' read calls, up to the first whose bits are too few.

@@ -1,4 +1,4 @@
-//! Packs decimal values into bit fields, and unpacks bit fields into decimal values.
+//! Packs decimal values into bit fields, counts their bits, and unpacks bit fields into decimal values.
 #![tactic(auto)]
 
 mod decimal;
@@ -14,6 +14,7 @@ mod packing;
 #[cfg(test)]
 mod r01_first_path;
 mod run;
+mod size;
 mod unpacking;
 mod value;
 

@@ -63,7 +63,12 @@ pub fn pack_to<W: BitWrite>(
     writer.byte_align()
 }
 
-fn append_fields<W: BitWrite>(
+/// Makes the write calls of fields, whose values these are.
+///
+/// # Errors
+///
+/// The error of the first call that answers one. No call is made after it.
+pub fn append_fields<W: BitWrite>(
     fields: &[Field],
     values: &[FieldValue],
     writer: &mut W,

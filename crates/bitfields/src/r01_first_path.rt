@@ -23,6 +23,12 @@ const UNPACKED: Row = Row(
     0,
 );
 
+/// Values of four kinds, and the lines that spell them.
+const FOUR_VALUES: &[u8] = b"5\n4\n8\n-3\n";
+
+/// By the table of fields: 3 bits, 5 up to a whole byte, 4 and the stop bit, two groups of 4, one group.
+const SIZED: Row = Row("size be u3,a,n1,v4,s4", b"5\n4\n8\n-3\n", b"25\n", "", 0);
+
 const ROWS: [Row; 16] = [
     PACKED,
     Row("pack le u2,u3,u5,u3,u19", b"1\n4\n13\n3\n395743", D, "", 0),
@@ -57,7 +63,7 @@ const ROWS: [Row; 16] = [
     Row("pack be u8", b"", b"", "1: value missing", 3),
     Row("pack be u8", b"5\r\n", b"", "1: value misspelt", 3),
     Row("pack xe u8", b"", b"", "0: bad arguments", 2),
-    Row("size be u8", b"1\n", b"", "0: bad arguments", 2),
+    Row("repack be u8", b"1\n", b"", "0: bad arguments", 2),
 ];
 
 /// Values of each kind, and the lines that spell them.
@@ -277,6 +283,49 @@ const CONSTANTS: [Row; 23] = [
     Row("unpack be c3", b"", b"", "1: bad layout", 2),
 ];
 
+const SIZES: [Row; 22] = [
+    SIZED,
+    Row("size le u3,a,n1,v4,s4", FOUR_VALUES, b"25\n", "", 0),
+    Row(
+        "size be u2,u3,u5,u3,u19",
+        b"2\n6\n7\n5\n342977\n",
+        b"32\n",
+        "",
+        0,
+    ),
+    Row("size be p8", b"", b"8\n", "", 0),
+    Row("size le a", b"", b"0\n", "", 0),
+    Row("size be u8,u3", b"255\n7\n", b"11\n", "", 0),
+    Row("size le u4,a,u8", b"15\n1", b"16\n", "", 0),
+    Row(
+        "size be i1,i8,s8,v8,n0",
+        b"-1\n127\n-65\n300\n3",
+        b"45\n",
+        "",
+        0,
+    ),
+    Row("size be n0", b"4294967295\n", b"4294967296\n", "", 0),
+    Row(
+        "size le n0,n1,p4096",
+        b"4294967295\n4294967295\n",
+        b"8589938688\n",
+        "",
+        0,
+    ),
+    Row("size be s4", b"-9223372036854775808", b"88\n", "", 0),
+    Row("size be v8", b"18446744073709551615", b"80\n", "", 0),
+    Row("size be ", b"", b"", "1: bad layout", 2),
+    Row("size be u2,", b"0\n", b"", "2: bad layout", 2),
+    Row("size xe u8", b"", b"", "0: bad arguments", 2),
+    Row("size be", b"", b"", "0: bad arguments", 2),
+    Row("Size be u8", b"1\n", b"", "0: bad arguments", 2),
+    Row("size be p1,u8", b"", b"", "2: value missing", 3),
+    Row("size be u8", b"01", b"", "1: value misspelt", 3),
+    Row("size be u8", b"256", b"", "1: value does not fit", 3),
+    Row("size be u8", b"1\n2\n", b"", "0: value left over", 3),
+    Row("size be p8", b"\n", b"", "0: value left over", 3),
+];
+
 /// Which request of each stream is refused, if any: the first is 0. Each later one is served again.
 #[derive(Clone, Copy, Drop)]
 struct Refused {
@@ -413,6 +462,14 @@ fn constants(rt: HostRuntime) -> Result<(), Fail> {
     Ok(())
 }
 
+#[test]
+fn counts_the_bits_of_values(rt: HostRuntime) -> Result<(), Fail> {
+    for row in &SIZES {
+        assert!(rt; is_right(rt.alloc(), row)?, "{}", row.0);
+    }
+    Ok(())
+}
+
 /// Which stream refuses a request, and which of its requests, the first of which is 0.
 #[derive(Clone, Copy, Drop)]
 enum Refusing {
@@ -426,7 +483,7 @@ enum Refusing {
 #[derive(Drop)]
 struct Refusal(Row, Refusing, usize, usize, (u64, u64, u64));
 
-const REFUSALS: [Refusal; 10] = [
+const REFUSALS: [Refusal; 14] = [
     // Reading to the end takes one request for the bytes and one that finds the end.
     Refusal(PACKED, Refusing::Input(0), 0, 0, (1, 0, 1)),
     Refusal(PACKED, Refusing::Input(1), 0, 0, (2, 0, 1)),
@@ -441,6 +498,11 @@ const REFUSALS: [Refusal; 10] = [
     // All lines are one request, and a flush follows.
     Refusal(UNPACKED, Refusing::Output(0), 0, 0, (3, 1, 1)),
     Refusal(UNPACKED, Refusing::Output(1), 0, 15, (3, 2, 1)),
+    // All lines are read, then one line is one request, and a flush follows.
+    Refusal(SIZED, Refusing::Input(0), 0, 0, (1, 0, 1)),
+    Refusal(SIZED, Refusing::Input(1), 0, 0, (2, 0, 1)),
+    Refusal(SIZED, Refusing::Output(0), 0, 0, (2, 1, 1)),
+    Refusal(SIZED, Refusing::Output(1), 0, 3, (2, 2, 1)),
 ];
 
 /// The kinds of refusals that are tried, with their reason.
@@ -514,7 +576,8 @@ fn asks_for_no_byte_more(rt: HostRuntime) -> Result<(), Fail> {
         ("unpack be u2,u3,u5", D, 2, (2, 2, 0)),
         ("unpack le a", D, 4, (0, 2, 0)),
         ("pack be u8,v5", D, 4, (0, 0, 1)),
-        ("size be u8", D, 4, (0, 0, 1)),
+        (SIZED.0, SIZED.1, 0, (2, 2, 0)),
+        ("repack be u8", D, 4, (0, 0, 1)),
     ] {
         let ended = play(alloc, words, bytes, false, NONE)?;
         assert_eq!(rt; (ended.left, ended.requests), (left, requests), "{words}");

@@ -1,9 +1,11 @@
 //! A whole call of the program, over three streams.
 
-ghost use Rattle.std.specs.Prelude.{◌≡◌, map, string_bytes};
+ghost use Rattle.std.specs.Prelude.{◌≡◌, ◌++◌, ◌∷◌, [], map, string_bytes, IfOk};
+ghost use Rattle.std.specs.Fmt.{decimal};
+ghost use Rattle.bitstream_io.specs.Word.{Order};
 ghost use Rattle.bitfields.specs.Call.{bit_order, command_of, order_of, request_of};
 ghost use Rattle.bitfields.specs.Layout.{layout_of};
-ghost use Rattle.bitfields.specs.Run.{Calls, Follows, PacksInput, Performs, Reports, Runs, UnpacksInput};
+ghost use Rattle.bitfields.specs.Run.{Calls, Follows, PacksInput, Performs, Reports, Runs, SizesInput, UnpacksInput};
 ghost use Rattle.bitfields.specs.Streams.{input_stream, output_stream};
 
 use crate::fault::{Fault, Reason};
@@ -11,15 +13,17 @@ use crate::fault_line::FaultLine;
 use crate::input::Input;
 use crate::layout::{Layout, parse_layout};
 use crate::packing::pack;
+use crate::size::size;
 use crate::unpacking::unpack;
 use bitstream_io::{BigEndian, Endianness, LittleEndian, Target};
-use std::alloc::Global;
+use std::alloc::{AllocError, Global};
 
 /// What to do with a layout.
 #[derive(Clone, Copy, Debug, PartialEq, Eq, Drop)]
 pub enum Command {
     Pack,
     Unpack,
+    Size,
 }
 
 /// An order of bits, by its name in the arguments.
@@ -104,6 +108,7 @@ fn parse_command(word: &str) -> Option<Command>
     match word {
         "pack" => Some(Command::Pack),
         "unpack" => Some(Command::Unpack),
+        "size" => Some(Command::Size),
         _ => None,
     }
 }
@@ -151,6 +156,7 @@ fn perform<E: Endianness, R: Input, W: Target>(
     match command {
         Command::Pack => pack_input::<E, R, W>(alloc, layout, input, output),
         Command::Unpack => unpack_input::<E, R, W>(alloc, layout, input, output),
+        Command::Size => size_input(alloc, layout, input, output),
     }
 }
 
@@ -184,4 +190,30 @@ fn unpack_input<E: Endianness, R: Input, W: Target>(
     output.write_all(&lines)?;
     output.flush()?;
     Ok(())
+}
+
+fn size_input<R: Input, W: Target>(
+    alloc: Global,
+    layout: &Layout,
+    input: &mut R,
+    output: &mut W,
+) -> Result<(), Fault>
+    ensures { (o : Order)
+        → SizesInput (input_stream R.remaining R.refuses R.refuses_rest)
+        (output_stream W.contents W.refuses W.flushes) o layout.now
+        input.old output.old result input.new output.new }
+{
+    let text = input.read_rest(alloc)?;
+    let bits = size(alloc, layout, &text)?;
+    let line = number_line(alloc, bits)?;
+    output.write_all(line.as_bytes())?;
+    output.flush()?;
+    Ok(())
+}
+
+/// Returns the line of a number: its decimal, and LF.
+fn number_line(alloc: Global, number: u64) -> Result<String, AllocError>
+    ensures { IfOk result (λ line. string_bytes line ≡ decimal number ++ 10 ∷ []) }
+{
+    format!(in alloc; "{number}\n")
 }
