@@ -326,6 +326,119 @@ const SIZES: [Row; 22] = [
     Row("size be p8", b"\n", b"", "0: value left over", 3),
 ];
 
+/// The STREAMINFO block of a FLAC file: the least and the greatest block and frame, the rate, the
+/// channels and the bits of a sample, each less 1, and the samples.
+const STREAM_INFO: &[u8] = &[
+    0x10, 0x00, 0x10, 0x00, 0x00, 0x06, 0x06, 0x00, 0x21, 0x62, 0x0a, 0xc4, 0x42, 0xf0, 0x00, 0x04,
+    0xa6, 0xcc,
+];
+
+const STREAM_INFO_LINES: &[u8] = b"4096\n4096\n1542\n8546\n44100\n1\n15\n304844\n";
+
+/// A telemetry record: a version, a sequence number of two groups, a temperature in tenths of a
+/// degree, a voltage in millivolts, a drift of two groups and a number of retries.
+const RECORD_LINES: &[u8] = b"2\n300\n-215\n3711\n-20\n2\n";
+
+const RECORD_HIGH: &[u8] = &[0x55, 0x80, 0x5c, 0xa7, 0x9f, 0xfd, 0x30];
+
+const RECORD_LOW: &[u8] = &[0x62, 0x15, 0x48, 0xf9, 0x9f, 0x3f, 0x0d];
+
+/// The header of a TCP segment: ports, sequence numbers, the length in words, 4 reserved bits, flags,
+/// window, checksum and urgent pointer.
+const SEGMENT_LINES: &[u8] = b"443\n49152\n1\n0\n5\n2\n65535\n0\n0\n";
+
+const SEGMENT: &[u8] = &[
+    0x01, 0xbb, 0xc0, 0x00, 0x00, 0x00, 0x00, 0x01, 0x00, 0x00, 0x00, 0x00, 0x50, 0x02, 0xff, 0xff,
+    0x00, 0x00, 0x00, 0x00,
+];
+
+/// The same, with reserved bits that are not 0.
+const MARKED_SEGMENT: &[u8] = &[
+    0x01, 0xbb, 0xc0, 0x00, 0x00, 0x00, 0x00, 0x01, 0x00, 0x00, 0x00, 0x00, 0x5e, 0x02, 0xff, 0xff,
+    0x00, 0x00, 0x00, 0x00,
+];
+
+const PIPELINES: [Row; 12] = [
+    Row(
+        "unpack be u16,u16,u24,u24,u20,u3,u5,u36",
+        STREAM_INFO,
+        STREAM_INFO_LINES,
+        "",
+        0,
+    ),
+    Row(
+        "pack be u16,u16,u24,u24,u20,u3,u5,u36",
+        STREAM_INFO_LINES,
+        STREAM_INFO,
+        "",
+        0,
+    ),
+    Row(
+        "size be u16,u16,u24,u24,u20,u3,u5,u36",
+        STREAM_INFO_LINES,
+        b"144\n",
+        "",
+        0,
+    ),
+    Row(
+        "pack be u3,v8,i11,u12,s4,n0",
+        RECORD_LINES,
+        RECORD_HIGH,
+        "",
+        0,
+    ),
+    Row(
+        "unpack be u3,v8,i11,u12,s4,n0",
+        RECORD_HIGH,
+        RECORD_LINES,
+        "",
+        0,
+    ),
+    Row(
+        "pack le u3,v8,i11,u12,s4,n0",
+        RECORD_LINES,
+        RECORD_LOW,
+        "",
+        0,
+    ),
+    Row(
+        "unpack le u3,v8,i11,u12,s4,n0",
+        RECORD_LOW,
+        RECORD_LINES,
+        "",
+        0,
+    ),
+    Row("size le u3,v8,i11,u12,s4,n0", RECORD_LINES, b"53\n", "", 0),
+    Row(
+        "pack be u16,u16,u32,u32,u4,p4,u8,u16,u16,u16",
+        SEGMENT_LINES,
+        SEGMENT,
+        "",
+        0,
+    ),
+    Row(
+        "unpack be u16,u16,u32,u32,u4,p4,u8,u16,u16,u16",
+        SEGMENT,
+        SEGMENT_LINES,
+        "",
+        0,
+    ),
+    Row(
+        "unpack be u16,u16,u32,u32,u4,p4,u8,u16,u16,u16",
+        MARKED_SEGMENT,
+        SEGMENT_LINES,
+        "",
+        0,
+    ),
+    Row(
+        "size be u16,u16,u32,u32,u4,p4,u8,u16,u16,u16",
+        SEGMENT_LINES,
+        b"160\n",
+        "",
+        0,
+    ),
+];
+
 /// Which request of each stream is refused, if any: the first is 0. Each later one is served again.
 #[derive(Clone, Copy, Drop)]
 struct Refused {
@@ -465,6 +578,14 @@ fn constants(rt: HostRuntime) -> Result<(), Fail> {
 #[test]
 fn counts_the_bits_of_values(rt: HostRuntime) -> Result<(), Fail> {
     for row in &SIZES {
+        assert!(rt; is_right(rt.alloc(), row)?, "{}", row.0);
+    }
+    Ok(())
+}
+
+#[test]
+fn moves_records_of_other_formats(rt: HostRuntime) -> Result<(), Fail> {
+    for row in &PIPELINES {
         assert!(rt; is_right(rt.alloc(), row)?, "{}", row.0);
     }
     Ok(())
