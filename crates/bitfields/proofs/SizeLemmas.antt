@@ -18,7 +18,7 @@ use Rattle.bitstream_io.proofs.WordLemmas.{length-word, length-bits}
 use Rattle.bitfields.specs.declared.fault.Fault.{Fault}
 use Rattle.bitfields.specs.declared.fault.Reason.TheVariants.{OutOfMemory}
 use Rattle.bitfields.specs.declared.field.Field.{Field}
-use Rattle.bitfields.specs.declared.field.Field.TheVariants.{Unsigned, Signed, Unary, Variable, SignedVariable, Padding, Align}
+use Rattle.bitfields.specs.declared.field.Field.TheVariants.{Unsigned, Signed, Unary, Variable, SignedVariable, Bytes, Constant, Padding, Align}
 use Rattle.bitfields.specs.declared.field.GroupSize.{GroupSize}
 use Rattle.bitfields.specs.declared.field.GroupSize.TheVariants.{Four, Eight}
 use Rattle.bitfields.specs.declared.field_value.FieldValue.{FieldValue}
@@ -26,8 +26,8 @@ use Rattle.bitfields.specs.Fault.{fault}
 use Rattle.bitfields.specs.Layout.{IsField, IsLayout, group_bits}
 use Rattle.bitfields.specs.Packing.{field_word, field_write, field_writes, packed, WritesBits}
 use Rattle.bitfields.specs.Size.{size_of, spelt_size, Sizes}
-use Rattle.bitfields.specs.Value.{value_count, first_unsigned, first_signed, Fit, FitsField}
-use Rattle.bitfields.proofs.FieldCalls.{unsigned_first, signed_first, field_word-written, run-more, refusals-more, write_run-append}
+use Rattle.bitfields.specs.Value.{value_count, first_unsigned, first_signed, first_bytes, Fit, FitsField}
+use Rattle.bitfields.proofs.FieldCalls.{unsigned_first, signed_first, bytes_first, field_word-written, run-more, refusals-more, write_run-append}
 use Rattle.bitfields.proofs.PackingLemmas.{WritesBits-all}
 
 -- ---- a field's word
@@ -68,6 +68,14 @@ word-length o p (Variable size) vs at i h = record {
 word-length o p (SignedVariable size) vs at i h = record {
   same = length-vbr_word o p (group_bits size) (zig (first_signed vs));
   few = few_groups o size (zig (first_signed vs)) (zig-lt 64 (first_signed vs) (lit< tt) (signed_first 64 vs h).0);
+}
+word-length o p (Bytes n) vs at i h = record {
+  same = length-bits o (first_bytes vs) ∙ sym (length-bits p (first_bytes vs));
+  few = omega (arith, length-bits o (first_bytes vs), (bytes_first n vs h).0, i.1);
+}
+word-length o p (Constant n v) vs at i h = record {
+  same = length-word o n v ∙ sym (length-word p n v);
+  few = omega (arith, length-word o n v, i.1);
 }
 word-length o p (Padding n) vs at i h = record { same = refl; few = omega (arith, length-replicate n false, i.1) }
 word-length o p Align vs at i h = record {

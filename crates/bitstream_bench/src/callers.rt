@@ -2,7 +2,7 @@
 use bitstream_callers::block_header::BlockHeader;
 use bitstream_callers::header::{Header, version};
 use bitstream_callers::padded_port::PaddedPort;
-use bitstream_callers::stream_info::{StreamInfo, sample_rate};
+use bitstream_callers::stream_info::{StreamInfo, StreamInfoBlock, sample_rate};
 use bitstream_callers::telemetry::{Sample, heartbeat};
 use bitstream_io::{
     BE, BitReadExt, BitReader, BitWriteExt, BitWriter, ByteWriteExt, ByteWriter, Error, LE,
@@ -38,6 +38,48 @@ fn parses_a_stream_info(rt: HostRuntime) -> Result<(), Fail> {
     let wanted = [4096, 4096, 1542, 8546, 44100, 2, 16, 304844, 44100];
     assert_eq!(rt; fields(&BLOCK)?, wanted);
     assert!(rt; matches!(fields(&BLOCK[..17]), Err(Error::EndOfInput)));
+    Ok(())
+}
+
+/// A whole block: those bytes, and the checksum behind them.
+const WHOLE_BLOCK: [u8; 34] = [
+    0x10, 0x00, 0x10, 0x00, 0x00, 0x06, 0x06, 0x00, 0x21, 0x62, 0x0a, 0xc4, 0x42, 0xf0, 0x00, 0x04,
+    0xa6, 0xcc, 0xfa, 0xf2, 0x69, 0x2f, 0xfd, 0xec, 0x2d, 0x5b, 0x30, 0x01, 0x76, 0xb4, 0x62, 0x88,
+    0x7d, 0x92,
+];
+
+/// Whether a block comes from these bytes and goes back to them.
+fn goes_to(alloc: Global, block: &StreamInfoBlock, bytes: &[u8]) -> Result<bool, Error> {
+    let mut built = Vec::new(alloc);
+    BitWriter::<_, BE>::new(&mut built).build(block)?;
+    Ok(built.as_slice() == bytes)
+}
+
+/// Whether a block has 272 bits, which a `u8` does not hold.
+fn has_272_bits(block: &StreamInfoBlock) -> Result<bool, Error> {
+    let bits = (block.bits::<u32>()?, block.bits_len::<u32, LE>()?);
+    let past = matches!(block.bits::<u8>(), Err(Error::CounterOverflow));
+    Ok(bits == (272, 272) && past)
+}
+
+#[test]
+fn parses_and_builds_a_stream_info(rt: HostRuntime) -> Result<(), Fail> {
+    let block: StreamInfoBlock = BitReader::<_, BE>::new(WHOLE_BLOCK.as_slice()).parse()?;
+    let info = block.info;
+    let sizes = (info.minimum_block_size, info.maximum_frame_size);
+    assert_eq!(rt; sizes, (4096, 8546));
+    let sound = (
+        info.sample_rate,
+        info.channels.get(),
+        info.bits_per_sample.get(),
+    );
+    assert_eq!(rt; sound, (44100, 2, 16));
+    assert_eq!(rt;
+        (info.total_samples, block.md5[0], block.md5[15]),
+        (304844, 0xfa, 0x92)
+    );
+    assert!(rt; goes_to(rt.alloc(), &block, &WHOLE_BLOCK)?);
+    assert!(rt; has_272_bits(&block)?);
     Ok(())
 }
 
