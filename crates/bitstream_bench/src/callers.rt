@@ -1,12 +1,15 @@
 //! The callers, each once on its happy path.
-use bitstream_callers::block_header::BlockHeader;
+use bitstream_callers::block_header::{BlockHeader, append};
 use bitstream_callers::header::{Header, version};
+use bitstream_callers::packet_header::{PacketError, PacketHeader};
 use bitstream_callers::padded_port::PaddedPort;
+use bitstream_callers::reading::{Reading, ReadingError};
 use bitstream_callers::stream_info::{StreamInfo, StreamInfoBlock, sample_rate};
 use bitstream_callers::telemetry::{Sample, heartbeat};
 use bitstream_io::{
-    BE, BitReadExt, BitReader, BitWriteExt, BitWriter, ByteWriteExt, ByteWriter, Error, LE,
-    ToBitStream, ToByteStreamWith,
+    BE, BitReadExt, BitReader, BitWrite, BitWriteExt, BitWriter, BitsWritten, ByteReadExt,
+    ByteReader, ByteWriteExt, ByteWriter, Error, LE, ToBitStream, ToBitStreamWith, ToByteStream,
+    ToByteStreamUsing, ToByteStreamWith,
 };
 use std::alloc::Global;
 use std::test::Fail;
@@ -150,6 +153,71 @@ fn builds_and_parses_types_of_its_own(rt: HostRuntime) -> Result<(), Fail> {
     let mut written = Vec::new(rt.alloc());
     ByteWriter::<_, BE>::new(&mut written).build_with(&port, &2)?;
     assert_eq!(rt; written.as_slice(), [0, 1, 0, 0].as_slice());
-    assert_eq!(rt; port.bytes::<u8>(&2)?, 4);
+    assert_eq!(rt; ToByteStreamWith::bytes::<u8>(&port, &2)?, 4);
+    assert_eq!(rt; ToByteStreamUsing::bytes::<u8>(&port, 2)?, 4);
+    let mut bits = BitsWritten::<u8>::new();
+    assert_eq!(rt; append(&mut bits, &header)?, 32);
+    assert_eq!(rt; bits.written(), 32);
+    Ok(())
+}
+
+/// Whether a reading is written in as many bits as its context says, and comes back.
+fn is_reading(
+    alloc: Global,
+    reading: Reading,
+    bits: u32,
+    bytes: &[u8],
+) -> Result<bool, ReadingError> {
+    let mut built = Vec::new(alloc);
+    let mut writer = BitWriter::<_, BE>::new(&mut built);
+    writer.build_with(&reading, &bits)?;
+    writer.build_using(&reading, bits)?;
+    writer.byte_align()?;
+    let mut reader = BitReader::<_, BE>::new(bytes);
+    let first: Reading = reader.parse_with(&bits)?;
+    let second: Reading = reader.parse_using(bits)?;
+    let back = first == reading && second == reading;
+    Ok(built.as_slice() == bytes && back)
+}
+
+/// Whether no reading is told as that, and a width that a value does not have as the reader's error.
+fn misses_a_reading() -> bool {
+    let mut reader = BitReader::<_, BE>::new([0x40].as_slice());
+    let missing: Result<Reading, ReadingError> = reader.parse_using(5);
+    let wide: Result<Reading, ReadingError> = reader.parse_using(33);
+    matches!(missing, Err(ReadingError::Missing))
+        && matches!(wide, Err(ReadingError::Reader(Error::ReadBits)))
+}
+
+#[test]
+fn reads_types_with_a_context(rt: HostRuntime) -> Result<(), Fail> {
+    let reading = Reading { value: 0xabc };
+    let same = is_reading(rt.alloc(), reading, 12, &[0xd5, 0xe6, 0xaf, 0x00]);
+    assert!(rt; matches!(same, Ok(true)));
+    assert!(rt; misses_a_reading());
+    assert_eq!(rt; ToBitStreamWith::bits::<u8>(&reading, &12)?, 13);
+    Ok(())
+}
+
+/// Whether a header is these bytes, and they the header.
+fn is_packet(alloc: Global, header: PacketHeader, bytes: &[u8]) -> Result<bool, PacketError> {
+    let mut built = Vec::new(alloc);
+    ByteWriter::<_, BE>::new(&mut built).build(&header)?;
+    let parsed: PacketHeader = ByteReader::<_, BE>::new(bytes).parse()?;
+    Ok(built.as_slice() == bytes && parsed == header)
+}
+
+#[test]
+fn reads_types_of_whole_bytes(rt: HostRuntime) -> Result<(), Fail> {
+    let header = PacketHeader { length: 0x1234 };
+    assert!(rt; matches!(is_packet(rt.alloc(), header, &[1, 0x12, 0x34]), Ok(true)));
+    assert_eq!(rt; header.bytes::<u8>()?, 3);
+    let other = is_packet(rt.alloc(), header, &[2, 0x12, 0x34]);
+    assert!(rt; matches!(other, Err(PacketError::UnsupportedVersion)));
+    let mut reader = ByteReader::<_, LE>::new([0x34, 0x12, 9, 9, 9].as_slice());
+    let first: PaddedPort = reader.parse_with(&1)?;
+    let second: Result<PaddedPort, Error> = reader.parse_using(1);
+    assert_eq!(rt; first.number, 0x1234);
+    assert!(rt; matches!(second, Err(Error::EndOfInput)));
     Ok(())
 }
