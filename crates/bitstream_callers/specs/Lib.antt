@@ -1,5 +1,7 @@
 pub mod BlockHeader
 pub mod Header
+pub mod PacketHeader
 pub mod PaddedPort
+pub mod Reading
 pub mod StreamInfo
 pub mod Telemetry

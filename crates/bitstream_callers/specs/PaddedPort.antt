@@ -1,5 +1,9 @@
 -- A port with bytes of padding behind it.
-use Rattle.std.specs.Prelude.{ℕ, List, [], ◌∷◌, replicate}
+use Rattle.std.specs.Prelude.{ℕ, List, [], ◌∷◌, replicate, Result, Ok}
+use Rattle.bitstream_io.specs.ByteReads.{ByteReadEntry, skipped_bytes}
+use Rattle.bitstream_io.specs.ByteSteps.{◌>>=◌, number_bytes}
+use Rattle.bitstream_io.specs.ByteTypes.{byte_gives}
+use Rattle.bitstream_io.specs.Error.{Error}
 use Rattle.bitstream_io.specs.Parts.{value_bytes}
 use Rattle.bitstream_io.specs.Word.{Order, High, Low, bytes}
 use Rattle.bitstream_callers.specs.declared.padded_port.PaddedPort.{PaddedPort}
@@ -8,3 +12,10 @@ use Rattle.bitstream_callers.specs.declared.padded_port.PaddedPort.{PaddedPort}
 abbrev pub port_writes : Order → PaddedPort → ℕ → List (List ℕ)
 port_writes o port padding =
     value_bytes o (λ v. bytes High 2 v) (λ v. bytes Low 2 v) port.number ∷ replicate padding 0 ∷ []
+
+-- two bytes, answered as the port's number, and then bytes whatever they are
+abbrev pub port_reads : Order → ℕ → ByteReadEntry (Result PaddedPort Error)
+port_reads o padding = do
+  number ← number_bytes o 2
+  skipped ← skipped_bytes padding
+  byte_gives (Ok (record { number = number }))

@@ -1,4 +1,5 @@
 //! The header of a FLAC file's block, as a type that says how it is read and written.
+ghost use Rattle.std.specs.Prelude.{◌≡◌, ◌+◌, ◌%◌, IfOk};
 ghost use Rattle.bitstream_io.specs.Own.{plain_reads, same_error};
 ghost use Rattle.bitstream_callers.specs.BlockHeader.{block_header_entry, block_header_writes};
 
@@ -45,4 +46,20 @@ impl ToBitStream for BlockHeader {
         writer.write::<Bits<7>, u8>(self.kind)?;
         writer.write::<Bits<24>, u32>(self.size)
     }
+}
+
+/// Writes a header, and returns the number of bits of which it is made: those that were written, if
+/// the sink was at the end of a byte.
+///
+/// # Errors
+///
+/// `Checked` for a field that does not fit its bits. Nothing is written then. Else those of the sink.
+/// The fields before the one that is refused stay written.
+pub fn append<W: BitWrite>(writer: &mut W, header: &BlockHeader) -> Result<u32, Error>
+    ensures { W.sink.len writer.old % 8 ≡ 0
+        → IfOk result (λ bits. W.sink.len writer.new ≡ W.sink.len writer.old + bits) }
+{
+    let bits = header.bits::<u32>()?;
+    writer.build(header)?;
+    Ok(bits)
 }

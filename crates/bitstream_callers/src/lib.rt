@@ -1,10 +1,12 @@
 //! Small callers of `bitstream_io`: a reader of a FLAC block, a packer of telemetry, a protocol's header
-//! both ways, and two types that say themselves how they are read and written. `CALLING.md` goes through
+//! both ways, and types that say themselves how they are read and written. `CALLING.md` goes through
 //! them.
 #![tactic(auto)]
 
 pub mod block_header;
 pub mod header;
+pub mod packet_header;
 pub mod padded_port;
+pub mod reading;
 pub mod stream_info;
 pub mod telemetry;

@@ -1,0 +1,61 @@
+//! The header of a packet of whole bytes, as a type that says how it is read and written.
+ghost use Rattle.bitstream_io.specs.Own.{same_error};
+ghost use Rattle.bitstream_callers.specs.PacketHeader.{becomes_stream, packet_reads, packet_writes};
+
+use bitstream_io::{ByteRead, ByteWrite, Error, FromByteStream, ToByteStream};
+
+/// What stands before a packet's bytes, behind a byte that states version 1.
+#[derive(Clone, Copy, Debug, PartialEq)]
+pub struct PacketHeader {
+    /// The bytes that follow.
+    pub length: u16,
+}
+
+/// Why a header is not read.
+#[derive(Debug, Drop)]
+pub enum PacketError {
+    /// An error of the reader.
+    Stream(Error),
+    /// The packet states another version than 1. The byte that states it is read.
+    UnsupportedVersion,
+}
+
+impl From<Error> for PacketError {
+    ghost from_gives = { becomes_stream };
+
+    fn from(error: Error) -> PacketError {
+        PacketError::Stream(error)
+    }
+}
+
+impl FromByteStream for PacketHeader {
+    type Error = PacketError;
+
+    ghost becomes = { becomes_stream };
+
+    ghost reads = { packet_reads };
+
+    fn from_reader<R: ByteRead>(reader: &mut R) -> Result<PacketHeader, PacketError> {
+        let version: u8 = reader.read()?;
+        if version == 1 {
+            Ok(PacketHeader {
+                length: reader.read()?,
+            })
+        } else {
+            Err(PacketError::UnsupportedVersion)
+        }
+    }
+}
+
+impl ToByteStream for PacketHeader {
+    type Error = Error;
+
+    ghost becomes = { same_error };
+
+    ghost writes = { packet_writes };
+
+    fn to_writer<W: ByteWrite>(&self, writer: &mut W) -> Result<(), Error> {
+        writer.write(1u8)?;
+        writer.write(self.length)
+    }
+}
