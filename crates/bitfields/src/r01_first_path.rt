@@ -1,5 +1,7 @@
 //! Whole calls of the program, from bytes to bytes, over streams that count their requests and may
 //! refuse one of them.
+use crate::fault::{Fault, Reason};
+use crate::layout::parse_layout;
 use crate::run::run;
 use bitstream_bench::{Count, Drip, RefuseOnce};
 use std::alloc::{AllocError, Global};
@@ -283,8 +285,11 @@ const CONSTANTS: [Row; 23] = [
     Row("unpack be c3", b"", b"", "1: bad layout", 2),
 ];
 
-const SIZES: [Row; 22] = [
+const SIZES: [Row; 25] = [
     SIZED,
+    Row("size be u3,a,n1,v4,s4,b2", BYTES_LAST, b"41\n", "", 0),
+    Row("size le c3=5,u5", b"31\n", b"8\n", "", 0),
+    Row("size be b2", b"1 2 3\n", b"", "1: value misspelt", 3),
     Row("size le u3,a,n1,v4,s4", FOUR_VALUES, b"25\n", "", 0),
     Row(
         "size be u2,u3,u5,u3,u19",
@@ -588,6 +593,33 @@ fn moves_records_of_other_formats(rt: HostRuntime) -> Result<(), Fail> {
     for row in &PIPELINES {
         assert!(rt; is_right(rt.alloc(), row)?, "{}", row.0);
     }
+    Ok(())
+}
+
+/// How many fields a text is found to have: this one, and `u1` behind each comma.
+fn fields_behind(
+    alloc: Global,
+    first: &str,
+    commas: u32,
+) -> Result<Result<usize, Fault>, AllocError> {
+    let mut text = String::new(alloc);
+    text.push_str(first)?;
+    for _ in 0..commas {
+        text.push_str(",u1")?;
+    }
+    Ok(match parse_layout(alloc, text.as_str()) {
+        Ok(layout) => Ok(layout.fields().len()),
+        Err(fault) => Err(fault),
+    })
+}
+
+#[test]
+fn layouts_have_256_fields_at_most(rt: HostRuntime) -> Result<(), Fail> {
+    let most = fields_behind(rt.alloc(), "u1", 255)?;
+    assert!(rt; matches!(most, Ok(256)));
+    // Their number comes before what they spell.
+    let past = fields_behind(rt.alloc(), "x", 256)?;
+    assert!(rt; past == Err(Fault::new(0, Reason::TooManyFields)));
     Ok(())
 }
 
