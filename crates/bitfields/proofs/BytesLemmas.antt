@@ -3,9 +3,9 @@ use Rattle.std.specs.Prelude.{Bool, true, false, ◌&&◌, ◌==◌, if◌then�
 use Rattle.std.specs.List.{join_with_byte, list_all, flat_map, All, AllByRecursion}
 use Rattle.std.specs.Fmt.{decimal}
 use Rattle.std.proofs.Common.{◌≡◌, ℕ, ◌+◌, ◌<◌, ◌≤◌, ◌^◌, List, [], ◌∷◌, ◌++◌, length, take, get_or, nat_lt, Result, Ok, Err, refl, sym, ap, subst, ◌∙◌, arith, lit<, append-nil}
-use Rattle.std.proofs.lemmas.Bool.{cases_lt, lt-ltb, le-ltb, ltb-true, ltb-false, eqb-true, ne_eqb}
+use Rattle.std.proofs.lemmas.Bool.{lt-ltb, ltb-true, eqb-true, ne_eqb}
 use Rattle.std.proofs.lemmas.Grind.{common_steps}
-use Rattle.std.proofs.lemmas.List.{length-map, take_more, map_more, take_all}
+use Rattle.std.proofs.lemmas.List.{length-map, map_more, take_all}
 use Rattle.std.proofs.lemmas.List.Elements.{All-append, All-cons, All-nil, All-from_recursion, recursion_from_All}
 use Rattle.std.proofs.lemmas.List.Folds.{list_all_at, list_all_more}
 use Rattle.std.proofs.lemmas.List.Splits.{slice_split_none, slice_split_at, join_with_byte-slice_split}

@@ -1,4 +1,4 @@
-use Rattle.std.proofs.Common.{rules, ◌≡◌, ◌<◌, List, ℕ, length, get_or, map, true, false, arith, sym, ◌∙◌, ap, refl, [], ◌+◌, ◌≤◌}
+use Rattle.std.proofs.Common.{rules, ◌≡◌, ◌<◌, List, ℕ, length, get_or, map, true, false, arith, sym, ◌∙◌, ap, refl, [], ◌≤◌}
 use Rattle.std.specs.Borrow.{Bor}
 use Rattle.std.specs.List.{list_all}
 use Rattle.std.proofs.lemmas.List.{get_or-map, length-map, take_all}

@@ -3,7 +3,7 @@ use Rattle.std.proofs.lemmas.List.{get_or-map, length-map}
 use Rattle.std.specs.Borrow.{Bor}
 use Rattle.std.specs.List.{list_all}
 use Rattle.bitfields.specs.Decimal.{is_decimal, decimal_below, spaced, bytes_of_parts}
-use Rattle.bitfields.proofs.BytesLemmas.{IsRead-bad, IsRead-more, IsRead-end}
+use Rattle.bitfields.proofs.BytesLemmas.{IsRead-bad, IsRead-more}
 use Rattle.bitfields.proofs.decimal.spaced_bytes.Goals as goal
 
 pub returns-in-Err : goal.returns-in-Err
