@@ -1,7 +1,7 @@
 -- The calls of fields, one behind the other.
 use Rattle.std.specs.Prelude.{ℤ, Bool, ◌==◌, ◌≢◌, if◌then◌else◌, take, drop, replicate, false}
 use Rattle.std.specs.List.{AllByRecursion}
-use Rattle.std.proofs.Common.{◌≡◌, ℕ, ◌+◌, ◌<◌, ◌≤◌, ◌^◌, List, [], ◌∷◌, ◌++◌, length, Option, Some, None, Result, Ok, Err, refl, sym, ap, subst, ◌∙◌, arith, inl, inr, append_assoc, length-append, append-nil, add-zero, eq-eqb, lit<, All}
+use Rattle.std.proofs.Common.{◌≡◌, ℕ, true, ◌+◌, ◌<◌, ◌≤◌, ◌^◌, List, [], ◌∷◌, ◌++◌, length, Option, Some, None, Result, Ok, Err, refl, sym, ap, subst, ◌∙◌, arith, inl, inr, append_assoc, length-append, append-nil, add-zero, eq-eqb, lit<, All}
 use Rattle.std.proofs.Math.Nat.{mod-eq_of_lt}
 use Rattle.std.proofs.Math.Seq.{drop-append_seam, take-append_seam}
 use Rattle.std.proofs.lemmas.Bool.{cases_lt, le-leb, ne_eqb}
@@ -19,7 +19,7 @@ use Rattle.bitstream_io.specs.Error.{Error}
 use Rattle.bitstream_io.specs.Error.TheVariants as errors
 use Rattle.bitstream_io.specs.Entry.{ReadEntry, WriteEntry, TooFew, Takes, chain, gives, word_front}
 use Rattle.bitstream_io.specs.Alignment.{to_boundary}
-use Rattle.bitstream_io.specs.ReadTable.{unsigned_entry, signed_entry, unary_entry, vbr_entry, signed_vbr_entry, bytes_entry, skip_entry, align_entry}
+use Rattle.bitstream_io.specs.ReadTable.{unsigned_entry, signed_entry, unary_entry, groups_entry, vbr_entry, any_vbr_entry, signed_groups_entry, signed_vbr_entry, bytes_entry, skip_entry, align_entry}
 use Rattle.bitstream_io.specs.Run.{accepted, write_run, write_refusals}
 use Rattle.bitstream_io.specs.WriteTable.{align}
 use Rattle.bitstream_io.proofs.EntryLemmas.{map_takes, chain-ok, chain-none, word_front-some, word_front-none}
@@ -28,7 +28,7 @@ use Rattle.bitstream_io.proofs.WriteLemmas.{unsigned-fits, signed-accepts}
 use Rattle.bitfields.specs.declared.fault.Reason.{Reason}
 use Rattle.bitfields.specs.declared.fault.Reason.TheVariants.{BitsEnded, ConstantDiffers}
 use Rattle.bitfields.specs.declared.field.Field.{Field}
-use Rattle.bitfields.specs.declared.field.Field.TheVariants.{Unsigned, Signed, Unary, Variable, SignedVariable, Bytes, Constant, Padding, Align}
+use Rattle.bitfields.specs.declared.field.Field.TheVariants.{Unsigned, Signed, Unary, Variable, Lenient, SignedVariable, Bytes, Constant, Padding, Align}
 use Rattle.bitfields.specs.declared.field.GroupSize.{GroupSize}
 use Rattle.bitfields.specs.declared.field.GroupSize.TheVariants.{Four, Eight}
 use Rattle.bitfields.specs.declared.field_value.FieldValue.{FieldValue}
@@ -193,21 +193,22 @@ two_bits : (size : GroupSize) → 2 ≤ group_bits size
 two_bits Four = omega arith
 two_bits Eight = omega arith
 
-vbr-answers : (o : Order) (field v p : ℕ) (more : List Bool) → 2 ≤ field → v < 2 ^ 64
-    → (vbr_entry o field 64 (2 ^ 64)).reads p (vbr_word o field v ++ more) ≡ Takes (length (vbr_word o field v)) (Ok v)
-unfolding vbr_entry
-vbr-answers o field v p more wide h =
-    read_vbr-IsAccepted o field (omega arith) 64 (2 ^ 64) (vbr_word o field v) v more wide
-    (vbr_word_accepted o field (omega arith) 64 (2 ^ 64) v wide (lit< tt) (omega arith) h)
+groups-answers : (strict : Bool) (o : Order) (field v p : ℕ) (more : List Bool) → 2 ≤ field → v < 2 ^ 64
+    → (groups_entry strict o field 64 (2 ^ 64)).reads p (vbr_word o field v ++ more)
+    ≡ Takes (length (vbr_word o field v)) (Ok v)
+unfolding groups_entry
+groups-answers strict o field v p more wide h =
+    read_vbr-IsAccepted o field (omega arith) strict 64 (2 ^ 64) (vbr_word o field v) v more wide
+    (vbr_word_accepted o field (omega arith) strict 64 (2 ^ 64) v wide (lit< tt) (omega arith) h)
 
 signed_vbr-answers : (o : Order) (field : ℕ) (x : ℤ) (p : ℕ) (more : List Bool) → 2 ≤ field → FitsSignedBits 64 x
     → (signed_vbr_entry o field 64).reads p (vbr_word o field (zig x) ++ more)
     ≡ Takes (length (vbr_word o field (zig x))) (Ok x)
-unfolding signed_vbr_entry
+unfolding signed_groups_entry
 signed_vbr-answers o field x p more wide h =
     let w = vbr_word o field (zig x) in
     made (vbr_entry o field 64 (2 ^ 64)) zag p (length w) (w
-    ++ more) (zig x) (vbr-answers o field (zig x) p more wide (zig-lt 64 x (lit< tt) h))
+    ++ more) (zig x) (groups-answers true o field (zig x) p more wide (zig-lt 64 x (lit< tt) h))
     ∙ ap (λ (y : ℤ). Takes (length w) (Ok y)) (zag-zig x)
 
 pub trips : (o : Order) (f : Field) (vs : List FieldValue) (at : ℕ) → IsField f → FitsField f vs → Trips o f vs at
@@ -230,8 +231,14 @@ trips o (Variable size) vs at i h =
     let v = first_unsigned vs in
     let p = unsigned_first 64 vs h in
     trip o (Variable size) vs at (vbr_entry o (group_bits size) 64 (2 ^ 64)) Value.Unsigned v
-    (vbr_word o (group_bits size) v) refl refl (λ more. vbr-answers o (group_bits size) v at more (two_bits size)
-    p.0) p.1
+    (vbr_word o (group_bits size) v) refl refl (λ more. groups-answers true o (group_bits size) v at more
+    (two_bits size) p.0) p.1
+trips o (Lenient size) vs at i h =
+    let v = first_unsigned vs in
+    let p = unsigned_first 64 vs h in
+    trip o (Lenient size) vs at (any_vbr_entry o (group_bits size) 64 (2 ^ 64)) Value.Unsigned v
+    (vbr_word o (group_bits size) v) refl refl (λ more. groups-answers false o (group_bits size) v at more
+    (two_bits size) p.0) p.1
 trips o (SignedVariable size) vs at i h =
     let x = first_signed vs in
     let p = signed_first 64 vs h in
@@ -356,6 +363,7 @@ field_word-written o (Signed n) vs at i h = signed-accepts o 128 n (first_signed
 )
 field_word-written o (Unary stop) vs at i h = refl
 field_word-written o (Variable size) vs at i h = refl
+field_word-written o (Lenient size) vs at i h = refl
 field_word-written o (SignedVariable size) vs at i h = refl
 field_word-written o (Bytes n) vs at i h = refl
 field_word-written o (Constant n v) vs at i h = unsigned-fits o 32 n v at i.1 i.2

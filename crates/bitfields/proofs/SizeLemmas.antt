@@ -1,7 +1,7 @@
 -- How many bits the words of fields have.
 use Rattle.std.specs.Prelude.{Bool, drop, replicate, false}
 use Rattle.std.specs.List.{AllByRecursion}
-use Rattle.std.proofs.Common.{◌≡◌, ℕ, ◌+◌, ◌*◌, ◌<◌, ◌≤◌, ◌^◌, List, [], ◌∷◌, ◌++◌, length, Option, None, Result, Ok, Err, refl, sym, ap, subst, ◌∙◌, arith, length-append, append-nil, lit<, zero-add, ◌⊎◌, inl, inr}
+use Rattle.std.proofs.Common.{◌≡◌, ℕ, ◌+◌, ◌*◌, ◌<◌, ◌≤◌, ◌^◌, true, List, [], ◌∷◌, ◌++◌, length, Option, None, Result, Ok, Err, refl, sym, ap, subst, ◌∙◌, arith, length-append, append-nil, lit<, zero-add, ◌⊎◌, inl, inr}
 use Rattle.std.proofs.lemmas.List.{length-replicate}
 use Rattle.std.proofs.lemmas.List.Elements.{recursion_from_All}
 use Rattle.bitstream_io.specs.Alignment.{to_boundary}
@@ -18,7 +18,7 @@ use Rattle.bitstream_io.proofs.WordLemmas.{length-word, length-bits}
 use Rattle.bitfields.specs.declared.fault.Fault.{Fault}
 use Rattle.bitfields.specs.declared.fault.Reason.TheVariants.{OutOfMemory}
 use Rattle.bitfields.specs.declared.field.Field.{Field}
-use Rattle.bitfields.specs.declared.field.Field.TheVariants.{Unsigned, Signed, Unary, Variable, SignedVariable, Bytes, Constant, Padding, Align}
+use Rattle.bitfields.specs.declared.field.Field.TheVariants.{Unsigned, Signed, Unary, Variable, Lenient, SignedVariable, Bytes, Constant, Padding, Align}
 use Rattle.bitfields.specs.declared.field.GroupSize.{GroupSize}
 use Rattle.bitfields.specs.declared.field.GroupSize.TheVariants.{Four, Eight}
 use Rattle.bitfields.specs.declared.field_value.FieldValue.{FieldValue}
@@ -40,11 +40,11 @@ pub record HaveOneLength (most : ℕ) (x y : List Bool) : Type 0 where
 -- a word of v in groups, v below 2^64
 few_groups : (o : Order) (size : GroupSize) (v : ℕ) → v < 2 ^ 64 → length (vbr_word o (group_bits size) v) ≤ 2 ^ 32
 few_groups o Four v h =
-    let a = vbr_word_accepted o 4 (omega arith) 64 (2 ^ 64) v (omega arith) (lit< tt) (omega arith) h in
-    omega (arith, IsGroups-length o 4 (omega arith) a.0 (vbr_word o 4 v) v a.1, a.2)
+    let a = vbr_word_accepted o 4 (omega arith) true 64 (2 ^ 64) v (omega arith) (lit< tt) (omega arith) h in
+    omega (arith, IsGroups-length o 4 (omega arith) true a.0 (vbr_word o 4 v) v a.1, a.2)
 few_groups o Eight v h =
-    let a = vbr_word_accepted o 8 (omega arith) 64 (2 ^ 64) v (omega arith) (lit< tt) (omega arith) h in
-    omega (arith, IsGroups-length o 8 (omega arith) a.0 (vbr_word o 8 v) v a.1, a.2)
+    let a = vbr_word_accepted o 8 (omega arith) true 64 (2 ^ 64) v (omega arith) (lit< tt) (omega arith) h in
+    omega (arith, IsGroups-length o 8 (omega arith) true a.0 (vbr_word o 8 v) v a.1, a.2)
 
 -- the word of a field's value in the two orders of bits
 word-length : (o p : Order) (f : Field) (vs : List FieldValue) (at : ℕ) → IsField f → FitsField f vs
@@ -62,6 +62,10 @@ word-length o p (Unary stop) vs at i h = record {
   few = omega (arith, length-unary stop (first_unsigned vs), (unsigned_first 32 vs h).0);
 }
 word-length o p (Variable size) vs at i h = record {
+  same = length-vbr_word o p (group_bits size) (first_unsigned vs);
+  few = few_groups o size (first_unsigned vs) (unsigned_first 64 vs h).0;
+}
+word-length o p (Lenient size) vs at i h = record {
   same = length-vbr_word o p (group_bits size) (first_unsigned vs);
   few = few_groups o size (first_unsigned vs) (unsigned_first 64 vs h).0;
 }

@@ -16,7 +16,7 @@ use Rattle.bitfields.specs.declared.fault.Fault.{Fault}
 use Rattle.bitfields.specs.declared.field.Field.{Field}
 use Rattle.bitfields.specs.declared.fault.Reason.TheVariants.{TooManyFields}
 use Rattle.bitfields.specs.Fault.{fault}
-use Rattle.bitfields.specs.declared.field.Field.TheVariants.{Unsigned, Signed, Unary, Variable, SignedVariable, Bytes, Constant, Padding, Align}
+use Rattle.bitfields.specs.declared.field.Field.TheVariants.{Unsigned, Signed, Unary, Variable, Lenient, SignedVariable, Bytes, Constant, Padding, Align}
 use Rattle.bitfields.specs.declared.field.GroupSize.{GroupSize}
 use Rattle.bitfields.specs.declared.field.GroupSize.TheVariants.{Four, Eight}
 use Rattle.bitstream_io.specs.Word.{digit_value}
@@ -64,6 +64,8 @@ field_text-lacks_comma (Signed n) h = letter-lacks_comma 105 n (lit< tt) (omega 
 field_text-lacks_comma (Unary stop) h = letter-lacks_comma 110 (digit_value stop) (lit< tt)
     (omega (arith, bit_small stop))
 field_text-lacks_comma (Variable size) h = letter-lacks_comma 118 (group_bits size) (lit< tt)
+    (omega (arith, (size_small size).1))
+field_text-lacks_comma (Lenient size) h = letter-lacks_comma 108 (group_bits size) (lit< tt)
     (omega (arith, (size_small size).1))
 field_text-lacks_comma (SignedVariable size) h = letter-lacks_comma 115 (group_bits size) (lit< tt)
     (omega (arith, (size_small size).1))
@@ -118,6 +120,7 @@ field_of-field_text (Unary stop) h =
     ap (option_map (λ (n : ℕ). Unary (n == 1))) (spelt_number 0 1 (digit_value stop) (omega arith) (omega arith)
     (bit_small stop)) ∙ ap Some (stop_back stop)
 field_of-field_text (Variable size) h = ap (option_map Variable) (size_back size)
+field_of-field_text (Lenient size) h = ap (option_map Lenient) (size_back size)
 field_of-field_text (SignedVariable size) h = ap (option_map SignedVariable) (size_back size)
 field_of-field_text (Bytes n) h = ap (option_map Bytes) (spelt_number 1 65536 n (omega arith) h.0 h.1)
 field_of-field_text (Constant n v) h = constant_back n v h
@@ -271,6 +274,10 @@ letter_spelt letter rest f h =
     (λ is k. size_spelt rest (decimal_within 4 8 rest) Variable f refl k
     (λ size spells same. written letter 118 rest (decimal (group_bits size)) (Variable size) f is same tt refl
     spells))
+    (by_letter (letter == 108) letter 108 _ _ f refl
+    (λ is k. size_spelt rest (decimal_within 4 8 rest) Lenient f refl k
+    (λ size spells same. written letter 108 rest (decimal (group_bits size)) (Lenient size) f is same tt refl
+    spells))
     (by_letter (letter == 115) letter 115 _ _ f refl
     (λ is k. size_spelt rest (decimal_within 4 8 rest) SignedVariable f refl k
     (λ size spells same. written letter 115 rest (decimal (group_bits size)) (SignedVariable size) f is same tt refl
@@ -285,7 +292,7 @@ letter_spelt letter rest f h =
     (by_letter (letter == 112) letter 112 _ _ f refl
     (λ is k. number_spelt 1 4096 rest (decimal_within 1 4096 rest) Padding f (omega arith) refl k
     (λ n some most spells same. written letter 112 rest (decimal n) (Padding n) f is same (some, most) refl spells))
-    (align_spelt (letter == 97 && (length rest == 0)) letter rest f refl)))))))) h
+    (align_spelt (letter == 97 && (length rest == 0)) letter rest f refl))))))))) h
 
 -- a field that is spelt is in range, and written as its segment
 pub segment_spelt : (segment : List ℕ) (f : Field) → field_of segment ≡ Some f → IsSpelt segment f

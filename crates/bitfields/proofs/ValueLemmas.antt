@@ -4,7 +4,7 @@ use Rattle.std.proofs.Common.{◌≡◌, ℕ, ◌+◌, ◌^◌, List, [], ◌∷
 use Rattle.bitfields.specs.declared.fault.Reason.{Reason}
 use Rattle.bitfields.specs.declared.fault.Fault.{Fault}
 use Rattle.bitfields.specs.declared.field.Field.{Field}
-use Rattle.bitfields.specs.declared.field.Field.TheVariants.{Unsigned, Signed, Unary, Variable, SignedVariable, Bytes, Constant, Padding, Align}
+use Rattle.bitfields.specs.declared.field.Field.TheVariants.{Unsigned, Signed, Unary, Variable, Lenient, SignedVariable, Bytes, Constant, Padding, Align}
 use Rattle.bitfields.specs.declared.field_value.FieldValue.{FieldValue}
 use Rattle.bitfields.specs.declared.field_value.FieldValue.TheVariants as Value
 use Rattle.bitfields.specs.declared.field_value.ValueKind.{ValueKind}
@@ -62,6 +62,7 @@ kind-in_range (Unsigned n) h = h
 kind-in_range (Signed n) h = h
 kind-in_range (Unary stop) h = (omega arith, omega arith)
 kind-in_range (Variable size) h = (omega arith, omega arith)
+kind-in_range (Lenient size) h = (omega arith, omega arith)
 kind-in_range (SignedVariable size) h = (omega arith, omega arith)
 kind-in_range (Bytes n) h = h
 kind-in_range (Constant n v) h = tt

@@ -5,7 +5,7 @@ use Rattle.std.specs.Fmt.{decimal}
 use Rattle.bitfields.specs.declared.fault.Reason.TheVariants.{TooManyFields, BadLayout, OutOfMemory}
 use Rattle.bitfields.specs.declared.fault.Fault.{Fault}
 use Rattle.bitfields.specs.declared.field.Field.{Field}
-use Rattle.bitfields.specs.declared.field.Field.TheVariants.{Unsigned, Signed, Unary, Variable, SignedVariable, Bytes, Constant, Padding, Align}
+use Rattle.bitfields.specs.declared.field.Field.TheVariants.{Unsigned, Signed, Unary, Variable, Lenient, SignedVariable, Bytes, Constant, Padding, Align}
 use Rattle.bitfields.specs.declared.field.GroupSize.{GroupSize}
 use Rattle.bitfields.specs.declared.field.GroupSize.TheVariants.{Four, Eight}
 use Rattle.bitstream_io.specs.Word.{digit_value}
@@ -35,13 +35,14 @@ constant_at (Some sign) text = constant_after (decimal_within 1 32 (take sign te
 abbrev pub constant : List ℕ → Option Field
 constant text = constant_at (position (λ b. b == 61) text) text
 
--- the field of a letter (u, i, n, v, s, b, c, p, a) and of what follows it
+-- the field of a letter (u, i, n, v, l, s, b, c, p, a) and of what follows it
 abbrev pub field_after : ℕ → List ℕ → Option Field
 field_after letter rest =
     if letter == 117 then option_map Unsigned (decimal_within 1 128 rest)
     else if letter == 105 then option_map Signed (decimal_within 1 128 rest)
     else if letter == 110 then option_map (λ stop. Unary (stop == 1)) (decimal_within 0 1 rest)
     else if letter == 118 then option_map Variable (group_size rest)
+    else if letter == 108 then option_map Lenient (group_size rest)
     else if letter == 115 then option_map SignedVariable (group_size rest)
     else if letter == 98 then option_map Bytes (decimal_within 1 65536 rest)
     else if letter == 99 then constant rest
@@ -108,6 +109,7 @@ field_text (Unsigned n) = 117 ∷ decimal n
 field_text (Signed n) = 105 ∷ decimal n
 field_text (Unary stop) = 110 ∷ decimal (digit_value stop)
 field_text (Variable size) = 118 ∷ decimal (group_bits size)
+field_text (Lenient size) = 108 ∷ decimal (group_bits size)
 field_text (SignedVariable size) = 115 ∷ decimal (group_bits size)
 field_text (Bytes n) = 98 ∷ decimal n
 field_text (Constant n v) = 99 ∷ decimal n ++ 61 ∷ decimal v

@@ -17,7 +17,7 @@ use Rattle.bitfields.specs.declared.fault.Reason.{Reason}
 use Rattle.bitfields.specs.declared.fault.Reason.TheVariants.{OutOfMemory, StreamFault}
 use Rattle.bitfields.specs.declared.fault.Fault.{Fault}
 use Rattle.bitfields.specs.declared.field.Field.{Field}
-use Rattle.bitfields.specs.declared.field.Field.TheVariants.{Unsigned, Signed, Unary, Variable, SignedVariable, Bytes, Constant, Padding, Align}
+use Rattle.bitfields.specs.declared.field.Field.TheVariants.{Unsigned, Signed, Unary, Variable, Lenient, SignedVariable, Bytes, Constant, Padding, Align}
 use Rattle.bitfields.specs.declared.field_value.FieldValue.{FieldValue}
 use Rattle.bitfields.specs.Fault.{fault}
 use Rattle.bitfields.specs.Layout.{group_bits}
@@ -29,6 +29,7 @@ field_write o (Unsigned n) vs = unsigned o 128 n (first_unsigned vs)
 field_write o (Signed n) vs = signed o 128 n (first_signed vs)
 field_write o (Unary stop) vs = unary_word stop (first_unsigned vs)
 field_write o (Variable size) vs = vbr o (group_bits size) (first_unsigned vs)
+field_write o (Lenient size) vs = vbr o (group_bits size) (first_unsigned vs)
 field_write o (SignedVariable size) vs = signed_vbr o (group_bits size) (first_signed vs)
 field_write o (Bytes n) vs = buffer o (first_bytes vs)
 field_write o (Constant n v) vs = unsigned o 32 n v
@@ -41,6 +42,7 @@ field_word o (Unsigned n) vs at = word o n (first_unsigned vs)
 field_word o (Signed n) vs at = signed_word o n (first_signed vs)
 field_word o (Unary stop) vs at = unary stop (first_unsigned vs)
 field_word o (Variable size) vs at = vbr_word o (group_bits size) (first_unsigned vs)
+field_word o (Lenient size) vs at = vbr_word o (group_bits size) (first_unsigned vs)
 field_word o (SignedVariable size) vs at = vbr_word o (group_bits size) (zig (first_signed vs))
 field_word o (Bytes n) vs at = bits o (first_bytes vs)
 field_word o (Constant n v) vs at = word o n v

@@ -5,7 +5,7 @@ use Rattle.bitstream_io.specs.Word.{Order, bits}
 use Rattle.bitstream_io.specs.Error.{Error}
 use Rattle.bitstream_io.specs.Error.TheVariants as errors
 use Rattle.bitstream_io.specs.Entry.{ReadEntry, chain, gives}
-use Rattle.bitstream_io.specs.ReadTable.{unsigned_entry, signed_entry, unary_entry, vbr_entry, signed_vbr_entry, bytes_entry, skip_entry, align_entry}
+use Rattle.bitstream_io.specs.ReadTable.{unsigned_entry, signed_entry, unary_entry, vbr_entry, any_vbr_entry, signed_vbr_entry, bytes_entry, skip_entry, align_entry}
 use Rattle.bitstream_io.specs.Run.{read_run}
 use Rattle.bitstream_io.specs.Fault.{read_refusal_of}
 use Rattle.bitstream_io.specs.Refusal.{Refusal, IsTrueEnd}
@@ -15,7 +15,7 @@ use Rattle.bitfields.specs.declared.fault.Reason.{Reason}
 use Rattle.bitfields.specs.declared.fault.Reason.TheVariants.{BitsEnded, ConstantDiffers, LimitPassed, StreamFault, OutOfMemory}
 use Rattle.bitfields.specs.declared.fault.Fault.{Fault}
 use Rattle.bitfields.specs.declared.field.Field.{Field}
-use Rattle.bitfields.specs.declared.field.Field.TheVariants.{Unsigned, Signed, Unary, Variable, SignedVariable, Bytes, Constant, Padding, Align}
+use Rattle.bitfields.specs.declared.field.Field.TheVariants.{Unsigned, Signed, Unary, Variable, Lenient, SignedVariable, Bytes, Constant, Padding, Align}
 use Rattle.bitfields.specs.declared.field_value.FieldValue.{FieldValue}
 use Rattle.bitfields.specs.declared.field_value.FieldValue.TheVariants as Value
 use Rattle.bitfields.specs.Fault.{fault}
@@ -38,6 +38,7 @@ read_reason errors.EndOfInput = BitsEnded
 read_reason errors.OutOfMemory = OutOfMemory
 read_reason errors.RunTooLong = LimitPassed
 read_reason errors.VariableWidthOverflow = LimitPassed
+read_reason errors.RedundantGroup = LimitPassed
 read_reason error = StreamFault
 
 -- an error of a reader, as the reason for it
@@ -50,6 +51,8 @@ field_read o (Unsigned n) = chain (unsigned_entry o 128 n) (λ v. gives (Ok (Som
 field_read o (Signed n) = chain (signed_entry o 128 n) (λ x. gives (Ok (Some (Value.Signed x))))
 field_read o (Unary stop) = chain (unary_entry stop) (λ v. gives (Ok (Some (Value.Unsigned v))))
 field_read o (Variable size) = chain (vbr_entry o (group_bits size) 64 (2 ^ 64))
+    (λ v. gives (Ok (Some (Value.Unsigned v))))
+field_read o (Lenient size) = chain (any_vbr_entry o (group_bits size) 64 (2 ^ 64))
     (λ v. gives (Ok (Some (Value.Unsigned v))))
 field_read o (SignedVariable size) = chain (signed_vbr_entry o (group_bits size) 64)
     (λ x. gives (Ok (Some (Value.Signed x))))

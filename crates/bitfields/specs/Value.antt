@@ -7,7 +7,7 @@ use Rattle.bitfields.specs.declared.fault.Reason.{Reason}
 use Rattle.bitfields.specs.declared.fault.Reason.TheVariants.{ValueMissing, ValueLeftOver}
 use Rattle.bitfields.specs.declared.fault.Fault.{Fault}
 use Rattle.bitfields.specs.declared.field.Field.{Field}
-use Rattle.bitfields.specs.declared.field.Field.TheVariants.{Unsigned, Signed, Unary, Variable, SignedVariable, Bytes, Constant, Padding, Align}
+use Rattle.bitfields.specs.declared.field.Field.TheVariants.{Unsigned, Signed, Unary, Variable, Lenient, SignedVariable, Bytes, Constant, Padding, Align}
 use Rattle.bitfields.specs.declared.field_value.FieldValue.{FieldValue}
 use Rattle.bitfields.specs.declared.field_value.FieldValue.TheVariants as Value
 use Rattle.bitfields.specs.declared.field_value.ValueKind.{ValueKind}
@@ -31,6 +31,7 @@ value_kind (Unsigned n) = Kind.Unsigned n
 value_kind (Signed n) = Kind.Signed n
 value_kind (Unary stop) = Kind.Unsigned 32
 value_kind (Variable size) = Kind.Unsigned 64
+value_kind (Lenient size) = Kind.Unsigned 64
 value_kind (SignedVariable size) = Kind.Signed 64
 value_kind (Bytes n) = Kind.Bytes n
 value_kind (Constant n v) = Kind.Absent

@@ -16,6 +16,8 @@ pub enum Field {
     Unary(bool),
     /// `v4` and `v8`: a number of variable width.
     Variable(GroupSize),
+    /// `l4` and `l8`: the same, of which the groups that are read may end in groups of 0.
+    Lenient(GroupSize),
     /// `s4` and `s8`: a signed number of variable width.
     SignedVariable(GroupSize),
     /// `bN`: N bytes.
@@ -48,6 +50,7 @@ pub fn parse_field(segment: &[u8]) -> Option<Field>
         b'i' => decimal_between(1, 128, rest).map(Field::Signed),
         b'n' => decimal_between(0, 1, rest).map(|stop| Field::Unary(stop == 1)),
         b'v' => group_size(rest).map(Field::Variable),
+        b'l' => group_size(rest).map(Field::Lenient),
         b's' => group_size(rest).map(Field::SignedVariable),
         b'b' => decimal_between(1, 65536, rest).map(Field::Bytes),
         b'c' => constant(rest),

@@ -92,7 +92,7 @@ pub fn value_kind(field: Field) -> ValueKind
         Field::Unsigned(width) => ValueKind::Unsigned(width),
         Field::Signed(width) => ValueKind::Signed(width),
         Field::Unary(_) => ValueKind::Unsigned(32),
-        Field::Variable(_) => ValueKind::Unsigned(64),
+        Field::Variable(_) | Field::Lenient(_) => ValueKind::Unsigned(64),
         Field::SignedVariable(_) => ValueKind::Signed(64),
         Field::Bytes(count) => ValueKind::Bytes(count),
         Field::Constant { .. } | Field::Padding(_) | Field::Align => ValueKind::Absent,

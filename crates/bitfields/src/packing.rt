@@ -100,6 +100,7 @@ fn append_field<W: BitWrite>(
         Field::Signed(width) => writer.write_signed_var(width, first_signed(width, values)),
         Field::Unary(stop) => append_run(stop, first_unsigned(32, values) as u32, writer),
         Field::Variable(size) => append_groups(size, first_unsigned(64, values) as u64, writer),
+        Field::Lenient(size) => append_groups(size, first_unsigned(64, values) as u64, writer),
         Field::SignedVariable(size) => {
             append_signed_groups(size, first_signed(64, values), writer)
         }

@@ -444,6 +444,27 @@ const PIPELINES: [Row; 12] = [
     ),
 ];
 
+/// Numbers that end in a group of 0: strict fields refuse them, lenient ones read them and are packed
+/// by the shortest word.
+const REDUNDANT: [Row; 16] = [
+    Row("unpack be v4", &[0x80], b"", "1: limit passed", 4),
+    Row("unpack be l4", &[0x80], b"0\n", "", 0),
+    Row("unpack be v4", &[0x90], b"", "1: limit passed", 4),
+    Row("unpack be l4", &[0x90], b"1\n", "", 0),
+    Row("unpack be v4", &[0x88, 0x00], b"", "1: limit passed", 4),
+    Row("unpack be l4", &[0x88, 0x00], b"0\n", "", 0),
+    Row("unpack be s4", &[0x80], b"", "1: limit passed", 4),
+    Row("unpack be v8", &[0x80, 0x00], b"", "1: limit passed", 4),
+    Row("unpack be l8", &[0x80, 0x00], b"0\n", "", 0),
+    Row("unpack le s8", &[0x81, 0x00], b"", "1: limit passed", 4),
+    Row("unpack be l4", &[0xff; 11], b"", "1: limit passed", 4),
+    Row("unpack be u4,l4", &[0x08], b"", "2: bits ended", 4),
+    Row("pack be l4", b"8\n", &[0x81], "", 0),
+    Row("pack be l8", b"0\n", &[0x00], "", 0),
+    Row("pack be l5", b"", b"", "1: bad layout", 2),
+    Row("size be l4,l8", b"8\n0\n", b"16\n", "", 0),
+];
+
 /// Which request of each stream is refused, if any: the first is 0. Each later one is served again.
 #[derive(Clone, Copy, Drop)]
 struct Refused {
@@ -567,6 +588,14 @@ fn r09_headline(rt: HostRuntime) -> Result<(), Fail> {
 #[test]
 fn bytes_have_one_line(rt: HostRuntime) -> Result<(), Fail> {
     for row in &BYTES {
+        assert!(rt; is_right(rt.alloc(), row)?, "{} of {:?}", row.0, row.1);
+    }
+    Ok(())
+}
+
+#[test]
+fn r15_redundant(rt: HostRuntime) -> Result<(), Fail> {
+    for row in &REDUNDANT {
         assert!(rt; is_right(rt.alloc(), row)?, "{} of {:?}", row.0, row.1);
     }
     Ok(())

@@ -3,7 +3,7 @@
 ghost use Rattle.std.specs.Prelude.{◌≡◌, ◌++◌, ◌^◌, ℕ, List, Some, true, length, string_bytes, IfOk, IsErr, IsSome, OnOk, None, Ok, Err, if◌then◌else◌};
 ghost use Rattle.bitstream_io.specs.Gather.{seen};
 ghost use Rattle.bitstream_io.specs.Refusal.{MayRefuse, TrueEnds};
-ghost use Rattle.bitstream_io.specs.ReadTable.{unary_entry, vbr_entry, signed_vbr_entry};
+ghost use Rattle.bitstream_io.specs.ReadTable.{unary_entry, vbr_entry, any_vbr_entry, signed_vbr_entry};
 ghost use Rattle.bitstream_io.specs.Reads.{Reads};
 ghost use Rattle.bitfields.specs.Layout.{group_bits};
 ghost use Rattle.bitfields.specs.Unpacking.{asks_memory, byte_count, read_reason as read_reason_of, IsSaid, ReadsField, ReadsLines, UnpacksBytes};
@@ -25,7 +25,8 @@ use std::alloc::{AllocError, Global};
 ///
 /// `BitsEnded` at the first field whose bits are not all there, `ConstantDiffers` at the first
 /// constant whose bits hold another number, `LimitPassed` at the first whose number passes its
-/// limit, `StreamFault` or `OutOfMemory` at the field for which the stream refused a request,
+/// limit or ends in a redundant group, `StreamFault` or `OutOfMemory` at the field for which the
+/// stream refused a request,
 /// `OutOfMemory` at the field for whose bytes or line memory was refused. If each refusal of the
 /// stream is a true end, as of a `Slice`, the bits alone decide the answer, memory aside.
 pub fn unpack<E: Endianness, R: Source>(
@@ -106,6 +107,10 @@ fn unpack_field<R: BitRead>(
             let value = read_groups(size, reader)?;
             Ok(Some(FieldValue::Unsigned(value as u128)))
         }
+        Field::Lenient(size) => {
+            let value = read_any_groups(size, reader)?;
+            Ok(Some(FieldValue::Unsigned(value as u128)))
+        }
         Field::SignedVariable(size) => {
             let value = read_signed_groups(size, reader)?;
             Ok(Some(FieldValue::Signed(widened(value))))
@@ -147,6 +152,17 @@ fn read_groups<R: BitRead>(size: GroupSize, reader: &mut R) -> Result<u64, Error
     match size {
         GroupSize::Four => reader.read_unsigned_vbr::<Bits<4>, u64>(),
         GroupSize::Eight => reader.read_unsigned_vbr::<Bits<8>, u64>(),
+    }
+}
+
+/// Reads a number in groups of this size, which may end in groups of 0.
+fn read_any_groups<R: BitRead>(size: GroupSize, reader: &mut R) -> Result<u64, Error>
+    ensures { Reads R.source (any_vbr_entry R.source.order (group_bits size) 64 (2 ^ 64))
+        reader.old result reader.new }
+{
+    match size {
+        GroupSize::Four => reader.read_unsigned_vbr_any::<Bits<4>, u64>(),
+        GroupSize::Eight => reader.read_unsigned_vbr_any::<Bits<8>, u64>(),
     }
 }
 
@@ -201,7 +217,9 @@ fn read_reason(error: Error) -> Reason
     match error {
         Error::EndOfInput => Reason::BitsEnded,
         Error::OutOfMemory => Reason::OutOfMemory,
-        Error::RunTooLong | Error::VariableWidthOverflow => Reason::LimitPassed,
+        Error::RunTooLong | Error::VariableWidthOverflow | Error::RedundantGroup => {
+            Reason::LimitPassed
+        }
         _ => Reason::StreamFault,
     }
 }

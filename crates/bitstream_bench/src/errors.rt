@@ -6,7 +6,7 @@ use std::io::ErrorKind;
 use std::test::Fail;
 
 /// Errors, their texts, and the kinds of the `io::Error`s that stand for them.
-const ROWS: [(Error, &str, ErrorKind); 14] = [
+const ROWS: [(Error, &str, ErrorKind); 15] = [
     (
         Error::ReadBits,
         "excessive bits for type read",
@@ -41,6 +41,11 @@ const ROWS: [(Error, &str, ErrorKind); 14] = [
         Error::VariableWidthOverflow,
         "variable bit rate overflow",
         ErrorKind::StorageFull,
+    ),
+    (
+        Error::RedundantGroup,
+        "redundant variable width group",
+        ErrorKind::InvalidData,
     ),
     (
         Error::CounterOverflow,

@@ -250,6 +250,37 @@ fn inherits<E: Endianness + Drop>(alloc: Global, begins: &[u8]) -> Result<bool, 
     Ok(written && read && inherited)
 }
 
+/// Takes a reader by value, reads numbers in two groups of which the last is 0, each by the strict call and
+/// then by the lenient one, and tells whether the lenient calls alone answer them.
+fn reads_redundant<R: BitRead + Drop>(mut reader: R) -> bool {
+    let unsigned = reader.read_unsigned_vbr::<Bits<4>, u8>();
+    let any_unsigned = reader.read_unsigned_vbr_any::<Bits<4>, u8>();
+    let signed = reader.read_signed_vbr::<Bits<4>, i8>();
+    let any_signed = reader.read_signed_vbr_any::<Bits<4>, i8>();
+    matches!(
+        (unsigned, any_unsigned, signed, any_signed),
+        (
+            Err(Error::RedundantGroup),
+            Ok(1),
+            Err(Error::RedundantGroup),
+            Ok(-1)
+        )
+    )
+}
+
+#[test]
+fn redundant_groups_are_read_by_the_lenient_calls(rt: HostRuntime) {
+    let bytes = [0x90; 4];
+    let mut reader = BitReader::<_, BE>::new(Slice::new(&bytes));
+    assert!(rt; reads_redundant(&mut reader));
+    assert!(rt; ends(&mut reader));
+    let mut own = OwnReader {
+        inner: BitReader::<_, BE>::new(Slice::new(&bytes)),
+    };
+    assert!(rt; reads_redundant(&mut own));
+    assert!(rt; ends(&mut own));
+}
+
 /// A reader of bytes before another, to which it hands each required call.
 #[derive(Drop)]
 struct OwnBytes<R> {

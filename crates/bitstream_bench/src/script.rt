@@ -73,6 +73,34 @@ fn fails_behind_the_end(alloc: Global) -> bool {
     )
 }
 
+/// Reads 1 in two groups by each call for numbers of variable width, and tells whether the lenient calls
+/// alone answer it.
+fn reads_redundant_groups(alloc: Global) -> bool {
+    let calls = [
+        ReadCall::Vbr4,
+        ReadCall::AnyVbr4,
+        ReadCall::SignedVbr4,
+        ReadCall::Vbr8,
+        ReadCall::AnyVbr8,
+        ReadCall::SignedVbr8,
+    ];
+    let mut answers = [None, None, None, None, None, None];
+    let bytes = [0x90, 0x90, 0x90, 0x81, 0, 0x81, 0, 0x81, 0];
+    let mut reader = BitReader::<_, BE>::new(Slice::new(&bytes));
+    read_calls(alloc, &mut reader, &calls, &mut answers);
+    matches!(
+        answers,
+        [
+            Some(Err(Error::RedundantGroup)),
+            Some(Ok(Answer::Vbr(1))),
+            Some(Err(Error::RedundantGroup)),
+            Some(Err(Error::RedundantGroup)),
+            Some(Ok(Answer::Vbr(1))),
+            Some(Err(Error::RedundantGroup))
+        ]
+    )
+}
+
 /// What a call of the list below is to answer.
 #[derive(Clone, Copy, Drop)]
 enum Want {
@@ -160,6 +188,7 @@ const WHOLE: [Want; 5] = [
 #[test]
 fn lists_of_reads_answer_each_call(rt: HostRuntime) {
     assert!(rt; fails_behind_the_end(rt.alloc()));
+    assert!(rt; reads_redundant_groups(rt.alloc()));
     let data = [0xb1, 0xed, 0x3b, 0xc1];
     let drip = Drip {
         inner: data.as_slice(),

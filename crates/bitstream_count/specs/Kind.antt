@@ -3,7 +3,7 @@ use Rattle.std.specs.declared.io.ErrorKind.{ErrorKind}
 use Rattle.std.specs.declared.io.ErrorKind.TheVariants.{InvalidInput, InvalidData, StorageFull, UnexpectedEof, Other}
 use Rattle.std.specs.declared.io.ErrorKind.TheVariants as kinds
 use Rattle.bitstream_count.specs.declared.error.Error.{Error}
-use Rattle.bitstream_count.specs.declared.error.Error.TheVariants.{ReadBits, Checked, NoSignBit, BoolWidth, NonZeroWidth, VariableWidthOverflow, CounterOverflow, RunTooLong, EndOfInput, Stream, OutOfMemory, Place, Failed}
+use Rattle.bitstream_count.specs.declared.error.Error.TheVariants.{ReadBits, Checked, NoSignBit, BoolWidth, NonZeroWidth, VariableWidthOverflow, RedundantGroup, CounterOverflow, RunTooLong, EndOfInput, Stream, OutOfMemory, Place, Failed}
 
 -- the kind of the `io::Error` that stands for an error
 abbrev pub kind_of : Error → ErrorKind
@@ -13,6 +13,7 @@ kind_of NoSignBit = InvalidInput
 kind_of BoolWidth = InvalidInput
 kind_of NonZeroWidth = InvalidInput
 kind_of VariableWidthOverflow = StorageFull
+kind_of RedundantGroup = InvalidData
 kind_of CounterOverflow = StorageFull
 kind_of RunTooLong = InvalidData
 kind_of EndOfInput = UnexpectedEof

@@ -1,30 +1,33 @@
 -- Numbers of variable width: words made of groups of bits.
-use Rattle.std.specs.Prelude.{◌≡◌, ℕ, zero, suc, ◌+◌, ◌-◌, ◌*◌, ◌/◌, ◌%◌, ◌^◌, ◌<◌, List, Bool, ◌++◌, length, take, drop, Ok, Err, nat_lt, if◌then◌else◌}
+use Rattle.std.specs.Prelude.{◌≡◌, ℕ, zero, suc, ◌+◌, ◌-◌, ◌*◌, ◌/◌, ◌%◌, ◌^◌, ◌<◌, List, Bool, true, ◌&&◌, ◌++◌, length, take, drop, Result, Ok, Err, nat_lt, if◌then◌else◌}
 use Rattle.std.specs.Int.{div_ceil}
 use Rattle.bitstream_number.specs.Word.{Order, word, number}
-use Rattle.bitstream_count.specs.declared.error.Error.TheVariants.{VariableWidthOverflow}
+use Rattle.bitstream_count.specs.declared.error.Error.{Error}
+use Rattle.bitstream_count.specs.declared.error.Error.TheVariants.{VariableWidthOverflow, RedundantGroup}
 use Rattle.bitstream_count.specs.Entry.{Front, TooFew, Takes}
 
 -- The word is a group of `field` bits and `more` further groups. A group is a bit that says whether another group
--- follows, and below it `field - 1` digits of v. The first group has the lowest digits of v.
-abbrev pub IsGroups : Order → ℕ → ℕ → List Bool → ℕ → Type 0
-IsGroups o field zero w v = (v < 2 ^ (field - 1)) × (w ≡ word o field v)
-IsGroups o field (suc more) w v =
+-- follows, and below it `field - 1` digits of v. The first group has the lowest digits of v. If the word is strict and
+-- has two groups or more, it ends in a group other than 0: the groups behind any group stand for more than 0.
+abbrev pub IsGroups : Bool → Order → ℕ → ℕ → List Bool → ℕ → Type 0
+IsGroups strict o field zero w v = (v < 2 ^ (field - 1)) × (w ≡ word o field v)
+IsGroups strict o field (suc more) w v =
     (low : ℕ) × (high : ℕ) × (rest : List Bool)
     × (low < 2 ^ (field - 1))
+    × (strict ≡ true → 0 < high)
     × (w ≡ word o field (2 ^ (field - 1) + low) ++ rest)
     × (v ≡ low + 2 ^ (field - 1) * high)
-    × IsGroups o field more rest high
+    × IsGroups strict o field more rest high
 
 -- the word spells v in groups
-abbrev pub Vbr : Order → ℕ → List Bool → ℕ → Type 0
-Vbr o field w v = (more : ℕ) × IsGroups o field more w v
+abbrev pub Vbr : Bool → Order → ℕ → List Bool → ℕ → Type 0
+Vbr strict o field w v = (more : ℕ) × IsGroups strict o field more w v
 
 -- the word spells v and is accepted for a type of `width` bits: v is below the limit, and each group begins within the
 -- type
-abbrev pub IsAccepted : Order → ℕ → ℕ → ℕ → List Bool → ℕ → Type 0
-IsAccepted o field width limit w v =
-    (more : ℕ) × IsGroups o field more w v × (more * (field - 1) < width) × (v < limit)
+abbrev pub IsAccepted : Bool → Order → ℕ → ℕ → ℕ → List Bool → ℕ → Type 0
+IsAccepted strict o field width limit w v =
+    (more : ℕ) × IsGroups strict o field more w v × (more * (field - 1) < width) × (v < limit)
 
 -- ---- writing
 
@@ -41,18 +44,24 @@ vbr_word o field v = groups v o field v
 
 -- ---- reading
 
+-- the number of a group with these low digits and of the groups behind it, which stand for `high`; for a strict read
+-- they do not stand for 0
+abbrev pub joined : Bool → ℕ → ℕ → ℕ → Result ℕ Error
+joined strict field low high =
+    if strict && nat_lt high 1 then Err RedundantGroup else Ok (low + 2 ^ (field - 1) * high)
+
 -- a group with these low digits, before the front of the other groups
-abbrev pub before : ℕ → ℕ → Front ℕ → Front ℕ
-before field low TooFew = TooFew
-before field low (Takes n (Ok high)) = Takes (field + n) (Ok (low + 2 ^ (field - 1) * high))
-before field low (Takes n (Err e)) = Takes (field + n) (Err e)
+abbrev pub before : Bool → ℕ → ℕ → Front ℕ → Front ℕ
+before strict field low TooFew = TooFew
+before strict field low (Takes n (Ok high)) = Takes (field + n) (joined strict field low high)
+before strict field low (Takes n (Err e)) = Takes (field + n) (Err e)
 
 -- the front of groups: up to the last one, or `VariableWidthOverflow` behind `room` of them
-unfoldable pub groups_at : ℕ → Order → ℕ → List Bool → Front ℕ
-groups_at zero o field bits = Takes 0 (Err VariableWidthOverflow)
-groups_at (suc room) o field bits =
+unfoldable pub groups_at : Bool → ℕ → Order → ℕ → List Bool → Front ℕ
+groups_at strict zero o field bits = Takes 0 (Err VariableWidthOverflow)
+groups_at strict (suc room) o field bits =
     let first = number o (take field bits) in
-    let all = before field (first - 2 ^ (field - 1)) (groups_at room o field (drop field bits)) in
+    let all = before strict field (first - 2 ^ (field - 1)) (groups_at strict room o field (drop field bits)) in
     if nat_lt (length bits) field then TooFew
     else if nat_lt first (2 ^ (field - 1)) then Takes field (Ok first) else all
 
@@ -64,5 +73,5 @@ below limit (Takes n (Err e)) = Takes n (Err e)
 
 -- the front of a variable-width read: a number below the limit of a type of `width` bits, in at most the groups that
 -- begin within the type
-abbrev pub read_vbr : Order → ℕ → ℕ → ℕ → List Bool → Front ℕ
-read_vbr o field width limit bits = below limit (groups_at (div_ceil width (field - 1)) o field bits)
+abbrev pub read_vbr : Bool → Order → ℕ → ℕ → ℕ → List Bool → Front ℕ
+read_vbr strict o field width limit bits = below limit (groups_at strict (div_ceil width (field - 1)) o field bits)

@@ -13,8 +13,8 @@ use std::io::ErrorKind;
 ///
 /// After `EndOfInput`, `Stream`, `OutOfMemory` and `RunTooLong`, and after a `Place` from the
 /// stream's end, a bit reader or writer has failed: each later call that reads or writes a value
-/// answers `Failed`. After `VariableWidthOverflow` the reader goes on behind the groups that it
-/// took. After any other error of a single call nothing has changed.
+/// answers `Failed`. After `VariableWidthOverflow` and `RedundantGroup` the reader goes on behind
+/// the groups that it took. After any other error of a single call nothing has changed.
 #[derive(Debug, Drop, thiserror::Error)]
 pub enum Error {
     /// More bits were to be read than the type has.
@@ -35,6 +35,9 @@ pub enum Error {
     /// A variable-width value outside its type's range.
     #[error("variable bit rate overflow")]
     VariableWidthOverflow,
+    /// A variable-width value of two groups or more, the last of them 0.
+    #[error("redundant variable width group")]
+    RedundantGroup,
     /// A count above the limit of the counter's type.
     #[error("bitstream accumulator overflow")]
     CounterOverflow,
@@ -71,7 +74,7 @@ impl Error {
             | Error::NonZeroWidth
             | Error::Place => ErrorKind::InvalidInput,
             Error::VariableWidthOverflow | Error::CounterOverflow => ErrorKind::StorageFull,
-            Error::RunTooLong => ErrorKind::InvalidData,
+            Error::RedundantGroup | Error::RunTooLong => ErrorKind::InvalidData,
             Error::EndOfInput => ErrorKind::UnexpectedEof,
             Error::Stream(kind) => *kind,
             Error::OutOfMemory => ErrorKind::OutOfMemory,

@@ -5,7 +5,7 @@
 
 ghost use Rattle.std.specs.Hash as fed;
 ghost use Rattle.std.specs.List.{fold};
-ghost use Rattle.std.specs.Prelude.{◌≡◌, ◌↔◌, ℕ, ◌^◌, ◌<◌, ◌≤◌, ◌++◌, Bool, Err, IsOk, IsTrue, List, Ok, Some, length, not, replicate, take, ◌⊎◌, ℤ};
+ghost use Rattle.std.specs.Prelude.{◌≡◌, ◌↔◌, ℕ, ◌^◌, ◌<◌, ◌≤◌, ◌++◌, Bool, true, false, Err, IsOk, IsTrue, List, Ok, Some, length, not, replicate, take, ◌⊎◌, ℤ};
 ghost use Rattle.bitstream_count.specs.Entry.{Takes};
 ghost use Rattle.bitstream_count.specs.Unary.{unary, read_unary};
 ghost use Rattle.bitstream_count.specs.declared.error.Error.{Error};
@@ -121,35 +121,49 @@ pub fn unary_words_alone_are_read()
 /// No word of variable width is the beginning of another one with groups of the same size.
 pub fn variable_width_words_begin_no_other()
     ensures { (o : Order) (field : ℕ) (u v x y : List Bool) (a b : ℕ) → 0 < field
-        → Vbr o field u a → Vbr o field v b → u ++ x ≡ v ++ y → (u ≡ v) × (a ≡ b) }
+        → Vbr false o field u a → Vbr false o field v b → u ++ x ≡ v ++ y → (u ≡ v) × (a ≡ b) }
 {}
 
 /// An accepted word of variable width is read back, whatever follows it.
 pub fn variable_width_words_read_back()
-    ensures { (o : Order) (field width limit : ℕ) (w : List Bool) (v : ℕ) (rest : List Bool) → 2 ≤ field
-        → IsAccepted o field width limit w v
-        → read_vbr o field width limit (w ++ rest) ≡ Takes (length w) (Ok v) }
+    ensures { (strict : Bool) (o : Order) (field width limit : ℕ) (w : List Bool) (v : ℕ) (rest : List Bool)
+        → 2 ≤ field → IsAccepted strict o field width limit w v
+        → read_vbr strict o field width limit (w ++ rest) ≡ Takes (length w) (Ok v) }
 {}
 
 /// A number of variable width is answered only if the bits begin with an accepted word of it.
 pub fn variable_width_words_alone_are_read()
-    ensures { (o : Order) (field width limit : ℕ) (bits : List Bool) (n v : ℕ) → 2 ≤ field
-        → read_vbr o field width limit bits ≡ Takes n (Ok v)
-        → IsAccepted o field width limit (take n bits) v × (n ≤ length bits) }
+    ensures { (strict : Bool) (o : Order) (field width limit : ℕ) (bits : List Bool) (n v : ℕ) → 2 ≤ field
+        → read_vbr strict o field width limit bits ≡ Takes n (Ok v)
+        → IsAccepted strict o field width limit (take n bits) v × (n ≤ length bits) }
 {}
 
-/// Of all variable-width words that are accepted for a number, the one that is written is the
+/// The word that is written for a number is accepted, and it is the only one that the strict reader
+/// accepts for that number. The same holds for signed numbers.
+pub fn variable_width_words_are_the_only_ones()
+    ensures accepted { (o : Order) (field width limit v : ℕ) → 2 ≤ field → 0 < width
+        → limit ≤ 2 ^ width → v < limit → IsAccepted true o field width limit (vbr_word o field v) v }
+    ensures only { (o : Order) (field width limit v : ℕ) (w : List Bool) → 2 ≤ field
+        → IsAccepted true o field width limit w v → w ≡ vbr_word o field v }
+    ensures signed_accepted { (o : Order) (field width : ℕ) (x : ℤ) → 2 ≤ field → 0 < width
+        → FitsSignedBits width x
+        → IsAccepted true o field width (2 ^ width) (vbr_word o field (zig x)) (zig x) }
+    ensures signed_only { (o : Order) (field width v : ℕ) (x : ℤ) (w : List Bool) → 2 ≤ field
+        → IsAccepted true o field width (2 ^ width) w v → zag v ≡ x → w ≡ vbr_word o field (zig x) }
+{}
+
+/// Of all words that the lenient reader accepts for a number, the one that is written is the
 /// shortest. The same holds for signed numbers.
 pub fn variable_width_words_are_shortest()
     ensures accepted { (o : Order) (field width limit v : ℕ) → 2 ≤ field → 0 < width
-        → limit ≤ 2 ^ width → v < limit → IsAccepted o field width limit (vbr_word o field v) v }
+        → limit ≤ 2 ^ width → v < limit → IsAccepted false o field width limit (vbr_word o field v) v }
     ensures shortest { (o : Order) (field width limit v : ℕ) (w : List Bool) → 2 ≤ field
-        → IsAccepted o field width limit w v
+        → IsAccepted false o field width limit w v
         → (w ≡ vbr_word o field v) ⊎ (length (vbr_word o field v) < length w) }
     ensures signed_accepted { (o : Order) (field width : ℕ) (x : ℤ) → 2 ≤ field → 0 < width
         → FitsSignedBits width x
-        → IsAccepted o field width (2 ^ width) (vbr_word o field (zig x)) (zig x) }
+        → IsAccepted false o field width (2 ^ width) (vbr_word o field (zig x)) (zig x) }
     ensures signed_shortest { (o : Order) (field width v : ℕ) (x : ℤ) (w : List Bool) → 2 ≤ field
-        → IsAccepted o field width (2 ^ width) w v → zag v ≡ x
+        → IsAccepted false o field width (2 ^ width) w v → zag v ≡ x
         → (w ≡ vbr_word o field (zig x)) ⊎ (length (vbr_word o field (zig x)) < length w) }
 {}

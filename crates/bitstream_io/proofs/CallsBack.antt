@@ -13,7 +13,7 @@ use Rattle.bitstream_number.proofs.WordLemmas.{length-word, number-word, count_f
 use Rattle.bitstream_count.specs.Entry.{ReadEntry, WriteEntry, chain, gives}
 use Rattle.bitstream_count.specs.Vbr.{vbr_word}
 use Rattle.bitstream_count.specs.Unary.{unary}
-use Rattle.bitstream_stream.specs.ReadTable.{bit_entry, unsigned_entry, signed_entry, const_entry, unary_entry, count_entry, vbr_entry, signed_vbr_entry, bytes_entry, skip_entry}
+use Rattle.bitstream_stream.specs.ReadTable.{bit_entry, unsigned_entry, signed_entry, const_entry, unary_entry, count_entry, groups_entry, vbr_entry, any_vbr_entry, signed_groups_entry, signed_vbr_entry, any_signed_vbr_entry, bytes_entry, skip_entry}
 use Rattle.bitstream_stream.specs.Run.{write_run}
 use Rattle.bitstream_stream.specs.WriteTable.{plain, bit, unsigned, signed, unary_word, count, vbr, signed_vbr, buffer, zeros}
 use Rattle.bitstream_stream.proofs.ReadsLemmas.{chain_decides}
@@ -28,7 +28,7 @@ use Rattle.bitstream_value.proofs.BackLemmas.{GoesBack, goes_back}
 use Rattle.bitstream_value.proofs.LimitedLemmas.{limited-path}
 use Rattle.bitstream_value.proofs.TreeLemmas.{path-reads, word_back}
 use Rattle.bitstream_io.specs.ReadBack.{IsReadAs, value_in}
-use Rattle.bitstream_io.proofs.ReadBackLemmas.{Found, word-found, bit-found, unsigned-found, signed-found, unary-found, vbr-found, signed_vbr-found, bytes-are, bytes-found, skip-found}
+use Rattle.bitstream_io.proofs.ReadBackLemmas.{Found, word-found, bit-found, unsigned-found, signed-found, unary-found, groups-found, signed_groups-found, bytes-are, bytes-found, skip-found}
 use Rattle.bitstream_io.proofs.RunLemmas.{write_run-append}
 
 -- ---- calls one after another
@@ -97,17 +97,19 @@ bytes-read o bytes fit =
 pub skip-read : (n : ℕ) → IsReadAs (zeros n ∷ []) (skip_entry n) tt
 skip-read n = one-read (zeros n) (replicate n false) (λ len. refl) (skip-found n)
 
-pub vbr-read : (o : Order) (field size limit v : ℕ) → 2 ≤ field → 0 < size → limit ≤ 2 ^ size → v < limit
-    → IsReadAs (vbr o field v ∷ []) (vbr_entry o field size limit) v
-vbr-read o field size limit v wide some most small =
+pub groups-read : (strict : Bool) (o : Order) (field size limit v : ℕ) → 2 ≤ field → 0 < size → limit ≤ 2 ^ size
+    → v < limit
+    → IsReadAs (vbr o field v ∷ []) (groups_entry strict o field size limit) v
+groups-read strict o field size limit v wide some most small =
     one-read (vbr o field v) (vbr_word o field v) (λ len. refl)
-    (λ p. vbr-found o field size limit v p wide some most small)
+    (λ p. groups-found strict o field size limit v p wide some most small)
 
-pub signed_vbr-read : (o : Order) (field size : ℕ) (x : ℤ) → 2 ≤ field → 0 < size → FitsSignedBits size x
-    → IsReadAs (signed_vbr o field x ∷ []) (signed_vbr_entry o field size) x
-signed_vbr-read o field size x wide some fits =
+pub signed_groups-read : (strict : Bool) (o : Order) (field size : ℕ) (x : ℤ) → 2 ≤ field → 0 < size
+    → FitsSignedBits size x
+    → IsReadAs (signed_vbr o field x ∷ []) (signed_groups_entry strict o field size) x
+signed_groups-read strict o field size x wide some fits =
     one-read (signed_vbr o field x) (vbr_word o field (zig x)) (λ len. refl)
-    (λ p. signed_vbr-found o field size x p wide some fits)
+    (λ p. signed_groups-found strict o field size x p wide some fits)
 
 -- ---- the types of values
 
@@ -148,14 +150,14 @@ module _ {A : Type 0} (after : ℕ → A) (o : Order) where
   unfolding non_zero_vbr_entry
   non_zero_vbr-read field size v wide some fits =
       mapped-read after (vbr o field (v - 1) ∷ []) (vbr_entry o field size (2 ^ size - 1)) (v - 1)
-      (vbr-read o field size (2 ^ size - 1) (v - 1) wide some (omega arith) fits)
+      (groups-read true o field size (2 ^ size - 1) (v - 1) wide some (omega arith) fits)
 
   pub option_vbr-read : (field size v : ℕ) → 2 ≤ field → 0 < size → v < 2 ^ size
       → IsReadAs (vbr o field v ∷ []) (option_vbr_entry after o field size) (if_any after v)
   unfolding option_vbr_entry
   option_vbr-read field size v wide some fits =
       mapped-read (if_any after) (vbr o field v ∷ []) (vbr_entry o field size (2 ^ size)) v
-      (vbr-read o field size (2 ^ size) v wide some (omega arith) fits)
+      (groups-read true o field size (2 ^ size) v wide some (omega arith) fits)
 
 module _ {C : Type 0} (count : C) (o : Order) where
   pub checked-read : (size n v : ℕ) → n ≤ size → v < 2 ^ n
@@ -265,23 +267,44 @@ module _ {B : Type 0} (es : List WriteEntry) (b : B) where
         subst (λ (k : ℕ). GoesBack (chain (bytes_entry o k) f) (buffer o bytes ∷ es) b) size
         (next-back (bytes_entry o (length bytes)) (buffer o bytes) bytes f (bytes-read o bytes fit) behind)
 
+    -- by the strict read and by the lenient one
+    groups-back : (strict : Bool) (field size v : ℕ) (f : ℕ → ReadEntry B) → nat_le 2 field ≡ true
+        → nat_le 1 size ≡ true → v < 2 ^ size → GoesBack (f v) es b
+        → GoesBack (chain (groups_entry strict o field size (2 ^ size)) f) (vbr o field v ∷ es) b
+    groups-back strict field size v f groups bits fits behind =
+        let wide : 2 ≤ field = grind (arith, nat_tests) in
+        let some : 0 < size = grind (arith, nat_tests) in
+        next-back (groups_entry strict o field size (2 ^ size)) (vbr o field v) v f
+        (groups-read strict o field size (2 ^ size) v wide some (omega arith) fits) behind
+
     pub vbr-back : (field size v : ℕ) (f : ℕ → ReadEntry B) → nat_le 2 field ≡ true → nat_le 1 size ≡ true
         → v < 2 ^ size → GoesBack (f v) es b
         → GoesBack (chain (vbr_entry o field size (2 ^ size)) f) (vbr o field v ∷ es) b
-    vbr-back field size v f groups bits fits behind =
+    vbr-back = groups-back true
+
+    pub any_vbr-back : (field size v : ℕ) (f : ℕ → ReadEntry B) → nat_le 2 field ≡ true → nat_le 1 size ≡ true
+        → v < 2 ^ size → GoesBack (f v) es b
+        → GoesBack (chain (any_vbr_entry o field size (2 ^ size)) f) (vbr o field v ∷ es) b
+    any_vbr-back = groups-back false
+
+    signed_groups-back : (strict : Bool) (field size : ℕ) (x : ℤ) (f : ℤ → ReadEntry B) → nat_le 2 field ≡ true
+        → nat_le 1 size ≡ true → FitsSignedBits size x → GoesBack (f x) es b
+        → GoesBack (chain (signed_groups_entry strict o field size) f) (signed_vbr o field x ∷ es) b
+    signed_groups-back strict field size x f groups bits fits behind =
         let wide : 2 ≤ field = grind (arith, nat_tests) in
         let some : 0 < size = grind (arith, nat_tests) in
-        next-back (vbr_entry o field size (2 ^ size)) (vbr o field v) v f
-        (vbr-read o field size (2 ^ size) v wide some (omega arith) fits) behind
+        next-back (signed_groups_entry strict o field size) (signed_vbr o field x) x f
+        (signed_groups-read strict o field size x wide some fits) behind
 
     pub signed_vbr-back : (field size : ℕ) (x : ℤ) (f : ℤ → ReadEntry B) → nat_le 2 field ≡ true → nat_le 1 size ≡ true
         → FitsSignedBits size x → GoesBack (f x) es b
         → GoesBack (chain (signed_vbr_entry o field size) f) (signed_vbr o field x ∷ es) b
-    signed_vbr-back field size x f groups bits fits behind =
-        let wide : 2 ≤ field = grind (arith, nat_tests) in
-        let some : 0 < size = grind (arith, nat_tests) in
-        next-back (signed_vbr_entry o field size) (signed_vbr o field x) x f
-        (signed_vbr-read o field size x wide some fits) behind
+    signed_vbr-back = signed_groups-back true
+
+    pub any_signed_vbr-back : (field size : ℕ) (x : ℤ) (f : ℤ → ReadEntry B) → nat_le 2 field ≡ true
+        → nat_le 1 size ≡ true → FitsSignedBits size x → GoesBack (f x) es b
+        → GoesBack (chain (any_signed_vbr_entry o field size) f) (signed_vbr o field x ∷ es) b
+    any_signed_vbr-back = signed_groups-back false
 
     -- a value that its number gives back
     pub non_zero-back : {A : Type 0} (after : ℕ → A) (size n v : ℕ) (a : A) (f : A → ReadEntry B) → nat_lt n size ≡ true
@@ -314,7 +337,9 @@ pub ruleset calls_go_back = (
   count-back,
   bytes-back,
   vbr-back,
+  any_vbr-back,
   signed_vbr-back,
+  any_signed_vbr-back,
   non_zero-back,
   option-back,
 )

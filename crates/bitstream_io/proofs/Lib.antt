@@ -1,5 +1,6 @@
 pub mod RunLemmas
 pub mod CallsBack
+pub mod CallerLemmas
 mod ReadBackLemmas
 mod ReadScriptLemmas
 mod Rows

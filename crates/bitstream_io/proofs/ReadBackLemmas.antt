@@ -24,7 +24,7 @@ use Rattle.bitstream_order.specs.Fault.{read_refusal_of}
 use Rattle.bitstream_order.specs.Refusal.{TrueEnds}
 use Rattle.bitstream_stream.specs.Alignment.{to_boundary}
 use Rattle.bitstream_stream.specs.Reads.{BitSource}
-use Rattle.bitstream_stream.specs.ReadTable.{first_bit, bit_entry, unsigned_entry, signed_entry, unary_entry, vbr_entry, signed_vbr_entry, bytes_entry, skip_entry, align_entry}
+use Rattle.bitstream_stream.specs.ReadTable.{first_bit, bit_entry, unsigned_entry, signed_entry, unary_entry, groups_entry, vbr_entry, signed_groups_entry, signed_vbr_entry, bytes_entry, skip_entry, align_entry}
 use Rattle.bitstream_stream.specs.Run.{accepted, write_run, answer_and, read_run}
 use Rattle.bitstream_stream.specs.WriteTable.{unsigned, signed, fits_signed}
 use Rattle.bitstream_stream.proofs.EntryLemmas.{word_front-some, chain-ok}
@@ -133,20 +133,24 @@ pub unary-found : (stop : Bool) (k p : ℕ) → k < 2 ^ 32 → Found (unary_entr
 unfolding unary_entry
 unary-found stop k p small = record { takes = λ rest. read_unary-unary stop k rest small }
 
-pub vbr-found : (o : Order) (field size limit v p : ℕ) → 2 ≤ field → 0 < size → limit ≤ 2 ^ size → v < limit
-    → Found (vbr_entry o field size limit) p (vbr_word o field v) v
-unfolding vbr_entry
-vbr-found o field size limit v p wide some most small =
+-- a number in groups, by the strict read and by the lenient one
+pub groups-found : (strict : Bool) (o : Order) (field size limit v p : ℕ) → 2 ≤ field → 0 < size → limit ≤ 2 ^ size
+    → v < limit
+    → Found (groups_entry strict o field size limit) p (vbr_word o field v) v
+unfolding groups_entry
+groups-found strict o field size limit v p wide some most small =
     let w = vbr_word o field v in
-    let taken = vbr_word_accepted o field (omega arith) size limit v wide some most small in
-    record { takes = λ rest. read_vbr-IsAccepted o field (omega arith) size limit w v rest wide taken }
+    let taken = vbr_word_accepted o field (omega arith) strict size limit v wide some most small in
+    record { takes = λ rest. read_vbr-IsAccepted o field (omega arith) strict size limit w v rest wide taken }
 
-pub signed_vbr-found : (o : Order) (field size : ℕ) (x : ℤ) (p : ℕ) → 2 ≤ field → 0 < size → FitsSignedBits size x
-    → Found (signed_vbr_entry o field size) p (vbr_word o field (zig x)) x
-unfolding signed_vbr_entry
-signed_vbr-found o field size x p wide some fits =
-    subst (λ (y : ℤ). Found (signed_vbr_entry o field size) p (vbr_word o field (zig x)) y) (zag-zig x)
-    (mapped-found zag (vbr-found o field size (2 ^ size) (zig x) p wide some (omega arith) (zig-lt size x some fits)))
+pub signed_groups-found : (strict : Bool) (o : Order) (field size : ℕ) (x : ℤ) (p : ℕ) → 2 ≤ field → 0 < size
+    → FitsSignedBits size x
+    → Found (signed_groups_entry strict o field size) p (vbr_word o field (zig x)) x
+unfolding signed_groups_entry
+signed_groups-found strict o field size x p wide some fits =
+    subst (λ (y : ℤ). Found (signed_groups_entry strict o field size) p (vbr_word o field (zig x)) y) (zag-zig x)
+    (mapped-found zag
+    (groups-found strict o field size (2 ^ size) (zig x) p wide some (omega arith) (zig-lt size x some fits)))
 
 pub bytes-are : (bytes : List ℕ) → AllByRecursion (λ b. b < 256) bytes → AreBytes bytes
 bytes-are [] h = tt
@@ -182,13 +186,13 @@ plain-found {e = e} {p = p} {u = u} {w = w} {a = a} h found =
 vbr_call : (o : Order) (field : ℕ) {v p : ℕ} {w : List Bool} → 2 ≤ field → ok (vbr_word o field v) ≡ Ok w → v < 2 ^ 64
     → Found (answered answer.Vbr (vbr_entry o field 64 (2 ^ 64))) p w (answer.Vbr v)
 vbr_call o field {v = v} {p = p} wide e h =
-    plain-found e (mapped-found answer.Vbr (vbr-found o field 64 (2 ^ 64) v p wide (omega arith) (omega arith) h))
+    plain-found e (mapped-found answer.Vbr (groups-found true o field 64 (2 ^ 64) v p wide (omega arith) (omega arith) h))
 
 signed_vbr_call : (o : Order) (field : ℕ) {x : ℤ} {p : ℕ} {w : List Bool} → 2 ≤ field
     → ok (vbr_word o field (zig x)) ≡ Ok w → FitsSignedBits 64 x
     → Found (answered answer.SignedVbr (signed_vbr_entry o field 64)) p w (answer.SignedVbr x)
 signed_vbr_call o field {x = x} {p = p} wide e h =
-    plain-found e (mapped-found answer.SignedVbr (signed_vbr-found o field 64 x p wide (omega arith) h))
+    plain-found e (mapped-found answer.SignedVbr (signed_groups-found true o field 64 x p wide (omega arith) h))
 
 -- the word of an accepted call is found by its matching read
 pub call-found : (o : Order) (call : WriteCall) (len p : ℕ) (w : List Bool) → IsCall call → p % 8 ≡ len % 8

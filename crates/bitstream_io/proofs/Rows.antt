@@ -1,9 +1,11 @@
 -- Worked rows of lists of calls.
-use Rattle.std.proofs.Common.{◌≡◌, ◌<◌, ◌^◌, ℕ, ℤ, Bool, true, false, List, [], ◌∷◌, Some, None, Ok, length, refl}
+use Rattle.std.proofs.Common.{◌≡◌, ◌<◌, ◌^◌, ℕ, ℤ, Bool, true, false, List, [], ◌∷◌, Some, None, Ok, Err, length, refl}
 use Rattle.std.specs.List.{All}
-use Rattle.bitstream_number.specs.Word.{Order, High, FitsSignedBits, digits, digits_number}
+use Rattle.bitstream_number.specs.Word.{Order, High, FitsSignedBits, bits, digits, digits_number}
 use Rattle.bitstream_count.specs.Entry.{chain, gives}
-use Rattle.bitstream_stream.specs.ReadTable.{unsigned_entry, unary_entry, vbr_entry, signed_vbr_entry, bytes_entry, skip_entry, align_entry}
+use Rattle.bitstream_count.specs.Vbr.{groups_at}
+use Rattle.bitstream_count.specs.declared.error.Error.TheVariants.{RedundantGroup}
+use Rattle.bitstream_stream.specs.ReadTable.{unsigned_entry, unary_entry, groups_entry, vbr_entry, signed_vbr_entry, bytes_entry, skip_entry, align_entry}
 use Rattle.bitstream_stream.specs.Run.{write_run, read_run}
 use Rattle.bitstream_stream.specs.WriteTable.{unsigned, unary_word, vbr, signed_vbr, buffer, zeros}
 use Rattle.bitstream_value.proofs.BackLemmas.{GoesBack}
@@ -45,6 +47,12 @@ back : run_answers (read_run (read_entries High (read.U8 3 ∷ read.U8 0 ∷ rea
     ≡ Some (Ok (answer.U8 5)) ∷ Some (Ok (answer.U8 0)) ∷ Some (Ok (answer.Unary 2)) ∷ Some (Ok answer.Done) ∷ []
 unfolding left chain digits_number unsigned_entry unary_entry align_entry
 back = refl
+
+-- 1 in two groups, of which the last is 0: by the strict call and by the lenient one
+redundant : run_answers (read_run (read_entries High (read.Vbr4 ∷ read.AnyVbr4 ∷ [])) 0 (bits High (144 ∷ 144 ∷ [])))
+    ≡ Some (Err RedundantGroup) ∷ Some (Ok (answer.Vbr 1)) ∷ []
+unfolding chain digits digits_number groups_entry groups_at
+redundant = refl
 
 -- a run, two numbers of variable width, four bytes and three bits of padding
 in_a_row : (o : Order) (k v : ℕ) (x : ℤ) (bytes : List ℕ) → k < 2 ^ 32 → v < 2 ^ 32 → FitsSignedBits 64 x

@@ -7,12 +7,12 @@ use Rattle.bitstream_count.specs.declared.error.Error.TheVariants.{RunTooLong, O
 use Rattle.bitstream_order.specs.Fault.{read_refusal_of}
 use Rattle.bitstream_order.specs.Refusal.{Refusal, IsTrueEnd}
 use Rattle.bitstream_stream.specs.Reads.{BitSource, ReadOutcome, is_run_too_long}
-use Rattle.bitstream_stream.specs.ReadTable.{bit_entry, unsigned_entry, signed_entry, unary_entry, vbr_entry, signed_vbr_entry, bytes_entry, skip_entry, align_entry}
+use Rattle.bitstream_stream.specs.ReadTable.{bit_entry, unsigned_entry, signed_entry, unary_entry, vbr_entry, any_vbr_entry, signed_vbr_entry, bytes_entry, skip_entry, align_entry}
 use Rattle.bitstream_stream.specs.Run.{read_run}
 use Rattle.bitstream_io.specs.declared.script.answers.Answer.{Answer}
 use Rattle.bitstream_io.specs.declared.script.answers.Answer.TheVariants as variant
 use Rattle.bitstream_io.specs.declared.script.read_call.ReadCall.{ReadCall}
-use Rattle.bitstream_io.specs.declared.script.read_call.ReadCall.TheVariants.{Bit, U8, U16, U32, U64, U128, I8, I16, I32, I64, I128, Unary0, Unary1, Vbr4, Vbr8, SignedVbr4, SignedVbr8, Bytes, Skip, Align}
+use Rattle.bitstream_io.specs.declared.script.read_call.ReadCall.TheVariants.{Bit, U8, U16, U32, U64, U128, I8, I16, I32, I64, I128, Unary0, Unary1, Vbr4, Vbr8, AnyVbr4, AnyVbr8, SignedVbr4, SignedVbr8, Bytes, Skip, Align}
 
 -- a read, whose answer is made one of all calls' answers
 abbrev pub answered : {A : Type 0} → (A → Answer) → ReadEntry A → ReadEntry Answer
@@ -35,6 +35,8 @@ read_entry o Unary0 = answered variant.Unary (unary_entry false)
 read_entry o Unary1 = answered variant.Unary (unary_entry true)
 read_entry o Vbr4 = answered variant.Vbr (vbr_entry o 4 64 (2 ^ 64))
 read_entry o Vbr8 = answered variant.Vbr (vbr_entry o 8 64 (2 ^ 64))
+read_entry o AnyVbr4 = answered variant.Vbr (any_vbr_entry o 4 64 (2 ^ 64))
+read_entry o AnyVbr8 = answered variant.Vbr (any_vbr_entry o 8 64 (2 ^ 64))
 read_entry o SignedVbr4 = answered variant.SignedVbr (signed_vbr_entry o 4 64)
 read_entry o SignedVbr8 = answered variant.SignedVbr (signed_vbr_entry o 8 64)
 read_entry o (Bytes n) = answered variant.Bytes (bytes_entry o n)

@@ -114,8 +114,8 @@ pub mod laws {
         equal_signed_counts_are_equal_numbers, fixed_counts_go_back, fixed_signed_counts_go_back,
         signed_counts_go_back, signed_counts_hash_as_their_numbers, unary_words_alone_are_read,
         unary_words_begin_no_other, unary_words_read_back, variable_width_words_alone_are_read,
-        variable_width_words_are_shortest, variable_width_words_begin_no_other,
-        variable_width_words_read_back,
+        variable_width_words_are_shortest, variable_width_words_are_the_only_ones,
+        variable_width_words_begin_no_other, variable_width_words_read_back,
     };
     pub use bitstream_number::laws::{
         bytes_are_words, masks_are_remainders, ors_are_sums, shifts_past_the_size_are_zero,

@@ -2,11 +2,11 @@
 use Rattle.std.specs.Prelude.{pos, negsuc, map, replicate, ◌-◌, ◌^◌}
 use Rattle.std.proofs.Common.{◌≡◌, ℕ, List, [], ◌∷◌, ◌++◌, drop, Bool, true, false, Some, None, Ok, Err, refl}
 use Rattle.bitstream_count.specs.declared.checked_error.CheckedError.TheVariants.{ExcessiveValue}
-use Rattle.bitstream_count.specs.declared.error.Error.TheVariants.{Checked, ReadBits, NoSignBit, VariableWidthOverflow}
+use Rattle.bitstream_count.specs.declared.error.Error.TheVariants.{Checked, ReadBits, NoSignBit, VariableWidthOverflow, RedundantGroup}
 use Rattle.bitstream_count.specs.Entry.{Takes, WriteEntry, chain}
 use Rattle.bitstream_count.specs.Vbr.{groups, groups_at}
 use Rattle.bitstream_number.specs.Word.{Order, High, Low, digits, digits_number, bits}
-use Rattle.bitstream_stream.specs.ReadTable.{bit_entry, unsigned_entry, signed_entry, const_entry, unary_entry, count_entry, align_entry, vbr_entry, signed_vbr_entry}
+use Rattle.bitstream_stream.specs.ReadTable.{bit_entry, unsigned_entry, signed_entry, const_entry, unary_entry, count_entry, align_entry, groups_entry, vbr_entry, any_vbr_entry, signed_groups_entry, signed_vbr_entry}
 use Rattle.bitstream_stream.specs.Run.{read_run, write_run, write_refusals}
 use Rattle.bitstream_stream.specs.WriteTable.{unsigned, unary_word, align, vbr, signed_vbr}
 
@@ -111,7 +111,20 @@ variable_width :
     -- a sum that is too great, and the greatest number where one less is the limit
     × ((vbr_entry High 4 8 (2 ^ 8)).reads 0 (bits High (136 ∷ 64 ∷ [])) ≡ Takes 12 (Err VariableWidthOverflow))
     × ((vbr_entry High 4 8 (2 ^ 8 - 1)).reads 0 (bits High (255 ∷ 48 ∷ [])) ≡ Takes 12 (Err VariableWidthOverflow))
-    -- a group of zeros behind one that goes on
-    × ((vbr_entry High 4 8 (2 ^ 8)).reads 0 (bits High (128 ∷ [])) ≡ Takes 8 (Ok 0))
-unfolding groups digits vbr_entry groups_at digits_number four_bytes signed_vbr_entry chain
-variable_width = (refl, refl, refl, refl, refl, refl, refl, refl, refl, refl)
+unfolding groups digits groups_entry groups_at digits_number four_bytes signed_groups_entry chain
+variable_width = (refl, refl, refl, refl, refl, refl, refl, refl, refl)
+
+-- groups of zeros behind others, read strictly and leniently
+redundant_groups :
+    ((vbr_entry High 4 8 (2 ^ 8)).reads 0 (bits High (128 ∷ [])) ≡ Takes 8 (Err RedundantGroup))
+    × ((any_vbr_entry High 4 8 (2 ^ 8)).reads 0 (bits High (128 ∷ [])) ≡ Takes 8 (Ok 0))
+    × ((vbr_entry High 4 8 (2 ^ 8)).reads 0 (bits High (144 ∷ [])) ≡ Takes 8 (Err RedundantGroup))
+    × ((any_vbr_entry High 4 8 (2 ^ 8)).reads 0 (bits High (144 ∷ [])) ≡ Takes 8 (Ok 1))
+    × ((vbr_entry High 4 8 (2 ^ 8)).reads 0 (bits High (136 ∷ 0 ∷ [])) ≡ Takes 12 (Err RedundantGroup))
+    × ((any_vbr_entry High 4 8 (2 ^ 8)).reads 0 (bits High (136 ∷ 0 ∷ [])) ≡ Takes 12 (Ok 0))
+    × ((vbr_entry High 4 8 (2 ^ 8)).reads 0 (bits High (136 ∷ 128 ∷ [])) ≡ Takes 12 (Err VariableWidthOverflow))
+    × ((any_vbr_entry High 4 8 (2 ^ 8)).reads 0 (bits High (136 ∷ 128 ∷ [])) ≡ Takes 12 (Err VariableWidthOverflow))
+    × ((vbr_entry High 4 8 (2 ^ 8)).reads 0 (bits High (0 ∷ [])) ≡ Takes 4 (Ok 0))
+    × ((any_vbr_entry High 4 8 (2 ^ 8)).reads 0 (bits High (0 ∷ [])) ≡ Takes 4 (Ok 0))
+unfolding digits groups_entry groups_at digits_number
+redundant_groups = (refl, refl, refl, refl, refl, refl, refl, refl, refl, refl)

@@ -1,5 +1,5 @@
 -- The groups of a number of variable width, one by one.
-use Rattle.std.specs.Prelude.{◌≡◌, ℕ, ◌^◌, ◌<◌, ◌++◌}
+use Rattle.std.specs.Prelude.{◌≡◌, ℕ, ◌^◌, ◌<◌, ◌++◌, Bool, ◌&&◌, nat_lt}
 use Rattle.bitstream_number.specs.Word.{Order, word}
 use Rattle.bitstream_count.specs.Vbr.{vbr_word}
 
@@ -13,3 +13,8 @@ pub record IsFirstGroup (field v group rest : ℕ) : Type 0 where
 pub record IsLastGroup (field v : ℕ) : Type 0 where
   pub fits : v < 2 ^ field
   pub whole : (o : Order) → vbr_word o field v ≡ word o field v
+
+-- whether a strict read rejects the groups behind those that gave the lowest `shift` digits: these groups stand for 0,
+-- and there are some before them
+abbrev pub rejects : Bool → ℕ → ℕ → Bool
+rejects strict shift high = strict && (nat_lt high 1 && nat_lt 0 shift)

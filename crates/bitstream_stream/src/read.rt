@@ -3,10 +3,11 @@ ghost use Rattle.std.specs.Prelude.{◌≡◌, ℕ, ◌+◌, ◌%◌, ◌^◌, �
 ghost use Rattle.bitstream_order.specs.Parts.{value_bytes};
 ghost use Rattle.bitstream_order.specs.Gather.{seen};
 ghost use Rattle.bitstream_stream.specs.Reads.{BitSource, Reads, ReadsConst, ReadsGrowing, failed_reader, lent_source};
-ghost use Rattle.bitstream_stream.specs.ReadTable.{bit_entry, unsigned_entry, signed_entry, const_entry, unary_entry, count_entry, align_entry, bytes_entry, skip_entry, is_full, vbr_entry, signed_vbr_entry};
+ghost use Rattle.bitstream_stream.specs.ReadTable.{bit_entry, unsigned_entry, signed_entry, const_entry, unary_entry, count_entry, align_entry, bytes_entry, skip_entry, is_full, groups_entry, vbr_entry, any_vbr_entry, signed_vbr_entry, any_signed_vbr_entry};
 
 use crate::grow::grow;
 use crate::piece::GROWTH;
+use crate::vbr::is_redundant;
 use crate::width::count_bits;
 use crate::zigzag::unzigzag;
 use bitstream_count::count::{BitCount, Count, SignedCount};
@@ -257,19 +258,18 @@ pub trait BitRead {
         Ok(())
     }
 
-    /// Reads an unsigned number of variable width, in groups of `F::BITS` bits. The highest bit of
-    /// a group says whether another group follows. The others are digits of the number, the lowest
-    /// digits first.
+    /// Reads the groups of an unsigned number of variable width, by
+    /// [`read_unsigned_vbr`](BitRead::read_unsigned_vbr) if the read is strict, else by
+    /// [`read_unsigned_vbr_any`](BitRead::read_unsigned_vbr_any).
     ///
     /// # Errors
     ///
-    /// `VariableWidthOverflow` if the number does not fit in U, or a group begins past U's bits.
-    /// The groups up to the one that shows it are taken then, and the reader goes on behind them.
-    fn read_unsigned_vbr<F: Width, U: UnsignedInteger>(&mut self) -> Result<U, Error>
+    /// Those of the two calls.
+    fn read_groups<F: Width, U: UnsignedInteger>(&mut self, strict: bool) -> Result<U, Error>
         requires some { 2 ≤ F.BITS }
         requires within { F.BITS < U.BITS_SIZE }
         ensures reads { Reads source
-            (vbr_entry source.order F.BITS U.BITS_SIZE (2 ^ U.BITS_SIZE))
+            (groups_entry strict source.order F.BITS U.BITS_SIZE (2 ^ U.BITS_SIZE))
             self.old (seen U.value result) self.new }
     {
         let payload = F::BITS - 1;
@@ -286,7 +286,9 @@ pub trait BitRead {
             let placed = digits << shift;
             value |= placed;
             if group == digits {
-                return if placed >> shift == digits {
+                return if is_redundant(strict, shift, digits) {
+                    Err(Error::RedundantGroup)
+                } else if placed >> shift == digits {
                     Ok(value)
                 } else {
                     Err(Error::VariableWidthOverflow)
@@ -295,6 +297,41 @@ pub trait BitRead {
             shift += payload;
         }
         Err(Error::VariableWidthOverflow)
+    }
+
+    /// Reads an unsigned number of variable width, in groups of `F::BITS` bits. The highest bit of
+    /// a group says whether another group follows. The others are digits of the number, the lowest
+    /// digits first.
+    ///
+    /// # Errors
+    ///
+    /// `VariableWidthOverflow` if the number does not fit in U, or a group begins past U's bits.
+    /// `RedundantGroup` if there are two groups or more, and the last one is 0: so each number has
+    /// one word. The groups up to the one that shows it are taken then, and the reader goes on
+    /// behind them.
+    fn read_unsigned_vbr<F: Width, U: UnsignedInteger>(&mut self) -> Result<U, Error>
+        requires some { 2 ≤ F.BITS }
+        requires within { F.BITS < U.BITS_SIZE }
+        ensures reads { Reads source
+            (vbr_entry source.order F.BITS U.BITS_SIZE (2 ^ U.BITS_SIZE))
+            self.old (seen U.value result) self.new }
+    {
+        self.read_groups::<F, U>(true)
+    }
+
+    /// Reads an unsigned number of variable width, also if its last groups are 0.
+    ///
+    /// # Errors
+    ///
+    /// `VariableWidthOverflow`, as [`read_unsigned_vbr`](BitRead::read_unsigned_vbr).
+    fn read_unsigned_vbr_any<F: Width, U: UnsignedInteger>(&mut self) -> Result<U, Error>
+        requires some { 2 ≤ F.BITS }
+        requires within { F.BITS < U.BITS_SIZE }
+        ensures reads { Reads source
+            (any_vbr_entry source.order F.BITS U.BITS_SIZE (2 ^ U.BITS_SIZE))
+            self.old (seen U.value result) self.new }
+    {
+        self.read_groups::<F, U>(false)
     }
 
     /// Reads a signed number of variable width. It is encoded as an unsigned one (zigzag): x as 2x,
@@ -310,6 +347,21 @@ pub trait BitRead {
             self.old (seen S.integer result) self.new }
     {
         let place = self.read_unsigned_vbr::<F, S::Unsigned>()?;
+        Ok(unzigzag(place))
+    }
+
+    /// Reads a signed number of variable width, also if its last groups are 0.
+    ///
+    /// # Errors
+    ///
+    /// As [`read_unsigned_vbr_any`](BitRead::read_unsigned_vbr_any).
+    fn read_signed_vbr_any<F: Width, S: SignedInteger>(&mut self) -> Result<S, Error>
+        requires some { 2 ≤ F.BITS }
+        requires within { F.BITS < S.BITS_SIZE }
+        ensures reads { Reads source (any_signed_vbr_entry source.order F.BITS S.BITS_SIZE)
+            self.old (seen S.integer result) self.new }
+    {
+        let place = self.read_unsigned_vbr_any::<F, S::Unsigned>()?;
         Ok(unzigzag(place))
     }
 
@@ -404,11 +456,23 @@ impl<R: BitRead> BitRead for &mut R {
         (**self).skip(bits)
     }
 
+    fn read_groups<F: Width, U: UnsignedInteger>(&mut self, strict: bool) -> Result<U, Error> {
+        (**self).read_groups::<F, U>(strict)
+    }
+
     fn read_unsigned_vbr<F: Width, U: UnsignedInteger>(&mut self) -> Result<U, Error> {
         (**self).read_unsigned_vbr::<F, U>()
     }
 
+    fn read_unsigned_vbr_any<F: Width, U: UnsignedInteger>(&mut self) -> Result<U, Error> {
+        (**self).read_unsigned_vbr_any::<F, U>()
+    }
+
     fn read_signed_vbr<F: Width, S: SignedInteger>(&mut self) -> Result<S, Error> {
         (**self).read_signed_vbr::<F, S>()
+    }
+
+    fn read_signed_vbr_any<F: Width, S: SignedInteger>(&mut self) -> Result<S, Error> {
+        (**self).read_signed_vbr_any::<F, S>()
     }
 }

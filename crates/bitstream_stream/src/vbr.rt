@@ -2,7 +2,7 @@
 ghost use Rattle.std.specs.Prelude.{◌≡◌, ℕ, ◌+◌, ◌<◌, ◌≤◌, IfSome, None, length};
 ghost use Rattle.bitstream_number.specs.Word.{Order};
 ghost use Rattle.bitstream_count.specs.Vbr.{vbr_word};
-ghost use Rattle.bitstream_stream.specs.Groups.{IsFirstGroup, IsLastGroup};
+ghost use Rattle.bitstream_stream.specs.Groups.{IsFirstGroup, IsLastGroup, rejects};
 
 use bitstream_number::number::{Numeric, UnsignedInteger, Width};
 
@@ -61,4 +61,13 @@ pub(crate) fn most_gathered<F: Width, U: UnsignedInteger>() -> u32
     } else {
         U::BITS_SIZE - F::BITS
     }
+}
+
+/// Returns whether a strict read rejects a number's last group: it is 0, and other groups stand
+/// before it, which gave the number's lowest `shift` digits.
+#[inline(always)]
+pub(crate) fn is_redundant<U: UnsignedInteger>(strict: bool, shift: u32, last: U) -> bool
+    ensures { result ≡ rejects strict shift (U.value last) }
+{
+    strict && shift > 0 && last == U::ZERO
 }

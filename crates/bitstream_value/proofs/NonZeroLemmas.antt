@@ -1,5 +1,5 @@
 -- Numbers that are not 0.
-use Rattle.std.proofs.Common.{◌≡◌, ℕ, zero, suc, ◌+◌, ◌-◌, ◌*◌, ◌^◌, ◌<◌, ◌≤◌, [], ◌∷◌, Option, Some, None, Result, Ok, Err, refl, ap, ◌∙◌, arith}
+use Rattle.std.proofs.Common.{◌≡◌, ℕ, zero, suc, ◌+◌, ◌-◌, ◌*◌, ◌^◌, ◌<◌, ◌≤◌, [], ◌∷◌, Option, Some, None, true, Result, Ok, Err, refl, ap, ◌∙◌, arith}
 use Rattle.std.specs.Option.{MatchOption}
 use Rattle.std.specs.Result.{IsErrAnd}
 use Rattle.std.proofs.Math.Nat.{pow-le-pow_right}
@@ -64,7 +64,7 @@ module _ {A : Type 0} (after : ℕ → A) {R : Type 0} {K : BitSource R} where
       → Reads K (non_zero_vbr_entry after o field size) s r t
   unfolding non_zero_vbr_entry
   non_zero_vbr-stops o field size {x = x} {r = r} h k =
-      exit (λ v. gives (after v)) r h (limit-stops o field size (2 ^ size - 1) (2 ^ size) (omega arith) x k)
+      exit (λ v. gives (after v)) r h (limit-stops true o field size (2 ^ size - 1) (2 ^ size) (omega arith) x k)
 
   pub non_zero_vbr-was_done : (o : Order) (field size v : ℕ) (a : A) {s t : R} → v + 1 < 2 ^ size → after v ≡ a
       → Reads K (vbr_entry o field size (2 ^ size)) s (Ok v) t
@@ -72,7 +72,7 @@ module _ {A : Type 0} (after : ℕ → A) {R : Type 0} {K : BitSource R} where
   unfolding non_zero_vbr_entry
   non_zero_vbr-was_done o field size v a {s = s} {t = t} less is h =
       rw (← is) (Reads-chain-ok _ (λ k. gives (after k))
-      (limit-holds o field size (2 ^ size - 1) (2 ^ size) (omega arith) v (omega arith) h)
+      (limit-holds true o field size (2 ^ size - 1) (2 ^ size) (omega arith) v (omega arith) h)
       (Reads-gives (after v) t))
 
   -- the greatest number has none after it
@@ -81,7 +81,7 @@ module _ {A : Type 0} (after : ℕ → A) {R : Type 0} {K : BitSource R} where
       → Reads K (non_zero_vbr_entry after o field size) s (Err VariableWidthOverflow) t
   unfolding non_zero_vbr_entry
   non_zero_vbr-overflows o field size v is h = Reads-chain-err _ (λ k. gives (after k))
-      (limit-passed o field size (2 ^ size - 1) (2 ^ size) (omega arith) v (omega arith) h)
+      (limit-passed true o field size (2 ^ size - 1) (2 ^ size) (omega arith) v (omega arith) h)
 
   pub option_vbr-stops : (o : Order) (field size : ℕ) {x : Error} {r : Result (Option A) Error} {s t : R}
       → IsErrAnd r (λ y. y ≡ x) → Reads K (vbr_entry o field size (2 ^ size)) s (Err x) t

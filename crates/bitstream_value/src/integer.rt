@@ -106,7 +106,8 @@ pub trait VBRInteger: Integer {
     /// # Errors
     ///
     /// `VariableWidthOverflow` if a number does not fit in its type, or a group begins past its
-    /// bits. The groups up to the one that shows it are read then.
+    /// bits. `RedundantGroup` if a number has two groups or more, and the last one is 0. The groups
+    /// up to the one that shows it are read then.
     fn read_vbr<F: Width, R: BitRead>(reader: &mut R) -> Result<Self, Error>
         requires { IsFieldSize F.BITS }
         ensures reads { Reads R.source (reads_vbr R.source.order F.BITS)

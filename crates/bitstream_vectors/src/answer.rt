@@ -22,6 +22,7 @@ pub fn error_name(error: &Error) -> &'static str {
         Error::BoolWidth => "BoolWidth",
         Error::NonZeroWidth => "NonZeroWidth",
         Error::VariableWidthOverflow => "VariableWidthOverflow",
+        Error::RedundantGroup => "RedundantGroup",
         Error::RunTooLong => "RunTooLong",
         Error::EndOfInput => "EndOfInput",
         Error::OutOfMemory => "OutOfMemory",

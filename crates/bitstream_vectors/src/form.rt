@@ -32,13 +32,16 @@ pub enum Items {
     None,
 }
 
-/// What stands as a number of variable width: a number, one that is not 0, or that or none.
+/// What stands as a number of variable width: a number, one that is not 0, or that or none. A number
+/// may be read by the lenient call, also if its last groups are 0.
 #[derive(Clone, Copy, Drop)]
 pub enum Grouped {
     Unsigned,
     Signed,
     NonZero,
     Optional,
+    AnyUnsigned,
+    AnySigned,
 }
 
 /// A tree of symbols.
@@ -216,11 +219,10 @@ fn grouped_of(name: &str) -> Option<(Grouped, Size)> {
 
 /// The form of a call for a number in groups, of the type that the next word spells.
 fn variable_form(name: &str, next: &str) -> Option<Form> {
-    let (field, signed) = match name.strip_prefix("svbr") {
-        Some(field) => (field, true),
-        None => (name.strip_prefix("vbr")?, false),
-    };
-    let field = field.parse().ok()?;
+    if let Some(name) = name.strip_prefix("any") {
+        return lenient_form(name, next);
+    }
+    let (field, signed) = field_of(name)?;
     if next == "array2-u8" {
         return Some(Form::VariablePair(field));
     }
@@ -230,6 +232,28 @@ fn variable_form(name: &str, next: &str) -> Option<Form> {
     } else {
         None
     }
+}
+
+/// The form of a lenient call for a number in groups, of the type that the next word spells.
+fn lenient_form(name: &str, next: &str) -> Option<Form> {
+    let (field, signed) = field_of(name)?;
+    match (grouped_of(next)?, signed) {
+        ((Grouped::Unsigned, size), false) => {
+            Some(Form::Variable(Grouped::AnyUnsigned, size, field))
+        }
+        ((Grouped::Signed, size), true) => Some(Form::Variable(Grouped::AnySigned, size, field)),
+        _ => None,
+    }
+}
+
+/// The number of bits of a group that a call's name spells, and whether it is a call for signed
+/// numbers.
+fn field_of(name: &str) -> Option<(u32, bool)> {
+    let (field, signed) = match name.strip_prefix("svbr") {
+        Some(field) => (field, true),
+        None => (name.strip_prefix("vbr")?, false),
+    };
+    Some((field.parse().ok()?, signed))
 }
 
 /// The form of a call for a symbol of the code that the next word spells.

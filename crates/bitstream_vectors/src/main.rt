@@ -66,10 +66,11 @@ use std::process::ExitCode;
 use std::rt::Files;
 
 /// The files of rows.
-const FILES: [&str; 11] = [
+const FILES: [&str; 13] = [
     "vectors.tsv",
     "count.tsv",
     "record.tsv",
+    "groups.tsv",
     "r03_words.tsv",
     "r04_bytes.tsv",
     "r05_codes.tsv",
@@ -78,6 +79,7 @@ const FILES: [&str; 11] = [
     "seek.tsv",
     "r08_seek_compat.tsv",
     "r10_word_kernels.tsv",
+    "r15_redundant.tsv",
 ];
 
 /// Plays a row. Prints one that differs, and tells whether it does.

@@ -1,11 +1,16 @@
 //! Calls for numbers of variable width, at the sizes of groups that the rows have.
+ghost use Rattle.std.specs.Prelude.{◌≤◌, ◌<◌};
+
 use crate::answer::{Answer, is_number, is_optional};
 use crate::call::number;
 use crate::form::{Grouped, Size};
 use crate::objection::Objection;
 use crate::reads::is_pair;
 use crate::writes::pair_of;
-use bitstream_io::{BitRead, BitReadExt, BitWrite, BitWriteExt, Bits, VBRInteger, Width};
+use bitstream_io::{
+    BitRead, BitReadExt, BitWrite, BitWriteExt, Bits, SignedInteger, UnsignedInteger, VBRInteger,
+    Width,
+};
 use std::num::{NonZero, ParseIntError};
 use std::str::FromStr;
 
@@ -17,10 +22,13 @@ fn read_in<F: Width, U, S, N, R: BitRead>(
     want: &str,
 ) -> Result<bool, Objection>
 where
-    U: VBRInteger + FromStr<Err = ParseIntError> + PartialEq + Drop,
-    S: VBRInteger + FromStr<Err = ParseIntError> + PartialEq + Drop,
+    U: VBRInteger + UnsignedInteger + FromStr<Err = ParseIntError> + PartialEq + Drop,
+    S: VBRInteger + SignedInteger + FromStr<Err = ParseIntError> + PartialEq + Drop,
     N: VBRInteger + FromStr<Err = ParseIntError> + PartialEq + Drop,
     Option<N>: VBRInteger,
+    requires some { 2 ≤ F.BITS }
+    requires within { F.BITS < U.BITS_SIZE }
+    requires within_signed { F.BITS < S.BITS_SIZE }
     requires unsigned { U.IsFieldSize F.BITS }
     requires signed { S.IsFieldSize F.BITS }
     requires non_zero { N.IsFieldSize F.BITS }
@@ -31,6 +39,8 @@ where
         Grouped::Signed => is_number(want, reader.read_vbr::<F, S>()),
         Grouped::NonZero => is_number(want, reader.read_vbr::<F, N>()),
         Grouped::Optional => is_optional(want, reader.read_vbr::<F, Option<N>>()),
+        Grouped::AnyUnsigned => is_number(want, reader.read_unsigned_vbr_any::<F, U>()),
+        Grouped::AnySigned => is_number(want, reader.read_signed_vbr_any::<F, S>()),
     })
 }
 
@@ -63,6 +73,7 @@ where
         Grouped::Signed => writer.write_vbr::<F, S>(number(value)?),
         Grouped::NonZero => writer.write_vbr::<F, N>(number(value)?),
         Grouped::Optional => writer.write_vbr::<F, Option<N>>(optional(value)?),
+        Grouped::AnyUnsigned | Grouped::AnySigned => return Err(Objection::BAD_FORM),
     })
 }
 

@@ -6,7 +6,7 @@ ghost use Rattle.bitstream_number.specs.Word.{Order, FitsSignedBits, bits as bit
 ghost use Rattle.bitstream_count.specs.Entry.{ReadEntry, WriteEntry, chain};
 ghost use Rattle.bitstream_count.specs.declared.error.Error.{Error};
 ghost use Rattle.bitstream_order.specs.Refusal.{TrueEnds};
-ghost use Rattle.bitstream_stream.specs.ReadTable.{bit_entry, unsigned_entry, signed_entry, const_entry, unary_entry, count_entry, vbr_entry, signed_vbr_entry, bytes_entry, skip_entry};
+ghost use Rattle.bitstream_stream.specs.ReadTable.{bit_entry, unsigned_entry, signed_entry, const_entry, unary_entry, count_entry, vbr_entry, any_vbr_entry, signed_vbr_entry, any_signed_vbr_entry, bytes_entry, skip_entry};
 ghost use Rattle.bitstream_stream.specs.Run.{read_run, write_run, write_refusals};
 ghost use Rattle.bitstream_stream.specs.WriteTable.{plain, bit, unsigned, signed, unary_word, count, vbr, signed_vbr, buffer, zeros};
 ghost use Rattle.bitstream_value.specs.Array.{items_entry};
@@ -104,7 +104,8 @@ pub fn written_calls_come_back<R: BitRead>()
 {}
 
 /// What a call writes, the read of the same name and width reads back, wherever both stand and
-/// whatever follows. Of a number that was written in no bits 0 is read.
+/// whatever follows. Of a number that was written in no bits 0 is read. A number of variable width is
+/// read back by the lenient read too.
 pub fn written_words_are_read()
     ensures bit { (b : Bool) → IsReadAs (bit b ∷ []) bit_entry b }
     ensures unsigned { (o : Order) (size n v : ℕ) → n ≤ size → (v < 2 ^ n) ⊎ (n ≡ 0)
@@ -122,9 +123,14 @@ pub fn written_words_are_read()
     ensures skip { (n : ℕ) → IsReadAs (zeros n ∷ []) (skip_entry n) tt }
     ensures vbr { (o : Order) (field size limit v : ℕ) → 2 ≤ field → 0 < size → limit ≤ 2 ^ size
         → v < limit → IsReadAs (vbr o field v ∷ []) (vbr_entry o field size limit) v }
+    ensures any_vbr { (o : Order) (field size limit v : ℕ) → 2 ≤ field → 0 < size → limit ≤ 2 ^ size
+        → v < limit → IsReadAs (vbr o field v ∷ []) (any_vbr_entry o field size limit) v }
     ensures signed_vbr { (o : Order) (field size : ℕ) (x : ℤ) → 2 ≤ field → 0 < size
         → FitsSignedBits size x
         → IsReadAs (signed_vbr o field x ∷ []) (signed_vbr_entry o field size) x }
+    ensures any_signed_vbr { (o : Order) (field size : ℕ) (x : ℤ) → 2 ≤ field → 0 < size
+        → FitsSignedBits size x
+        → IsReadAs (signed_vbr o field x ∷ []) (any_signed_vbr_entry o field size) x }
 {}
 
 /// The same holds for the types of values: what a value's calls write is read back as the value. In

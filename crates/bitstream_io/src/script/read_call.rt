@@ -42,6 +42,10 @@ pub enum ReadCall {
     Vbr4,
     /// An unsigned number of variable width, in groups of 8 bits.
     Vbr8,
+    /// An unsigned number of variable width, in groups of 4 bits, which may end in groups of 0.
+    AnyVbr4,
+    /// An unsigned number of variable width, in groups of 8 bits, which may end in groups of 0.
+    AnyVbr8,
     /// A signed number of variable width, in groups of 4 bits.
     SignedVbr4,
     /// A signed number of variable width, in groups of 8 bits.
@@ -80,6 +84,8 @@ impl ReadCall {
             ReadCall::Unary1 => Ok(Answer::Unary(reader.read_unary::<Bits<1>>()?)),
             ReadCall::Vbr4 => Ok(Answer::Vbr(reader.read_unsigned_vbr::<Bits<4>, u64>()?)),
             ReadCall::Vbr8 => Ok(Answer::Vbr(reader.read_unsigned_vbr::<Bits<8>, u64>()?)),
+            ReadCall::AnyVbr4 => Ok(Answer::Vbr(reader.read_unsigned_vbr_any::<Bits<4>, u64>()?)),
+            ReadCall::AnyVbr8 => Ok(Answer::Vbr(reader.read_unsigned_vbr_any::<Bits<8>, u64>()?)),
             ReadCall::SignedVbr4 => Ok(Answer::SignedVbr(reader.read_signed_vbr::<
                 Bits<4>,
                 i64,

@@ -69,6 +69,14 @@ returns-in_err-value-in-Variable g c =
 pub returns-in_ok-value-in-Variable : goal.returns-in_ok-value-in-Variable
 returns-in_ok-value-in-Variable g c = rw c.in-Variable.is (answers (λ v. Ok (Some (Value.Unsigned v))) c.in_ok-value-in-Variable.ensures)
 
+pub returns-in_err-value-in-Lenient : goal.returns-in_err-value-in-Lenient
+returns-in_err-value-in-Lenient g c =
+    rw c.in-Lenient.is (stops (λ v. Ok (Some (Value.Unsigned v))) c.from_residual-in_err-value-in-Lenient.ensures.1
+    c.in_err-value-in-Lenient.ensures)
+
+pub returns-in_ok-value-in-Lenient : goal.returns-in_ok-value-in-Lenient
+returns-in_ok-value-in-Lenient g c = rw c.in-Lenient.is (answers (λ v. Ok (Some (Value.Unsigned v))) c.in_ok-value-in-Lenient.ensures)
+
 pub returns-in_err-value-in-SignedVariable : goal.returns-in_err-value-in-SignedVariable
 returns-in_err-value-in-SignedVariable g c =
     rw c.in-SignedVariable.is (stops (λ v. Ok (Some (Value.Signed v))) c.from_residual-in_err-value-in-SignedVariable.ensures.1

@@ -1,4 +1,5 @@
-use Rattle.bitstream_io.proofs.CallsBack.{bit-read, unsigned-read, signed-read, const-read, unary-read, count-read, bytes-read, skip-read, vbr-read, signed_vbr-read}
+use Rattle.std.proofs.Common.{true, false}
+use Rattle.bitstream_io.proofs.CallsBack.{bit-read, unsigned-read, signed-read, const-read, unary-read, count-read, bytes-read, skip-read, groups-read, signed_groups-read}
 use Rattle.bitstream_io.proofs.script.laws.written_words_are_read.Goals as goal
 
 pub returns-clause-bit : goal.returns-clause-bit
@@ -26,7 +27,13 @@ pub returns-clause-skip : goal.returns-clause-skip
 returns-clause-skip c = skip-read
 
 pub returns-clause-vbr : goal.returns-clause-vbr
-returns-clause-vbr c = vbr-read
+returns-clause-vbr c = groups-read true
+
+pub returns-clause-any_vbr : goal.returns-clause-any_vbr
+returns-clause-any_vbr c = groups-read false
 
 pub returns-clause-signed_vbr : goal.returns-clause-signed_vbr
-returns-clause-signed_vbr c = signed_vbr-read
+returns-clause-signed_vbr c = signed_groups-read true
+
+pub returns-clause-any_signed_vbr : goal.returns-clause-any_signed_vbr
+returns-clause-any_signed_vbr c = signed_groups-read false

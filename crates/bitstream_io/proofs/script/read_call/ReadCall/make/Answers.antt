@@ -200,6 +200,34 @@ returns-in_ok-read_unsigned_vbr-in-Vbr8 g c = record {
       rw c.in-Vbr8.is (answered_ok variant.Vbr c.in_ok-read_unsigned_vbr-in-Vbr8.ensures.reads);
 }
 
+pub returns-in_err-read_unsigned_vbr_any-in-AnyVbr4 : goal.returns-in_err-read_unsigned_vbr_any-in-AnyVbr4
+returns-in_err-read_unsigned_vbr_any-in-AnyVbr4 g c = record {
+  reads =
+      rw c.in-AnyVbr4.is (answered_stops variant.Vbr c.from_residual-in_err-read_unsigned_vbr_any-in-AnyVbr4.result
+      c.from_residual-in_err-read_unsigned_vbr_any-in-AnyVbr4.ensures.1
+      c.in_err-read_unsigned_vbr_any-in-AnyVbr4.ensures.reads);
+}
+
+pub returns-in_ok-read_unsigned_vbr_any-in-AnyVbr4 : goal.returns-in_ok-read_unsigned_vbr_any-in-AnyVbr4
+returns-in_ok-read_unsigned_vbr_any-in-AnyVbr4 g c = record {
+  reads =
+      rw c.in-AnyVbr4.is (answered_ok variant.Vbr c.in_ok-read_unsigned_vbr_any-in-AnyVbr4.ensures.reads);
+}
+
+pub returns-in_err-read_unsigned_vbr_any-in-AnyVbr8 : goal.returns-in_err-read_unsigned_vbr_any-in-AnyVbr8
+returns-in_err-read_unsigned_vbr_any-in-AnyVbr8 g c = record {
+  reads =
+      rw c.in-AnyVbr8.is (answered_stops variant.Vbr c.from_residual-in_err-read_unsigned_vbr_any-in-AnyVbr8.result
+      c.from_residual-in_err-read_unsigned_vbr_any-in-AnyVbr8.ensures.1
+      c.in_err-read_unsigned_vbr_any-in-AnyVbr8.ensures.reads);
+}
+
+pub returns-in_ok-read_unsigned_vbr_any-in-AnyVbr8 : goal.returns-in_ok-read_unsigned_vbr_any-in-AnyVbr8
+returns-in_ok-read_unsigned_vbr_any-in-AnyVbr8 g c = record {
+  reads =
+      rw c.in-AnyVbr8.is (answered_ok variant.Vbr c.in_ok-read_unsigned_vbr_any-in-AnyVbr8.ensures.reads);
+}
+
 pub returns-in_err-read_signed_vbr-in-SignedVbr4 : goal.returns-in_err-read_signed_vbr-in-SignedVbr4
 returns-in_err-read_signed_vbr-in-SignedVbr4 g c = record {
   reads =

@@ -1,6 +1,6 @@
 use Rattle.std.proofs.Common.{◌≡◌, ◌-◌, ◌^◌, ◌<◌, false}
 use Rattle.bitstream_stream.proofs.VbrReads.{Told}
-use Rattle.bitstream_stream.proofs.read.BitRead.read_unsigned_vbr.Given as goal
+use Rattle.bitstream_stream.proofs.read.BitRead.read_groups.Given as goal
 
 -- what is still read is the rest of the call
 abbrev pub invariant-loop-shift : goal.invariant-loop-shift
@@ -10,7 +10,7 @@ invariant-loop-shift g l =
     let size = g.U.Numeric.BITS_SIZE in
     record {
       mask : u.value l.mask ≡ 2 ^ l.payload - 1;
-      told : Told K g.F.Width.BITS size (2 ^ size) l.fn.self (u.value l.value) l.shift l.self;
+      told : Told K l.fn.strict g.F.Width.BITS size (2 ^ size) l.fn.self (u.value l.value) l.shift l.self;
       below : u.value l.value < 2 ^ l.shift;
       sound : 0 < l.shift → (K.state l.self).failed ≡ false;
     }

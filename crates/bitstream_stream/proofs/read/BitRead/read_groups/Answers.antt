@@ -2,13 +2,13 @@ use Rattle.std.proofs.Common.{rules, arith, ◌≡◌, ◌-◌, ◌^◌, ◌<◌
 use Rattle.bitstream_number.proofs.Masks.{masked-is}
 use Rattle.bitstream_order.proofs.SignLemmas.{half_is}
 use Rattle.bitstream_stream.proofs.GroupLemmas.{apart, mask_below}
-use Rattle.bitstream_stream.proofs.VbrReads.{short_group-stops, short_group-takes, told-start, told-stop, told-end, Turn, turn-ends, turn-overflows, turn-told, turn-below}
+use Rattle.bitstream_stream.proofs.VbrReads.{short_group-stops, short_group-takes, told-start, told-stop, told-end, Turn, turn-redundant, turn-ends, turn-overflows, turn-told, turn-below}
 use Rattle.bitstream_stream.proofs.BytesLemmas.{seen_stops}
 use Rattle.bitstream_stream.proofs.SignedLemmas.{Reads-fine}
 use Rattle.bitstream_stream.proofs.TableLemmas.{unsigned-on_failed}
-use Rattle.bitstream_stream.proofs.read.BitRead.read_unsigned_vbr.Given.{Over}
-use Rattle.bitstream_stream.proofs.read.BitRead.read_unsigned_vbr.Goals.{After-eq, then-BITS-gt8+in_ok-group, else-BITS-gt8+in_ok-read_unsigned}
-use Rattle.bitstream_stream.proofs.read.BitRead.read_unsigned_vbr.Goals as goal
+use Rattle.bitstream_stream.proofs.read.BitRead.read_groups.Given.{Over}
+use Rattle.bitstream_stream.proofs.read.BitRead.read_groups.Goals.{After-eq, then-BITS-gt8+in_ok-group, else-BITS-gt8+in_ok-read_unsigned}
+use Rattle.bitstream_stream.proofs.read.BitRead.read_groups.Goals as goal
 
 pub sub-mask-requires : goal.sub-mask-requires
 sub-mask-requires g c =
@@ -39,7 +39,7 @@ loop-shift-init g c =
     record {
       mask = mask_below m size _ _ _ _ less one unit (law.shl_law _ _ _ c.shl.ensures)
           (law.sub_value_law _ _ _ c.sub-mask.ensures);
-      told = rw none (told-start g.Self.BitRead.source g.F.Width.BITS size (2 ^ size) _);
+      told = rw none (told-start g.Self.BitRead.source c.args.strict g.F.Width.BITS size (2 ^ size) _);
       below = omega (arith, none);
       sound = λ some. absurd (omega arith);
     }
@@ -55,7 +55,7 @@ returns-in_err-group g c =
     omega (arith, less, is) in
     record {
       reads = seen_stops _ c.from_residual.result c.from_residual.ensures.1
-          (told-stop K g.F.Width.BITS size (2 ^ size) c.requires.some (omega (arith, c.requires.within)) _ _ _ _ _
+          (told-stop K c.args.strict g.F.Width.BITS size (2 ^ size) c.requires.some (omega (arith, c.requires.within)) _ _ _ _ _
           begins c.loop-shift.invariant.told _ c.in_err-group.ensures.reads);
     }
 
@@ -71,13 +71,13 @@ returns-in_err-read_unsigned g c =
     let short : field ≤ 8 = let most = c.if-BITS-gt8.false in let is = c.BITS.ensures in omega (arith, most, is) in
     record {
       reads = seen_stops _ c.from_residual-in_err-read_unsigned.result c.from_residual-in_err-read_unsigned.ensures.1
-          (told-stop K field size (2 ^ size) c.requires.some (omega (arith, within)) _ _ _ _ _ begins inv.told _
+          (told-stop K c.args.strict field size (2 ^ size) c.requires.some (omega (arith, within)) _ _ _ _ _ begins inv.told _
           (short_group-stops K.order field size _ short (omega (arith, within)) c.in_err-read_unsigned.ensures.reads));
     }
 
 -- the group that this turn read, and what became of its digits
 turn : (g : Over) (c : After-eq g)
-    → Turn g.Self.BitRead.source g.F.Width.BITS g.U.Numeric.BITS_SIZE (c.BITS-payload.result - 1) c.args.self.now
+    → Turn g.Self.BitRead.source c.args.strict g.F.Width.BITS g.U.Numeric.BITS_SIZE (c.BITS-payload.result - 1) c.args.self.now
     c.loop-shift.self c.if-BITS-gt8.self (g.U.UnsignedInteger.value c.loop-shift.value) c.loop-shift.shift
     (g.U.UnsignedInteger.value c.if-BITS-gt8.group) (g.U.UnsignedInteger.value c.bitand-digits.result)
     (g.U.UnsignedInteger.value c.shl-placed.result) (g.U.UnsignedInteger.value c.bitor_assign.new.self)
@@ -107,14 +107,22 @@ turn g c =
       joined = law.or_law _ _ _ (g.met.U.Numeric.bitor_assign_law _ _ _ c.bitor_assign.ensures.after);
     }
 
+pub returns-then-is_redundant : goal.returns-then-is_redundant
+returns-then-is_redundant g c =
+    let last = (g.met.U.UnsignedInteger.eq_value_law _ _).0 (sym c.eq.ensures ∙ c.if-eq.true) in
+    record {
+      reads = turn-redundant (turn g (goal.at.returns-then-is_redundant g c).After-eq) last
+          (sym c.is_redundant.ensures ∙ c.if-is_redundant.true);
+    }
+
 pub returns-then-eq-2 : goal.returns-then-eq-2
 returns-then-eq-2 g c =
     let law = g.met.U.UnsignedInteger in
     let last = (law.eq_value_law _ _).0 (sym c.eq.ensures ∙ c.if-eq.true) in
-    let same = (law.eq_value_law _ _).0 (sym c.eq-then-eq.ensures ∙ c.if-eq-2.true) in
+    let same = (law.eq_value_law _ _).0 (sym c.eq-else-is_redundant.ensures ∙ c.if-eq-2.true) in
     record {
       reads = turn-ends (turn g (goal.at.returns-then-eq-2 g c).After-eq) last
-          (sym (law.shr_law _ _ _ c.shr.ensures) ∙ same);
+          (sym c.is_redundant.ensures ∙ c.if-is_redundant.false) (sym (law.shr_law _ _ _ c.shr.ensures) ∙ same);
     }
 
 pub returns-else-eq-2 : goal.returns-else-eq-2
@@ -123,8 +131,9 @@ returns-else-eq-2 g c =
     let last = (law.eq_value_law _ _).0 (sym c.eq.ensures ∙ c.if-eq.true) in
     record {
       reads = turn-overflows (turn g (goal.at.returns-else-eq-2 g c).After-eq) last
+          (sym c.is_redundant.ensures ∙ c.if-is_redundant.false)
           (λ back. apart (sym ((law.eq_value_law _ _).1 (law.shr_law _ _ _ c.shr.ensures ∙ back))
-          ∙ sym c.eq-then-eq.ensures ∙ c.if-eq-2.false));
+          ∙ sym c.eq-else-is_redundant.ensures ∙ c.if-eq-2.false));
     }
 
 pub loop-shift-preserved : goal.loop-shift-preserved
@@ -145,7 +154,7 @@ returns g c =
     let past : size ≤ c.loop-shift.shift = let most = c.loop-shift-test.false in let is = c.BITS_SIZE.ensures in
     omega (arith, most, is) in
     record {
-      reads = told-end g.Self.BitRead.source g.F.Width.BITS size (2 ^ size) _ _ _ _ past
+      reads = told-end g.Self.BitRead.source c.args.strict g.F.Width.BITS size (2 ^ size) _ _ _ _ past
           (c.loop-shift.invariant.sound (omega (arith, past, c.requires.some, c.requires.within)))
           c.loop-shift.invariant.told;
     }
