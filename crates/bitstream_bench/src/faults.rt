@@ -1,5 +1,5 @@
 //! Readers and writers behind a request that was refused.
-use crate::Refuse;
+use crate::{Count, Endless, Refuse};
 use bitstream_io::{
     BE, BitRead, BitReadExt, BitReader, BitWrite, BitWriteExt, BitWriter, Bits, ByteRead,
     ByteReader, Error,
@@ -85,4 +85,47 @@ fn r14_hostile(rt: HostRuntime) {
         )
     );
     assert!(rt; matches!(whole.read_to_vec(rt.alloc(), 0), Ok(_)));
+}
+
+/// A reader of one byte for ever, whose requests are counted.
+fn endless(byte: u8) -> BitReader<Count<Endless>, BE> {
+    BitReader::new(Count {
+        inner: Endless { byte },
+        requests: 0,
+        refused: 0,
+    })
+}
+
+/// Whether a read stopped behind the group that passes its type, at a byte boundary, after as many
+/// requests, each of which was for a byte.
+fn stopped<U: Drop>(
+    answer: Result<U, Error>,
+    reader: BitReader<Count<Endless>, BE>,
+    requests: u64,
+) -> bool {
+    let aligned = reader.byte_aligned();
+    let asked = reader.into_reader().requests;
+    matches!(answer, Err(Error::VariableWidthOverflow)) && aligned && asked == requests
+}
+
+#[test]
+fn r14_groups_that_never_end(rt: HostRuntime) {
+    let mut reader = endless(0xff);
+    let answer = reader.read_unsigned_vbr::<Bits<4>, u64>();
+    assert!(rt; stopped(answer, reader, 11));
+    let mut reader = endless(0xff);
+    let answer = reader.read_unsigned_vbr::<Bits<8>, u64>();
+    assert!(rt; stopped(answer, reader, 10));
+    let mut reader = endless(0xff);
+    let answer = reader.read_unsigned_vbr::<Bits<2>, u128>();
+    assert!(rt; stopped(answer, reader, 32));
+}
+
+/// Whether a run of 2^32 zeros is too long, behind as many bytes, each by a request of its own.
+#[test]
+fn r14_a_run_that_never_ends(rt: HostRuntime) {
+    let mut reader = endless(0);
+    assert!(rt; matches!(reader.read_unary::<Bits<1>>(), Err(Error::RunTooLong)));
+    assert!(rt; matches!(reader.read_bit(), Err(Error::Failed)));
+    assert_eq!(rt; reader.into_reader().requests, 536870912);
 }
