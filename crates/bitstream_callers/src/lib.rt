@@ -7,6 +7,7 @@ pub mod block_header;
 pub mod header;
 pub mod packet_header;
 pub mod padded_port;
+pub mod plain;
 pub mod reading;
 pub mod stream_info;
 pub mod telemetry;

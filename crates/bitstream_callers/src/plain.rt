@@ -1,0 +1,79 @@
+//! Parsers without contracts, of unary numbers, variable widths, constants, prefix codes and bytes.
+use bitstream_io::huffman::HuffmanTree;
+use bitstream_io::{BE, BitRead, BitReadExt, BitReader, Bits, Error, LittleEndian};
+use std::alloc::Global;
+use std::io::Read;
+
+/// What a wheel's sensor measured.
+#[derive(Clone, Copy, Debug, PartialEq)]
+pub struct Turn {
+    /// The packets that were lost before this one.
+    pub lost: u32,
+    /// How far the wheel turned, backwards if negative.
+    pub angle: i16,
+}
+
+/// Returns what a packet says.
+///
+/// # Errors
+///
+/// Those of the reader.
+pub fn parse_turn(packet: &[u8]) -> Result<Turn, Error> {
+    let mut reader = BitReader::endian(packet, LittleEndian);
+    Ok(Turn {
+        lost: reader.read_unary::<Bits<0>>()?,
+        angle: reader.read_vbr::<Bits<5>, i16>()?,
+    })
+}
+
+/// Returns how a wheel turns: not at all, forwards or backwards.
+///
+/// # Errors
+///
+/// Those of the reader, and `OutOfMemory`.
+pub fn direction(alloc: Global, packet: &[u8]) -> Result<char, Error> {
+    let idle = HuffmanTree::leaf(alloc, '0')?;
+    let forwards = HuffmanTree::leaf(alloc, '+')?;
+    let backwards = HuffmanTree::leaf(alloc, '-')?;
+    let code = HuffmanTree::node(idle, HuffmanTree::node(forwards, backwards)?)?;
+    BitReader::<_, BE>::new(packet).read_huffman(&code)
+}
+
+/// Returns the data of a chunk. Its length stands first, in 4 bytes, and its kind in 4 more.
+///
+/// # Errors
+///
+/// Those of the reader.
+pub fn chunk<I: Read + Drop>(alloc: Global, input: I) -> Result<Vec<u8>, Error> {
+    let mut reader = BitReader::<_, BE>::new(input);
+    let length: u32 = reader.read_to()?;
+    reader.skip(32)?;
+    reader.read_to_vec(alloc, length as usize)
+}
+
+/// Why a file is no FLAC file.
+#[derive(Debug, Drop)]
+pub enum FlacError {
+    /// An error of the reader.
+    Reader(Error),
+    /// It does not begin with `fLaC`.
+    NoFlac,
+}
+
+impl From<Error> for FlacError {
+    fn from(error: Error) -> FlacError {
+        FlacError::Reader(error)
+    }
+}
+
+/// Returns the bytes of a FLAC file's first block.
+///
+/// # Errors
+///
+/// `NoFlac`, and those of the reader.
+pub fn first_block<I: Read + Drop>(input: I) -> Result<u32, FlacError> {
+    let mut reader = BitReader::<_, BE>::new(input);
+    reader.read_const::<Bits<32>, Bits<0x664C_6143>, FlacError>(FlacError::NoFlac)?;
+    reader.skip(8)?;
+    Ok(reader.read::<Bits<24>, u32>()?)
+}
