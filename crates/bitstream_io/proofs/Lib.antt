@@ -7,6 +7,7 @@ mod Rows
 mod ScriptLemmas
 pub use Rattle.bitstream_count.proofs.UnaryLemmas
 pub use Rattle.bitstream_count.proofs.VbrLemmas
+pub use Rattle.bitstream_number.proofs.ByteLemmas
 pub use Rattle.bitstream_number.proofs.SignedLemmas
 pub use Rattle.bitstream_number.proofs.WordLemmas
 pub use Rattle.bitstream_order.proofs.FaultLemmas
@@ -14,7 +15,9 @@ pub use Rattle.bitstream_order.proofs.TakeLemmas
 pub use Rattle.bitstream_order.proofs.SliceLemmas as SliceEnds
 pub use Rattle.bitstream_stream.proofs.ByteReadsLemmas
 pub use Rattle.bitstream_stream.proofs.ByteWritesLemmas
+pub use Rattle.bitstream_stream.proofs.BytesWritten
 pub use Rattle.bitstream_stream.proofs.EntryLemmas
+pub use Rattle.bitstream_stream.proofs.LawLemmas
 pub use Rattle.bitstream_stream.proofs.ReaderLemmas
 pub use Rattle.bitstream_stream.proofs.ReadsLemmas
 pub use Rattle.bitstream_stream.proofs.SinkLemmas
