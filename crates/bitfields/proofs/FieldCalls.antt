@@ -38,7 +38,7 @@ use Rattle.bitfields.specs.declared.field_value.ValueKind.TheVariants as Kind
 use Rattle.bitfields.specs.Fault.{fault}
 use Rattle.bitfields.specs.Layout.{IsField, group_bits}
 use Rattle.bitfields.specs.Packing.{field_word, field_write, field_writes, packed}
-use Rattle.bitfields.specs.Unpacking.{Unpacked, Unpacks, Stops, field_read, read_reason, unpacked, values_and}
+use Rattle.bitfields.specs.Unpacking.{FieldCalls, Unpacked, Unpacks, Stops, field_read, read_reason, says_by, unpacked, values_and}
 use Rattle.bitfields.specs.Value.{kind_count, value_count, value_kind, value_list, first_unsigned, first_signed, first_bytes, Fit, FitsField, FitsKind}
 
 -- ---- a field's read call
@@ -75,42 +75,43 @@ constant-reads o n v p b i =
 
 -- ---- the first field of some, by its read call
 
-pub unpacked-takes : (o : Order) (k : ℕ) (f : Field) (fs : List Field) (at n : ℕ) (b : List Bool)
-    (v : Option FieldValue) → (field_read o f).reads at b ≡ Takes n (Ok (Ok v))
-    → unpacked o k (f ∷ fs) at b ≡ values_and (value_list v) (unpacked o (k + 1) fs (at + n) (drop n b))
-unpacked-takes o k f fs at n b v e = rw e refl
+module _ (calls : FieldCalls) (o : Order) (k : ℕ) (f : Field) (fs : List Field) (at : ℕ) where
+  pub says-takes : (n : ℕ) (b : List Bool) (v : Option FieldValue) → (calls o f).reads at b ≡ Takes n (Ok (Ok v))
+      → says_by calls o k (f ∷ fs) at b ≡ values_and (value_list v) (says_by calls o (k + 1) fs (at + n) (drop n b))
+  says-takes n b v e = rw e refl
 
-pub unpacked-told : (o : Order) (k : ℕ) (f : Field) (fs : List Field) (at n : ℕ) (b : List Bool) (why : Reason)
-    → (field_read o f).reads at b ≡ Takes n (Ok (Err why)) → unpacked o k (f ∷ fs) at b ≡ Stops (fault k why)
-unpacked-told o k f fs at n b why e = rw e refl
+  pub says-told : (n : ℕ) (b : List Bool) (why : Reason) → (calls o f).reads at b ≡ Takes n (Ok (Err why))
+      → says_by calls o k (f ∷ fs) at b ≡ Stops (fault k why)
+  says-told n b why e = rw e refl
 
-pub unpacked-refused : (o : Order) (k : ℕ) (f : Field) (fs : List Field) (at n : ℕ) (b : List Bool) (x : Error)
-    → (field_read o f).reads at b ≡ Takes n (Err x)
-    → unpacked o k (f ∷ fs) at b ≡ Stops (fault k (read_reason x))
-unpacked-refused o k f fs at n b errors.RunTooLong e = rw e refl
-unpacked-refused o k f fs at n b x e = rw e refl
+  pub says-refused : (n : ℕ) (b : List Bool) (x : Error) → (calls o f).reads at b ≡ Takes n (Err x)
+      → says_by calls o k (f ∷ fs) at b ≡ Stops (fault k (read_reason x))
+  says-refused n b errors.RunTooLong e = rw e refl
+  says-refused n b x e = rw e refl
 
-pub unpacked-short : (o : Order) (k : ℕ) (f : Field) (fs : List Field) (at : ℕ) (b : List Bool)
-    → (field_read o f).reads at b ≡ TooFew → unpacked o k (f ∷ fs) at b ≡ Stops (fault k BitsEnded)
-unpacked-short o k f fs at b e = rw e refl
+  pub says-short : (b : List Bool) → (calls o f).reads at b ≡ TooFew
+      → says_by calls o k (f ∷ fs) at b ≡ Stops (fault k BitsEnded)
+  says-short b e = rw e refl
 
--- a word that the first field takes, and what follows it
-pub unpacked-first : (o : Order) (k : ℕ) (f : Field) (fs : List Field) (at : ℕ) (w rest : List Bool)
-    (v : Option FieldValue) → (field_read o f).reads at (w ++ rest) ≡ Takes (length w) (Ok (Ok v))
-    → unpacked o k (f ∷ fs) at (w ++ rest) ≡ values_and (value_list v) (unpacked o (k + 1) fs (at + length w) rest)
-unpacked-first o k f fs at w rest v e =
-    unpacked-takes o k f fs at (length w) (w ++ rest) v e
-    ∙ ap (λ (b : List Bool). values_and (value_list v) (unpacked o (k + 1) fs (at + length w) b))
-    (drop-append_seam w rest)
+  -- a word that the first field takes, and what follows it
+  pub says-first : (w rest : List Bool) (v : Option FieldValue)
+      → (calls o f).reads at (w ++ rest) ≡ Takes (length w) (Ok (Ok v))
+      → says_by calls o k (f ∷ fs) at (w ++ rest)
+      ≡ values_and (value_list v) (says_by calls o (k + 1) fs (at + length w) rest)
+  says-first w rest v e =
+      says-takes (length w) (w ++ rest) v e
+      ∙ ap (λ (b : List Bool). values_and (value_list v) (says_by calls o (k + 1) fs (at + length w) b))
+      (drop-append_seam w rest)
 
 -- ---- what a field writes, as it is read
 
--- the word that a field writes of the first of some values, and reads as this value
-pub record Trips (o : Order) (f : Field) (vs : List FieldValue) (at : ℕ) : Type 0 where
+-- the word that a field writes of the first of some values, and that a read call reads as this value
+pub record Trips (call : ReadEntry (Result (Option FieldValue) Reason)) (o : Order) (f : Field) (vs : List FieldValue)
+    (at : ℕ) : Type 0 where
   pub word : List Bool
   pub value : Option FieldValue
   pub writes : field_write o f vs at ≡ Ok word
-  pub reads : (more : List Bool) → (field_read o f).reads at (word ++ more) ≡ Takes (length word) (Ok (Ok value))
+  pub reads : (more : List Bool) → call.reads at (word ++ more) ≡ Takes (length word) (Ok (Ok value))
   pub first : vs ≡ value_list value ++ drop (value_count f) vs
 
 -- the number that stands first fits, and stands first
@@ -145,7 +146,7 @@ trip : {A : Type 0} (o : Order) (f : Field) (vs : List FieldValue) (at : ℕ) (e
     → FieldValue) (a : A) (w : List Bool)
     → field_read o f ≡ chain e (λ v. gives (Ok (Some (make v)))) → field_write o f vs at ≡ Ok w
     → ((more : List Bool) → e.reads at (w ++ more) ≡ Takes (length w) (Ok a))
-    → vs ≡ make a ∷ drop (value_count f) vs → Trips o f vs at
+    → vs ≡ make a ∷ drop (value_count f) vs → Trips (field_read o f) o f vs at
 trip o f vs at e make a w is writes reads first = record {
   word = w;
   value = Some (make a);
@@ -211,7 +212,8 @@ signed_vbr-answers o field x p more wide h =
     ++ more) (zig x) (groups-answers true o field (zig x) p more wide (zig-lt 64 x (lit< tt) h))
     ∙ ap (λ (y : ℤ). Takes (length w) (Ok y)) (zag-zig x)
 
-pub trips : (o : Order) (f : Field) (vs : List FieldValue) (at : ℕ) → IsField f → FitsField f vs → Trips o f vs at
+pub trips : (o : Order) (f : Field) (vs : List FieldValue) (at : ℕ) → IsField f → FitsField f vs
+    → Trips (field_read o f) o f vs at
 trips o (Unsigned n) vs at i h =
     let v = first_unsigned vs in
     let p = unsigned_first n vs h in
@@ -310,28 +312,38 @@ values_first : (vs ws : List FieldValue) (us : List FieldValue) (at : ℕ) → v
     ≡ Unpacks vs at
 values_first vs ws us at e = ap (λ (xs : List FieldValue). Unpacks xs at) (sym e)
 
+module _ (calls : FieldCalls) (back : (o : Order) (f : Field) (vs : List FieldValue) (at : ℕ) → IsField f
+    → FitsField f vs → Trips (calls o f) o f vs at) where
+  -- what is written of values that fit says these values, whatever follows
+  pub says-written : (o : Order) (k : ℕ) (fields : List Field) (vs : List FieldValue) (at : ℕ) (rest : List Bool)
+      → AllByRecursion IsField fields → Fit fields vs
+      → says_by calls o k fields at (write_run (field_writes o fields vs) at ++ rest)
+      ≡ Unpacks vs (at + length (write_run (field_writes o fields vs) at))
+  says-written o k [] vs at rest i h =
+      let place : at ≡ at + 0 = omega arith in
+      ap (λ (p : ℕ). Unpacks [] p) place ∙ ap (λ (us : List FieldValue). Unpacks us (at + 0)) (sym h)
+  says-written o k (f ∷ fs) vs at rest i h =
+      let t = back o f vs at i.0 h.0 in
+      let us = drop (value_count f) vs in
+      let x = write_run (field_writes o fs us) (at + length t.word) in
+      let written : write_run (field_writes o (f ∷ fs) vs) at ≡ t.word ++ x =
+      run-more (field_write o f vs) (field_writes o fs us) t.word at t.writes in
+      let place : at + length t.word + length x ≡ at + length (t.word ++ x) = rw length-append (omega arith) in
+      let whole : says_by calls o k (f ∷ fs) at ((t.word ++ x) ++ rest) ≡ Unpacks vs (at + length (t.word ++ x)) =
+      ap (λ (b : List Bool). says_by calls o k (f ∷ fs) at b) (append_assoc t.word x rest)
+      ∙ says-first calls o k f fs at t.word (x ++ rest) t.value (t.reads (x ++ rest))
+      ∙ ap (values_and (value_list t.value)) (says-written o (k + 1) fs us (at + length t.word) rest i.1 h.1)
+      ∙ values_first vs (value_list t.value) us (at + length t.word + length x) t.first
+      ∙ ap (λ (p : ℕ). Unpacks vs p) place in
+      subst (λ (w : List Bool). says_by calls o k (f ∷ fs) at (w ++ rest) ≡ Unpacks vs (at + length w)) (sym written)
+      whole
+
 -- what is written of values that fit is unpacked as these values, whatever follows
 pub unpacked-written : (o : Order) (k : ℕ) (fields : List Field) (vs : List FieldValue) (at : ℕ) (rest : List Bool)
     → AllByRecursion IsField fields → Fit fields vs
     → unpacked o k fields at (write_run (field_writes o fields vs) at ++ rest)
     ≡ Unpacks vs (at + length (write_run (field_writes o fields vs) at))
-unpacked-written o k [] vs at rest i h =
-    let place : at ≡ at + 0 = omega arith in
-    ap (λ (p : ℕ). Unpacks [] p) place ∙ ap (λ (us : List FieldValue). Unpacks us (at + 0)) (sym h)
-unpacked-written o k (f ∷ fs) vs at rest i h =
-    let t = trips o f vs at i.0 h.0 in
-    let us = drop (value_count f) vs in
-    let x = write_run (field_writes o fs us) (at + length t.word) in
-    let written : write_run (field_writes o (f ∷ fs) vs) at ≡ t.word ++ x =
-    run-more (field_write o f vs) (field_writes o fs us) t.word at t.writes in
-    let place : at + length t.word + length x ≡ at + length (t.word ++ x) = rw length-append (omega arith) in
-    let whole : unpacked o k (f ∷ fs) at ((t.word ++ x) ++ rest) ≡ Unpacks vs (at + length (t.word ++ x)) =
-    ap (λ (b : List Bool). unpacked o k (f ∷ fs) at b) (append_assoc t.word x rest)
-    ∙ unpacked-first o k f fs at t.word (x ++ rest) t.value (t.reads (x ++ rest))
-    ∙ ap (values_and (value_list t.value)) (unpacked-written o (k + 1) fs us (at + length t.word) rest i.1 h.1)
-    ∙ values_first vs (value_list t.value) us (at + length t.word + length x) t.first
-    ∙ ap (λ (p : ℕ). Unpacks vs p) place in
-    subst (λ (w : List Bool). unpacked o k (f ∷ fs) at (w ++ rest) ≡ Unpacks vs (at + length w)) (sym written) whole
+unpacked-written = says-written field_read trips
 
 -- ---- packing, field by field
 
@@ -398,7 +410,7 @@ first_word : (o : Order) (k : ℕ) (f : Field) (fs : List Field) (at n : ℕ) (w
     → ((b : List Bool) → (field_read o f).reads at b ≡ word_front n g b) → g w ≡ Ok (Ok v) → length w ≡ n
     → unpacked o k (f ∷ fs) at (w ++ rest) ≡ values_and (value_list v) (unpacked o (k + 1) fs (at + n) rest)
 first_word o k f fs at n w rest g v reads is size =
-    unpacked-first o k f fs at w rest v (reads (w ++ rest) ∙ word_front-some n g w rest size ∙ ap (Takes n) is
+    says-first field_read o k f fs at w rest v (reads (w ++ rest) ∙ word_front-some n g w rest size ∙ ap (Takes n) is
     ∙ ap (λ (m : ℕ). Takes m (Ok (Ok v))) (sym size))
     ∙ ap (λ (m : ℕ). values_and (value_list v) (unpacked o (k + 1) fs (at + m) rest)) size
 
@@ -422,12 +434,12 @@ unpacked-align o k fields at w rest size =
 pub unpacked-few : (o : Order) (k n : ℕ) (fields : List Field) (at : ℕ) (b : List Bool) → n ≤ 128 → length b < n
     → unpacked o k (Unsigned n ∷ fields) at b ≡ Stops (fault k BitsEnded)
 unpacked-few o k n fields at b i few =
-    unpacked-short o k (Unsigned n) fields at b (unsigned-reads o n at b i
+    says-short field_read o k (Unsigned n) fields at b (unsigned-reads o n at b i
     ∙ word_front-none n (λ w. Ok (Ok (Some (Value.Unsigned (number o w))))) b few)
 
 pub unpacked-few_to_align : (o : Order) (k : ℕ) (fields : List Field) (at : ℕ) (b : List Bool)
     → length b < to_boundary at → unpacked o k (Align ∷ fields) at b ≡ Stops (fault k BitsEnded)
-unpacked-few_to_align o k fields at b few = unpacked-short o k Align fields at b (align-reads o at b
+unpacked-few_to_align o k fields at b few = says-short field_read o k Align fields at b (align-reads o at b
     ∙ word_front-none (to_boundary at) (λ _. Ok (Ok None)) b few)
 
 pub unpacked-constant : (o : Order) (k n v : ℕ) (fields : List Field) (at : ℕ) (w rest : List Bool) → n ≤ 32
@@ -443,13 +455,13 @@ pub unpacked-differs : (o : Order) (k n v : ℕ) (fields : List Field) (at : ℕ
     → unpacked o k (Constant n v ∷ fields) at (w ++ rest) ≡ Stops (fault k ConstantDiffers)
 unpacked-differs o k n v fields at w rest i size other =
     let same : constant_of o v w ≡ Ok (Err ConstantDiffers) = rw (ne_eqb (number o w) v other) refl in
-    unpacked-told o k (Constant n v) fields at n (w ++ rest) ConstantDiffers
+    says-told field_read o k (Constant n v) fields at n (w ++ rest) ConstantDiffers
     (constant-reads o n v at (w ++ rest) i ∙ word_front-some n (constant_of o v) w rest size ∙ ap (Takes n) same)
 
 pub unpacked-few_for_constant : (o : Order) (k n v : ℕ) (fields : List Field) (at : ℕ) (b : List Bool) → n ≤ 32
     → length b < n → unpacked o k (Constant n v ∷ fields) at b ≡ Stops (fault k BitsEnded)
 unpacked-few_for_constant o k n v fields at b i few =
-    unpacked-short o k (Constant n v) fields at b (constant-reads o n v at b i
+    says-short field_read o k (Constant n v) fields at b (constant-reads o n v at b i
     ∙ word_front-none n (constant_of o v) b few)
 
 -- values that fit are not fewer than the field has
@@ -489,6 +501,6 @@ unpacked-word o k f fields vs at rest i h =
     let same : field_word o f vs at ≡ t.word = (let a = field_word-written o f vs at i h in let b = t.writes in cc) in
     subst (λ (w : List Bool). unpacked o k (f ∷ fields) at (w ++ rest)
     ≡ values_and (take (value_count f) vs) (unpacked o (k + 1) fields (at + length w) rest)) (sym same)
-    (unpacked-first o k f fields at t.word rest t.value (t.reads rest)
+    (says-first field_read o k f fields at t.word rest t.value (t.reads rest)
     ∙ ap (λ (us : List FieldValue). values_and us (unpacked o (k + 1) fields (at + length t.word) rest))
     (first_values f vs t.value h t.first))

@@ -27,7 +27,7 @@ use Rattle.bitfields.specs.declared.field.Field.{Field}
 use Rattle.bitfields.specs.declared.field_value.FieldValue.{FieldValue}
 use Rattle.bitfields.specs.Fault.{fault}
 use Rattle.bitfields.specs.Layout.{IsField, IsLayout}
-use Rattle.bitfields.specs.Packing.{WritesBits, PackedBytes, PackingRefused, Packs, write_reason, field_write, field_writes, packed}
+use Rattle.bitfields.specs.Packing.{WritesBits, PackedBytes, PackingRefused, Packs, PacksValues, write_reason, field_write, field_writes, packed}
 use Rattle.bitfields.specs.Value.{value_count, FitsField, Fit}
 use Rattle.bitfields.proofs.FieldCalls.{refusals-none, write_run-append}
 
@@ -245,6 +245,13 @@ Packs-refused contents may o fields (Ok vs) output (Err e) f h (inr is) = absurd
 Packs-refused contents may o fields (Err x) output (Err e) f h (inl memory) = (refl, inr (h ∙ memory))
 Packs-refused contents may o fields (Err x) output (Err e) f h (inr is) =
     (let same : x ≡ f = cc in (refl, inl (h ∙ sym same)))
+
+-- values that the input spells were packed, or the stream refused a request
+pub Packs-values : {W : Type 0} (contents : W → Option (List ℕ)) (may : Refusal → Type 0) (o : Order)
+    (fields : List Field) (vs : List FieldValue) (old : W) (r : Result (Unit {0}) Fault) (new : W)
+    → PacksValues contents may o fields vs old r new → Packs contents may o fields (Ok vs) old r new
+Packs-values contents may o fields vs old (Ok done) new h = h
+Packs-values contents may o fields vs old (Err f) new h = inr h
 
 -- the bytes that bits filled, of a new writer
 pub filled : (o : Order) (held : Option (List ℕ)) (reference_names : List GName) (s : WriterState) → s

@@ -3,7 +3,7 @@ use Rattle.std.specs.Prelude.{ℕ, if◌then◌else◌, List, [], ◌∷◌, cod
 use Rattle.std.specs.Cmp.Lexicographic.{pointwise}
 use Rattle.bitstream_io.specs.Word.{Order, High, Low}
 use Rattle.bitfields.specs.declared.run.Command.{Command}
-use Rattle.bitfields.specs.declared.run.Command.TheVariants.{Pack, Unpack, Size}
+use Rattle.bitfields.specs.declared.run.Command.TheVariants.{Pack, Unpack, Size, Repack}
 use Rattle.bitfields.specs.declared.run.NamedOrder.{NamedOrder}
 use Rattle.bitfields.specs.declared.run.NamedOrder.TheVariants.{Big, Little}
 
@@ -13,6 +13,7 @@ command_of word =
     if pointwise nat_eq word (codes "pack") then Some Pack
     else if pointwise nat_eq word (codes "unpack") then Some Unpack
     else if pointwise nat_eq word (codes "size") then Some Size
+    else if pointwise nat_eq word (codes "repack") then Some Repack
     else None
 
 -- the order of bits that a word names

@@ -4,7 +4,7 @@ use Rattle.std.specs.Fmt.{decimal}
 use Rattle.std.specs.declared.io.ErrorKind.{ErrorKind}
 use Rattle.std.specs.declared.io.ErrorKind.TheVariants as kinds
 use Rattle.bitfields.specs.declared.fault.Reason.{Reason}
-use Rattle.bitfields.specs.declared.fault.Reason.TheVariants.{BadArguments, TooManyFields, BadLayout, ValueMissing, ValueMisspelt, ValueDoesNotFit, ValueLeftOver, BitsEnded, ConstantDiffers, LimitPassed, StreamFault, OutOfMemory}
+use Rattle.bitfields.specs.declared.fault.Reason.TheVariants.{BadArguments, TooManyFields, BadLayout, ValueMissing, ValueMisspelt, ValueDoesNotFit, ValueLeftOver, BitsEnded, ConstantDiffers, LimitPassed, PaddingNotZero, BytesLeftOver, StreamFault, OutOfMemory}
 use Rattle.bitfields.specs.declared.fault.Fault.{Fault}
 
 -- the status that the program ends with
@@ -19,6 +19,8 @@ reason_status ValueLeftOver = 3
 reason_status BitsEnded = 4
 reason_status ConstantDiffers = 4
 reason_status LimitPassed = 4
+reason_status PaddingNotZero = 4
+reason_status BytesLeftOver = 4
 reason_status StreamFault = 5
 reason_status OutOfMemory = 5
 
@@ -43,6 +45,8 @@ reason_text ValueLeftOver = codes "value left over"
 reason_text BitsEnded = codes "bits ended"
 reason_text ConstantDiffers = codes "constant differs"
 reason_text LimitPassed = codes "limit passed"
+reason_text PaddingNotZero = codes "padding not zero"
+reason_text BytesLeftOver = codes "bytes left over"
 reason_text StreamFault = codes "stream fault"
 reason_text OutOfMemory = codes "out of memory"
 

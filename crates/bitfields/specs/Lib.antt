@@ -3,6 +3,7 @@ pub mod Decimal
 pub mod Fault
 pub mod Layout
 pub mod Packing
+pub mod Repacking
 pub mod Run
 pub mod Size
 pub mod Streams

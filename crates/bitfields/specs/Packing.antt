@@ -91,6 +91,12 @@ pub record PackingRefused (may : Refusal → Type 0) (o : Order) (fields : List 
   pub begins : packed o fields vs 0 ≡ bits o bytes ++ rest
   pub after : new ≡ refusal.after
 
+-- values were packed, or the stream refused a request
+abbrev pub PacksValues : {W : Type 0} → (W → Option (List ℕ)) → (Refusal → Type 0) → Order → List Field
+    → List FieldValue → W → Result (Unit {0}) Fault → W → Type 0
+PacksValues contents may o fields vs old (Ok done) new = PackedBytes o fields vs (contents old) (contents new)
+PacksValues contents may o fields vs old (Err f) new = PackingRefused may o fields vs (contents old) f (contents new)
+
 -- The values were packed, or the first fault of the input was answered and the stream is as it was. Else memory was
 -- refused and the stream is as it was, or the stream refused a request.
 abbrev pub Packs : {W : Type 0} → (W → Option (List ℕ)) → (Refusal → Type 0) → Order → List Field

@@ -10,11 +10,12 @@ use Rattle.bitfields.specs.declared.fault.Fault.{Fault}
 use Rattle.bitfields.specs.declared.field.Field.{Field}
 use Rattle.bitfields.specs.declared.field_value.FieldValue.{FieldValue}
 use Rattle.bitfields.specs.declared.run.Command.{Command}
-use Rattle.bitfields.specs.declared.run.Command.TheVariants.{Pack, Unpack, Size}
+use Rattle.bitfields.specs.declared.run.Command.TheVariants.{Pack, Unpack, Size, Repack}
 use Rattle.bitfields.specs.Call.{Request}
 use Rattle.bitfields.specs.Fault.{fault, fault_line}
 use Rattle.bitfields.specs.Layout.{IsUnlessMemory, layout_of}
 use Rattle.bitfields.specs.Packing.{PackedBytes, PackingRefused}
+use Rattle.bitfields.specs.Repacking.{RepackedBytes, RepackingFault}
 use Rattle.bitfields.specs.Size.{size_of}
 use Rattle.bitfields.specs.Streams.{InputStream, OutputStream, ReadToEnd, RefusedInput, RefusedOutput, Flushed}
 use Rattle.bitfields.specs.Unpacking.{UnpackedBytes, UnpacksBytes}
@@ -112,6 +113,32 @@ UnpacksInput I O o fields input output (Ok done) input_after output_after =
 UnpacksInput I O o fields input output (Err f) input_after output_after =
     UnpackingFault I O o fields input output f input_after output_after
 
+-- ---- repacking
+
+-- the input was repacked, and the output was flushed behind the bytes
+pub record RepackedInput {R W : Type 0} (I : InputStream R) (O : OutputStream W) (o : Order) (fields : List Field)
+    (input : R) (output : W) (input_after : R) (output_after : W) : Type 0 where
+  pub filled : W
+  pub repacks : RepackedBytes I.remaining I.refuses O.contents o fields input output input_after filled
+  pub flushed : Flushed O filled output_after
+
+-- Why an input was not repacked, or the flush behind the bytes was refused.
+pub data RepackedFault {R W : Type 0} (I : InputStream R) (O : OutputStream W) (o : Order) (fields : List Field)
+    (input : R) (output : W) (f : Fault) (input_after : R) (output_after : W) : Type 0 where
+  not_repacked :
+      RepackingFault I.remaining I.refuses O.contents (MayRefuse O.contents O.refuses) o fields input output f
+      input_after output_after → RepackedFault I O o fields input output f input_after output_after
+  unflushed : (filled : W) → RepackedBytes I.remaining I.refuses O.contents o fields input output input_after filled
+      → RefusedOutput O filled 0 f output_after → RepackedFault I O o fields input output f input_after output_after
+
+-- repacking an input
+abbrev pub RepacksInput : {R W : Type 0} → InputStream R → OutputStream W → Order → List Field → R → W
+    → Result (Unit {0}) Fault → R → W → Type 0
+RepacksInput I O o fields input output (Ok done) input_after output_after =
+    RepackedInput I O o fields input output input_after output_after
+RepacksInput I O o fields input output (Err f) input_after output_after =
+    RepackedFault I O o fields input output f input_after output_after
+
 -- ---- sizes
 
 -- the line of the values' size
@@ -164,6 +191,7 @@ abbrev pub Performs : {R W : Type 0} → InputStream R → OutputStream W → Co
 Performs I O Pack = PacksInput I O
 Performs I O Unpack = UnpacksInput I O
 Performs I O Size = SizesInput I O
+Performs I O Repack = RepacksInput I O
 
 -- memory was refused before a stream was touched
 abbrev pub IsMemoryRefused : {R W : Type 0} → R → W → Result (Unit {0}) Fault → R → W → Type 0

@@ -72,6 +72,10 @@ abbrev pub asks_memory : Field → Bool
 asks_memory (Bytes n) = true
 asks_memory field = false
 
+-- the read call of each field, in an order of bits
+abbrev pub FieldCalls : Type 0
+FieldCalls = Order → Field → ReadEntry (Result (Option FieldValue) Reason)
+
 -- what the answers of the fields' read calls come to; the fields are numbered from k on
 abbrev pub answered : ℕ → List Field → ℕ → List (Result (Result (Option FieldValue) Reason) Error × ℕ) → Unpacked
 answered k [] at answers = Unpacks [] at
@@ -81,9 +85,13 @@ answered k (field ∷ fields) at ((Ok (Ok v), next) ∷ answers) =
 answered k (field ∷ fields) at ((Ok (Err why), next) ∷ answers) = Stops (fault k why)
 answered k (field ∷ fields) at ((Err e, next) ∷ answers) = Stops (fault k (read_reason e))
 
+-- what the bits from a place on say for fields, which are numbered from k on, by the fields' read calls
+abbrev pub says_by : FieldCalls → Order → ℕ → List Field → ℕ → List Bool → Unpacked
+says_by calls o k fields at bits = answered k fields at (read_run (map (calls o) fields) at bits)
+
 -- what the bits from a place on say for fields, which are numbered from k on
 abbrev pub unpacked : Order → ℕ → List Field → ℕ → List Bool → Unpacked
-unpacked o k fields at bits = answered k fields at (read_run (map (field_read o) fields) at bits)
+unpacked o k fields at bits = says_by field_read o k fields at bits
 
 -- ---- from a reader
 
@@ -93,14 +101,15 @@ behind vs (Ok ws) = Ok (vs ++ ws)
 behind vs (Err f) = Err f
 
 -- the read call of a field, which answers the field's value, if it has one, or the reason for an error
-abbrev pub ReadsField : {R : Type 0} → BitSource R → Field → R → Result (Option FieldValue) Reason → R → Type 0
-ReadsField K field old result new = ReadsOwn K IsReadReason (field_read K.order field) old result new
+abbrev pub ReadsField : {R : Type 0} → FieldCalls → BitSource R → Field → R → Result (Option FieldValue) Reason → R
+    → Type 0
+ReadsField calls K field old result new = ReadsOwn K IsReadReason (calls K.order field) old result new
 
--- A field's value was read, and memory for its line was refused.
-pub record LineRefused {R : Type 0} (K : BitSource R) (k : ℕ) (field : Field) (old : R)
+-- A field's value was read, and memory for it, or for its line, was refused.
+pub record LineRefused {R : Type 0} (calls : FieldCalls) (K : BitSource R) (k : ℕ) (field : Field) (old : R)
     (result : Result (List FieldValue) Fault) (new : R) : Type 0 where
   pub value : FieldValue
-  pub reads : ReadsField K field old (Ok (Some value)) new
+  pub reads : ReadsField calls K field old (Ok (Some value)) new
   pub answer : result ≡ Err (fault k OutOfMemory)
 
 -- Memory for a field's bytes was refused before they were read. The reader is as it was.
@@ -110,26 +119,28 @@ pub record BufferRefused {R : Type 0} (k : ℕ) (field : Field) (old : R) (resul
   pub same : new ≡ old
   pub answer : result ≡ Err (fault k OutOfMemory)
 
--- memory was refused for a field's line, or for its bytes
-abbrev pub MemoryRefused : {R : Type 0} → BitSource R → ℕ → Field → R → Result (List FieldValue) Fault → R → Type 0
-MemoryRefused K k field old result new = LineRefused K k field old result new ⊎ BufferRefused k field old result new
+-- memory was refused for a field's value or line, or for its bytes
+abbrev pub MemoryRefused : {R : Type 0} → FieldCalls → BitSource R → ℕ → Field → R → Result (List FieldValue) Fault → R
+    → Type 0
+MemoryRefused calls K k field old result new =
+    LineRefused calls K k field old result new ⊎ BufferRefused k field old result new
 
 -- a field's read call answered a reason
-pub record AnswersReason {R : Type 0} (K : BitSource R) (k : ℕ) (field : Field) (old : R)
+pub record AnswersReason {R : Type 0} (calls : FieldCalls) (K : BitSource R) (k : ℕ) (field : Field) (old : R)
     (result : Result (List FieldValue) Fault) (new : R) : Type 0 where
   pub why : Reason
-  pub reads : ReadsField K field old (Err why) new
+  pub reads : ReadsField calls K field old (Err why) new
   pub answer : result ≡ Err (fault k why)
 
 -- The read calls of fields, which are numbered from k on, in order: the values that they answer, up to the first that
 -- answers a reason or for which memory was refused. Of no fields, nothing at all.
-unfoldable pub ReadsFields : {R : Type 0} → BitSource R → ℕ → List Field → R → Result (List FieldValue) Fault → R
-    → Type 0
-ReadsFields K k [] old result new = (result ≡ Ok []) × (new ≡ old)
-ReadsFields {R} K k (field ∷ fields) old result new =
-    MemoryRefused K k field old result new ⊎ AnswersReason K k field old result new
+unfoldable pub ReadsFields : {R : Type 0} → FieldCalls → BitSource R → ℕ → List Field → R
+    → Result (List FieldValue) Fault → R → Type 0
+ReadsFields calls K k [] old result new = (result ≡ Ok []) × (new ≡ old)
+ReadsFields {R} calls K k (field ∷ fields) old result new =
+    MemoryRefused calls K k field old result new ⊎ AnswersReason calls K k field old result new
     ⊎ ((v : Option FieldValue) × (mid : R) × (rest : Result (List FieldValue) Fault)
-    × ReadsField K field old (Ok v) mid × ReadsFields K (k + 1) fields mid rest new
+    × ReadsField calls K field old (Ok v) mid × ReadsFields calls K (k + 1) fields mid rest new
     × (result ≡ behind (value_list v) rest))
 
 -- the lines of values, or the fault
@@ -141,7 +152,7 @@ in_lines (Err f) = Err f
 pub record ReadsLines {R : Type 0} (K : BitSource R) (fields : List Field) (old : R)
     (result : Result (List ℕ) Fault) (new : R) : Type 0 where
   pub answer : Result (List FieldValue) Fault
-  pub reads : ReadsFields K 1 fields old answer new
+  pub reads : ReadsFields field_read K 1 fields old answer new
   pub prints : result ≡ in_lines answer
 
 -- ---- from a stream
@@ -150,6 +161,14 @@ pub record ReadsLines {R : Type 0} (K : BitSource R) (fields : List Field) (old 
 pub record TakesLeastBytes (known : Option (List ℕ)) (gone : List ℕ) (len : ℕ) (after : Option (List ℕ)) : Type 0 where
   pub loses : Consumes known after gone
   pub least : (8 * length gone < len + 8) × (len ≤ 8 * length gone)
+
+-- A stream lost as many bytes as the fields' bits reach into; these say the values, whatever follows them.
+pub record SaidValues (calls : FieldCalls) (o : Order) (fields : List Field) (old : Option (List ℕ))
+    (values : List FieldValue) (new : Option (List ℕ)) : Type 0 where
+  pub gone : List ℕ
+  pub len : ℕ
+  pub taken : TakesLeastBytes old gone len new
+  pub says : (more : List Bool) → says_by calls o 1 fields 0 (bits o gone ++ more) ≡ Unpacks values len
 
 -- A stream lost as many bytes as the fields' bits reach into; these say the values whose lines are printed, whatever
 -- follows them.
@@ -163,16 +182,16 @@ pub record UnpackedBytes (o : Order) (fields : List Field) (old : Option (List �
   pub prints : text ≡ printed_lines values
 
 -- The bytes taken say the fault.
-pub record ToldBytes (o : Order) (fields : List Field) (old : Option (List ℕ)) (f : Fault) (new : Option (List ℕ)) :
-    Type 0 where
+pub record ToldBytes (calls : FieldCalls) (o : Order) (fields : List Field) (old : Option (List ℕ)) (f : Fault)
+    (new : Option (List ℕ)) : Type 0 where
   pub gone : List ℕ
   pub len : ℕ
   pub taken : TakesLeastBytes old gone len new
-  pub says : (more : List Bool) → unpacked o 1 fields 0 (bits o gone ++ more) ≡ Stops f
+  pub says : (more : List Bool) → says_by calls o 1 fields 0 (bits o gone ++ more) ≡ Stops f
 
--- Memory for the line of a field was refused. The bytes taken hold that field's bits and those of the fields before it,
--- and no more.
-pub record LineRefusedBytes (o : Order) (fields : List Field) (old : Option (List ℕ)) (f : Fault)
+-- Memory for the value of a field, or for its line, was refused. The bytes taken hold that field's bits and those of
+-- the fields before it, and no more.
+pub record LineRefusedBytes (calls : FieldCalls) (o : Order) (fields : List Field) (old : Option (List ℕ)) (f : Fault)
     (new : Option (List ℕ)) : Type 0 where
   pub front : List Field
   pub here : Field
@@ -184,12 +203,12 @@ pub record LineRefusedBytes (o : Order) (fields : List Field) (old : Option (Lis
   pub taken : TakesLeastBytes old gone len new
   pub values : List FieldValue
   pub at : ℕ
-  pub before : unpacked o 1 front 0 (bits o gone) ≡ Unpacks values at
+  pub before : says_by calls o 1 front 0 (bits o gone) ≡ Unpacks values at
   pub value : FieldValue
-  pub says : unpacked o 1 (front ++ here ∷ []) 0 (bits o gone) ≡ Unpacks (values ++ value ∷ []) len
+  pub says : says_by calls o 1 (front ++ here ∷ []) 0 (bits o gone) ≡ Unpacks (values ++ value ∷ []) len
 
 -- Memory for the bytes of a field was refused. The bytes taken hold the bits of the fields before it, and no more.
-pub record BufferRefusedBytes (o : Order) (fields : List Field) (old : Option (List ℕ)) (f : Fault)
+pub record BufferRefusedBytes (calls : FieldCalls) (o : Order) (fields : List Field) (old : Option (List ℕ)) (f : Fault)
     (new : Option (List ℕ)) : Type 0 where
   pub front : List Field
   pub here : Field
@@ -201,16 +220,17 @@ pub record BufferRefusedBytes (o : Order) (fields : List Field) (old : Option (L
   pub len : ℕ
   pub taken : TakesLeastBytes old gone len new
   pub values : List FieldValue
-  pub before : unpacked o 1 front 0 (bits o gone) ≡ Unpacks values len
+  pub before : says_by calls o 1 front 0 (bits o gone) ≡ Unpacks values len
 
--- memory was refused for the line of a field, or for its bytes
-abbrev pub MemoryRefusedBytes : Order → List Field → Option (List ℕ) → Fault → Option (List ℕ) → Type 0
-MemoryRefusedBytes o fields old f new = LineRefusedBytes o fields old f new ⊎ BufferRefusedBytes o fields old f new
+-- memory was refused for the value or the line of a field, or for its bytes
+abbrev pub MemoryRefusedBytes : FieldCalls → Order → List Field → Option (List ℕ) → Fault → Option (List ℕ) → Type 0
+MemoryRefusedBytes calls o fields old f new =
+    LineRefusedBytes calls o fields old f new ⊎ BufferRefusedBytes calls o fields old f new
 
 -- The stream refused a request for a field, as it may refuse. The bytes taken before end within that field, and the
 -- stream is as the refusal left it. If that was a true end, all bytes of the stream end within that field.
-pub record UnpackingRefused (may : Refusal → Type 0) (o : Order) (fields : List Field) (old : Option (List ℕ))
-    (f : Fault) (new : Option (List ℕ)) : Type 0 where
+pub record UnpackingRefused (calls : FieldCalls) (may : Refusal → Type 0) (o : Order) (fields : List Field)
+    (old : Option (List ℕ)) (f : Fault) (new : Option (List ℕ)) : Type 0 where
   pub field : ℕ
   pub refusal : Refusal
   pub allowed : may refusal
@@ -218,16 +238,21 @@ pub record UnpackingRefused (may : Refusal → Type 0) (o : Order) (fields : Lis
   pub gone : List ℕ
   pub loses : Consumes old refusal.before gone
   pub after : new ≡ refusal.after
-  pub stops : unpacked o 1 fields 0 (bits o gone) ≡ Stops (fault field BitsEnded)
-  pub ended : IsTrueEnd refusal → (xs : List ℕ) → old ≡ Some xs → unpacked o 1 fields 0 (bits o xs) ≡ Stops f
+  pub stops : says_by calls o 1 fields 0 (bits o gone) ≡ Stops (fault field BitsEnded)
+  pub ended : IsTrueEnd refusal → (xs : List ℕ) → old ≡ Some xs → says_by calls o 1 fields 0 (bits o xs) ≡ Stops f
+
+-- why fields are not read from a stream's bytes: the bytes say it, or memory or a request was refused
+abbrev pub FieldsFault : FieldCalls → (Refusal → Type 0) → Order → List Field → Option (List ℕ) → Fault
+    → Option (List ℕ) → Type 0
+FieldsFault calls may o fields old f new =
+    ToldBytes calls o fields old f new ⊎ MemoryRefusedBytes calls o fields old f new
+    ⊎ UnpackingRefused calls may o fields old f new
 
 -- fields, read from a stream's bytes: the lines of their values, or the fault
 abbrev pub UnpacksBytes : {R : Type 0} → (R → Option (List ℕ)) → (Refusal → Type 0) → Order → List Field → R
     → Result (List ℕ) Fault → R → Type 0
 UnpacksBytes known may o fields old (Ok text) new = UnpackedBytes o fields (known old) text (known new)
-UnpacksBytes known may o fields old (Err f) new =
-    ToldBytes o fields (known old) f (known new) ⊎ MemoryRefusedBytes o fields (known old) f (known new)
-    ⊎ UnpackingRefused may o fields (known old) f (known new)
+UnpacksBytes known may o fields old (Err f) new = FieldsFault field_read may o fields (known old) f (known new)
 
 -- all bytes of a stream say the values whose lines are printed
 pub record SaidBytes (o : Order) (fields : List Field) (xs text : List ℕ) : Type 0 where

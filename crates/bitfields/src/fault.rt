@@ -31,6 +31,11 @@ pub enum Reason {
     ConstantDiffers,
     /// A variable-width word or a unary run passes its limit.
     LimitPassed,
+    /// Bits of a padding or an alignment are not all 0. Only packed bytes that are repacked are
+    /// asked for that.
+    PaddingNotZero,
+    /// A byte stands behind the last field's. Only packed bytes that are repacked may not have one.
+    BytesLeftOver,
     /// A stream refused a request.
     StreamFault,
     /// Memory was refused.
@@ -103,7 +108,11 @@ impl Reason {
             | Reason::ValueMisspelt
             | Reason::ValueDoesNotFit
             | Reason::ValueLeftOver => 3,
-            Reason::BitsEnded | Reason::ConstantDiffers | Reason::LimitPassed => 4,
+            Reason::BitsEnded
+            | Reason::ConstantDiffers
+            | Reason::LimitPassed
+            | Reason::PaddingNotZero
+            | Reason::BytesLeftOver => 4,
             Reason::StreamFault | Reason::OutOfMemory => 5,
         }
     }
@@ -123,6 +132,8 @@ impl Reason {
             Reason::BitsEnded => "bits ended",
             Reason::ConstantDiffers => "constant differs",
             Reason::LimitPassed => "limit passed",
+            Reason::PaddingNotZero => "padding not zero",
+            Reason::BytesLeftOver => "bytes left over",
             Reason::StreamFault => "stream fault",
             Reason::OutOfMemory => "out of memory",
         }

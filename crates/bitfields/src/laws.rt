@@ -11,6 +11,7 @@ ghost use Rattle.bitstream_io.specs.WriteTable.{align};
 ghost use Rattle.bitfields.specs.Fault.{fault};
 ghost use Rattle.bitfields.specs.Layout.{layout_of, layout_text, IsField, IsLayout};
 ghost use Rattle.bitfields.specs.Packing.{packed, field_word, field_writes};
+ghost use Rattle.bitfields.specs.Repacking.{HasOneWord, repacked};
 ghost use Rattle.bitfields.specs.Size.{size_of};
 ghost use Rattle.bitfields.specs.Unpacking.{unpacked, Unpacks, Stops, values_and, field_read, read_reason, answered};
 ghost use Rattle.bitfields.specs.Value.{lines, values, printed_lines, ended_lines, value_count, value_list, Fit, FitsField};
@@ -147,4 +148,16 @@ pub fn unpacking_goes_by_fields()
     ensures few_for_constant { (o : Order) (k n v : ℕ) (fields : List Field) (at : ℕ) (bits : List Bool)
         → n ≤ 32 → length bits < n
         → unpacked o k (Field.Constant n v ∷ fields) at bits ≡ Stops (fault k Reason.BitsEnded) }
+{}
+
+/// What repacking accepts of a layout whose values have one word each is exactly what packing writes
+/// for some input.
+pub fn repacked_bytes_are_packed()
+    ensures packed { (o : Order) (fields : List Field) (bytes : List ℕ) (vs : List FieldValue)
+        → IsLayout fields → All HasOneWord fields
+        → repacked o fields (bits o bytes) ≡ Unpacks vs (8 * length bytes)
+        → (input : List ℕ) × (values 1 fields (lines input) ≡ Ok vs) × (bits o bytes ≡ packed o fields vs 0) }
+    ensures repacked { (o : Order) (fields : List Field) (bytes input : List ℕ) (vs : List FieldValue)
+        → IsLayout fields → values 1 fields (lines input) ≡ Ok vs → bits o bytes ≡ packed o fields vs 0
+        → repacked o fields (bits o bytes) ≡ Unpacks vs (8 * length bytes) }
 {}

@@ -1,7 +1,8 @@
-//! Packs decimal values into bit fields, counts their bits, and unpacks bit fields into decimal values.
+//! Packs decimal values into bit fields, counts their bits, unpacks bit fields into decimal values, and repacks them.
 #![tactic(auto)]
 
 mod decimal;
+mod exact;
 mod fault;
 mod fault_line;
 mod field;
@@ -13,6 +14,7 @@ mod lines;
 mod packing;
 #[cfg(test)]
 mod r01_first_path;
+mod repacking;
 mod run;
 mod size;
 mod unpacking;

@@ -5,7 +5,7 @@ ghost use Rattle.bitstream_io.specs.Refusal.{MayRefuse};
 ghost use Rattle.bitstream_io.specs.Sink.{Writes, WritesAll};
 ghost use Rattle.bitstream_io.specs.WriteTable.{align, unary_word, vbr, signed_vbr};
 ghost use Rattle.bitfields.specs.Layout.{group_bits};
-ghost use Rattle.bitfields.specs.Packing.{field_write, field_writes, packed, WritesBits, write_reason as write_reason_of, Packs};
+ghost use Rattle.bitfields.specs.Packing.{field_write, field_writes, packed, WritesBits, write_reason as write_reason_of, Packs, PacksValues};
 ghost use Rattle.bitfields.specs.Value.{lines as lines_of, values as values_of, FitsField, Fit};
 
 use crate::fault::{Fault, Reason};
@@ -34,8 +34,27 @@ pub fn pack<E: Endianness, W: Target>(
         (values_of 1 layout.now (lines_of input.now)) output.old result output.new }
 {
     let values = values(alloc, layout, input)?;
+    pack_values::<E, W>(layout, &values, output)
+}
+
+/// Packs values that fit a layout: writes the bytes of the fields' words, the last of them filled
+/// with zeros.
+///
+/// # Errors
+///
+/// `StreamFault` or `OutOfMemory` (field 0), as the stream refuses; the stream is as the refusal left
+/// it.
+pub fn pack_values<E: Endianness, W: Target>(
+    layout: &Layout,
+    values: &[FieldValue],
+    output: &mut W,
+) -> Result<(), Fault>
+    requires fit { Fit layout.now values.now }
+    ensures { PacksValues W.contents (MayRefuse W.contents W.refuses) E.order layout.now values.now
+        output.old result output.new }
+{
     let mut writer = BitWriter::<Lent<W>, E>::new(Lent::new(output));
-    match pack_to(layout, &values, &mut writer) {
+    match pack_to(layout, values, &mut writer) {
         Ok(()) => Ok(()),
         Err(error) => Err(Fault::new(0, write_reason(error))),
     }

@@ -31,7 +31,7 @@ const FOUR_VALUES: &[u8] = b"5\n4\n8\n-3\n";
 /// By the table of fields: 3 bits, 5 up to a whole byte, 4 and the stop bit, two groups of 4, one group.
 const SIZED: Row = Row("size be u3,a,n1,v4,s4", b"5\n4\n8\n-3\n", b"25\n", "", 0);
 
-const ROWS: [Row; 16] = [
+const ROWS: [Row; 15] = [
     PACKED,
     Row("pack le u2,u3,u5,u3,u19", b"1\n4\n13\n3\n395743", D, "", 0),
     Row("pack be u4,a,u8", b"15\n1\n", &[0xf0, 0x01], "", 0),
@@ -65,7 +65,6 @@ const ROWS: [Row; 16] = [
     Row("pack be u8", b"", b"", "1: value missing", 3),
     Row("pack be u8", b"5\r\n", b"", "1: value misspelt", 3),
     Row("pack xe u8", b"", b"", "0: bad arguments", 2),
-    Row("repack be u8", b"1\n", b"", "0: bad arguments", 2),
 ];
 
 /// Values of each kind, and the lines that spell them.
@@ -465,6 +464,90 @@ const REDUNDANT: [Row; 16] = [
     Row("size be l4,l8", b"8\n0\n", b"16\n", "", 0),
 ];
 
+/// The bytes of values of five kinds, and of two bytes, in either order of bits.
+const FIVE_HIGH: &[u8] = &[0xa0, 0x0c, 0x0a, 0x80, 0xff, 0x80];
+
+const FIVE_LOW: &[u8] = &[0x05, 0x10, 0xa3, 0x02, 0xfe, 0x01];
+
+const REPACKED: Row = Row("repack be u2,u3,u5,u3,u19", D, D, "", 0);
+
+const REPACKINGS: [Row; 34] = [
+    REPACKED,
+    Row("repack le u2,u3,u5,u3,u19", D, D, "", 0),
+    Row("repack be u3,a,n1,v4,s4,b2", FIVE_HIGH, FIVE_HIGH, "", 0),
+    Row(
+        "repack be u3,a,n1,v4,s4,b2",
+        &[0xa1, 0x0c, 0x0a, 0x80, 0xff, 0x80],
+        b"",
+        "2: padding not zero",
+        4,
+    ),
+    Row(
+        "repack be u3,a,n1,v4,s4,b2",
+        &[0xa0, 0x0c, 0x0a, 0x80, 0xff, 0x81],
+        b"",
+        "0: padding not zero",
+        4,
+    ),
+    Row(
+        "repack be u3,a,n1,v4,s4,b2",
+        &[0xa0, 0x0c, 0x0a, 0x80, 0xff, 0x80, 0x00],
+        b"",
+        "0: bytes left over",
+        4,
+    ),
+    Row(
+        "repack be u3,a,n1,v4,s4,b2",
+        &[0xa0, 0x0c, 0x0a, 0x80, 0xff],
+        b"",
+        "6: bits ended",
+        4,
+    ),
+    Row("repack le u3,a,n1,v4,s4,b2", FIVE_LOW, FIVE_LOW, "", 0),
+    Row("repack be p4,u4", &[0x05], &[0x05], "", 0),
+    Row("repack be p4,u4", &[0x15], b"", "1: padding not zero", 4),
+    Row("repack be l4", &[0x80], &[0x00], "", 0),
+    Row("repack be a", b"", b"", "", 0),
+    Row("repack be a", &[0x00], b"", "0: bytes left over", 4),
+    Row("repack be u8", b"", b"", "1: bits ended", 4),
+    Row("repack be u8", b"1\n", b"", "0: bytes left over", 4),
+    Row("repack be v4", &[0x80], b"", "1: limit passed", 4),
+    Row("repack be l8", &[0x80, 0x00], &[0x00], "", 0),
+    Row("repack be v8", &[0xac, 0x02], &[0xac, 0x02], "", 0),
+    Row("repack be c3=5,p5", &[0xa0], &[0xa0], "", 0),
+    Row("repack be c3=5,p5", &[0xa8], b"", "2: padding not zero", 4),
+    Row("repack be c3=5,p5", &[0x80], b"", "1: constant differs", 4),
+    Row("repack be u4,a", &[0x1f], b"", "2: padding not zero", 4),
+    Row("repack be u4", &[0x1f], b"", "0: padding not zero", 4),
+    Row("repack le u4,a", &[0xf1], b"", "2: padding not zero", 4),
+    Row("repack le u4", &[0x0f], &[0x0f], "", 0),
+    // A padding that is not zero comes before the byte left over, and behind bits that ended.
+    Row("repack be u7", &[0x01, 0x00], b"", "0: padding not zero", 4),
+    Row("repack be p9", &[0x80], b"", "1: bits ended", 4),
+    Row("repack be p130,u6", &[0x00; 17], &[0x00; 17], "", 0),
+    Row("repack be p136", &[0xff; 16], b"", "1: bits ended", 4),
+    Row(
+        "repack be p128,p8",
+        PAST_WORD,
+        b"",
+        "2: padding not zero",
+        4,
+    ),
+    Row("repack be p136", PAST_WORD, b"", "1: padding not zero", 4),
+    Row("repack xe u8", b"1", b"", "0: bad arguments", 2),
+    Row("repack be u129", b"1", b"", "1: bad layout", 2),
+    Row(
+        "repack be i8,n1,a,b1",
+        &[0xff, 0x08, 0x2a],
+        &[0xff, 0x08, 0x2a],
+        "",
+        0,
+    ),
+];
+
+/// 128 bits that are 0, and then some of which one is not.
+const PAST_WORD: &[u8] = &[0, 0, 0, 0, 0, 0, 0, 0, 0, 0, 0, 0, 0, 0, 0, 0, 0x01];
+
 /// Which request of each stream is refused, if any: the first is 0. Each later one is served again.
 #[derive(Clone, Copy, Drop)]
 struct Refused {
@@ -602,6 +685,14 @@ fn r15_redundant(rt: HostRuntime) -> Result<(), Fail> {
 }
 
 #[test]
+fn r16_repack(rt: HostRuntime) -> Result<(), Fail> {
+    for row in &REPACKINGS {
+        assert!(rt; is_right(rt.alloc(), row)?, "{} of {:?}", row.0, row.1);
+    }
+    Ok(())
+}
+
+#[test]
 fn constants(rt: HostRuntime) -> Result<(), Fail> {
     for row in &CONSTANTS {
         assert!(rt; is_right(rt.alloc(), row)?, "{}", row.0);
@@ -665,7 +756,7 @@ enum Refusing {
 #[derive(Drop)]
 struct Refusal(Row, Refusing, usize, usize, (u64, u64, u64));
 
-const REFUSALS: [Refusal; 14] = [
+const REFUSALS: [Refusal; 21] = [
     // Reading to the end takes one request for the bytes and one that finds the end.
     Refusal(PACKED, Refusing::Input(0), 0, 0, (1, 0, 1)),
     Refusal(PACKED, Refusing::Input(1), 0, 0, (2, 0, 1)),
@@ -685,6 +776,14 @@ const REFUSALS: [Refusal; 14] = [
     Refusal(SIZED, Refusing::Input(1), 0, 0, (2, 0, 1)),
     Refusal(SIZED, Refusing::Output(0), 0, 0, (2, 1, 1)),
     Refusal(SIZED, Refusing::Output(1), 0, 3, (2, 2, 1)),
+    // The fields are read, then one byte more is asked for, and nothing was written before.
+    Refusal(REPACKED, Refusing::Input(0), 1, 0, (1, 0, 1)),
+    Refusal(REPACKED, Refusing::Input(1), 3, 0, (2, 0, 1)),
+    Refusal(REPACKED, Refusing::Input(2), 5, 0, (3, 0, 1)),
+    Refusal(REPACKED, Refusing::Input(3), 0, 0, (4, 0, 1)),
+    Refusal(REPACKED, Refusing::Output(0), 0, 0, (4, 1, 1)),
+    Refusal(REPACKED, Refusing::Output(1), 0, 1, (4, 2, 1)),
+    Refusal(REPACKED, Refusing::Output(2), 0, 4, (4, 3, 1)),
 ];
 
 /// The kinds of refusals that are tried, with their reason.
@@ -759,7 +858,9 @@ fn asks_for_no_byte_more(rt: HostRuntime) -> Result<(), Fail> {
         ("unpack le a", D, 4, (0, 2, 0)),
         ("pack be u8,v5", D, 4, (0, 0, 1)),
         (SIZED.0, SIZED.1, 0, (2, 2, 0)),
-        ("repack be u8", D, 4, (0, 0, 1)),
+        ("repack be u8", D, 2, (2, 0, 1)),
+        (REPACKED.0, REPACKED.1, 0, (4, 3, 0)),
+        ("repack be u7", D, 3, (1, 0, 1)),
     ] {
         let ended = play(alloc, words, bytes, false, NONE)?;
         assert_eq!(rt; (ended.left, ended.requests), (left, requests), "{words}");

@@ -5,7 +5,7 @@ ghost use Rattle.std.specs.Fmt.{decimal};
 ghost use Rattle.bitstream_io.specs.Word.{Order};
 ghost use Rattle.bitfields.specs.Call.{bit_order, command_of, order_of, request_of};
 ghost use Rattle.bitfields.specs.Layout.{layout_of};
-ghost use Rattle.bitfields.specs.Run.{Calls, Follows, PacksInput, Performs, Reports, Runs, SizesInput, UnpacksInput};
+ghost use Rattle.bitfields.specs.Run.{Calls, Follows, PacksInput, Performs, RepacksInput, Reports, Runs, SizesInput, UnpacksInput};
 ghost use Rattle.bitfields.specs.Streams.{input_stream, output_stream};
 
 use crate::fault::{Fault, Reason};
@@ -13,6 +13,7 @@ use crate::fault_line::FaultLine;
 use crate::input::Input;
 use crate::layout::{Layout, parse_layout};
 use crate::packing::pack;
+use crate::repacking::repack;
 use crate::size::size;
 use crate::unpacking::unpack;
 use bitstream_io::{BigEndian, Endianness, LittleEndian, Target};
@@ -24,6 +25,7 @@ pub enum Command {
     Pack,
     Unpack,
     Size,
+    Repack,
 }
 
 /// An order of bits, by its name in the arguments.
@@ -109,6 +111,7 @@ fn parse_command(word: &str) -> Option<Command>
         "pack" => Some(Command::Pack),
         "unpack" => Some(Command::Unpack),
         "size" => Some(Command::Size),
+        "repack" => Some(Command::Repack),
         _ => None,
     }
 }
@@ -157,6 +160,7 @@ fn perform<E: Endianness, R: Input, W: Target>(
         Command::Pack => pack_input::<E, R, W>(alloc, layout, input, output),
         Command::Unpack => unpack_input::<E, R, W>(alloc, layout, input, output),
         Command::Size => size_input(alloc, layout, input, output),
+        Command::Repack => repack_input::<E, R, W>(alloc, layout, input, output),
     }
 }
 
@@ -188,6 +192,21 @@ fn unpack_input<E: Endianness, R: Input, W: Target>(
 {
     let lines = unpack::<E, R>(alloc, layout, input)?;
     output.write_all(&lines)?;
+    output.flush()?;
+    Ok(())
+}
+
+fn repack_input<E: Endianness, R: Input, W: Target>(
+    alloc: Global,
+    layout: &Layout,
+    input: &mut R,
+    output: &mut W,
+) -> Result<(), Fault>
+    ensures { RepacksInput (input_stream R.remaining R.refuses R.refuses_rest)
+        (output_stream W.contents W.refuses W.flushes) E.order layout.now
+        input.old output.old result input.new output.new }
+{
+    repack::<E, R, W>(alloc, layout, input, output)?;
     output.flush()?;
     Ok(())
 }

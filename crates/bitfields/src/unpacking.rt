@@ -6,7 +6,7 @@ ghost use Rattle.bitstream_io.specs.Refusal.{MayRefuse, TrueEnds};
 ghost use Rattle.bitstream_io.specs.ReadTable.{unary_entry, vbr_entry, any_vbr_entry, signed_vbr_entry};
 ghost use Rattle.bitstream_io.specs.Reads.{Reads};
 ghost use Rattle.bitfields.specs.Layout.{group_bits};
-ghost use Rattle.bitfields.specs.Unpacking.{asks_memory, byte_count, read_reason as read_reason_of, IsSaid, ReadsField, ReadsLines, UnpacksBytes};
+ghost use Rattle.bitfields.specs.Unpacking.{asks_memory, byte_count, field_read, read_reason as read_reason_of, IsSaid, ReadsField, ReadsLines, UnpacksBytes};
 ghost use Rattle.bitfields.specs.Value.{value_list, printed_lines};
 
 use crate::fault::{Fault, Reason};
@@ -82,13 +82,13 @@ pub fn unpack_from<R: BitRead>(
 ///
 /// `ConstantDiffers` if the bits of a constant hold another number, whose bits are taken then. Else
 /// the reason for the reader's error.
-fn unpack_field<R: BitRead>(
+pub fn unpack_field<R: BitRead>(
     field: Field,
     mut room: Vec<u8>,
     reader: &mut R,
 ) -> Result<Option<FieldValue>, Reason>
     requires { length room.items ≡ byte_count field }
-    ensures { ReadsField R.source field reader.old result reader.new }
+    ensures { ReadsField field_read R.source field reader.old result reader.new }
 {
     match field {
         Field::Unsigned(width) => {
@@ -182,7 +182,7 @@ fn read_signed_groups<R: BitRead>(size: GroupSize, reader: &mut R) -> Result<i64
 /// # Errors
 ///
 /// If memory is refused.
-fn room_for(alloc: Global, field: Field) -> Result<Vec<u8>, AllocError>
+pub fn room_for(alloc: Global, field: Field) -> Result<Vec<u8>, AllocError>
     ensures room { IfOk result (λ room. length room.items ≡ byte_count field) }
     ensures asks { IsErr result → asks_memory field ≡ true }
 {

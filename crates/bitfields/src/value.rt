@@ -1,6 +1,6 @@
 //! The values that an input spells for the fields of a layout.
 
-ghost use Rattle.std.specs.Prelude.{◌≡◌, ◌+◌, ◌++◌, [], ◌∷◌, ◌^◌, ◌≤◌, length, drop, map, IfOk, OnOk, IsOkUnless};
+ghost use Rattle.std.specs.Prelude.{◌≡◌, ◌+◌, ◌++◌, [], ◌∷◌, ◌^◌, ◌≤◌, length, drop, map, IfOk, IsErr, IsSome, OnOk, IsOkUnless};
 ghost use Rattle.std.specs.List.{All};
 ghost use Rattle.bitfields.specs.Fault.{fault};
 ghost use Rattle.bitfields.specs.Layout.{IsField, IsLayout, IsUnlessMemory};
@@ -51,9 +51,15 @@ fn read_values(alloc: Global, fields: &[Field], lines: &[&[u8]]) -> Result<Vec<F
     Ok(values)
 }
 
-fn push_value(values: &mut Vec<FieldValue>, value: Option<FieldValue>) -> Result<(), Fault>
+/// Appends a field's value, if it has one.
+///
+/// # Errors
+///
+/// If memory is refused: `OutOfMemory` (field 0). No value is appended then.
+pub fn push_value(values: &mut Vec<FieldValue>, value: Option<FieldValue>) -> Result<(), Fault>
     ensures pushed { OnOk result (values.new.items ≡ values.old.items ++ value_list value) }
     ensures memory { IsOkUnless result (fault 0 Reason.OutOfMemory) }
+    ensures some { IsErr result → IsSome value }
 {
     if let Some(value) = value {
         values.push(value)?;

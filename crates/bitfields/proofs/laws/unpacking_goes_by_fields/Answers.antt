@@ -1,20 +1,21 @@
-use Rattle.bitfields.proofs.FieldCalls.{unpacked-word, unpacked-first, unpacked-told, unpacked-refused, unpacked-short, unpacked-number, unpacked-align, unpacked-constant, unpacked-differs, unpacked-few, unpacked-few_to_align, unpacked-few_for_constant}
+use Rattle.bitfields.specs.Unpacking.{field_read}
+use Rattle.bitfields.proofs.FieldCalls.{says-first, says-told, says-refused, says-short, unpacked-word, unpacked-number, unpacked-align, unpacked-constant, unpacked-differs, unpacked-few, unpacked-few_to_align, unpacked-few_for_constant}
 use Rattle.bitfields.proofs.laws.unpacking_goes_by_fields.Goals as goal
 
 pub returns-clause-word : goal.returns-clause-word
 returns-clause-word c = unpacked-word
 
 pub returns-clause-value : goal.returns-clause-value
-returns-clause-value c = unpacked-first
+returns-clause-value c = says-first field_read
 
 pub returns-clause-reason : goal.returns-clause-reason
-returns-clause-reason c = unpacked-told
+returns-clause-reason c = says-told field_read
 
 pub returns-clause-error : goal.returns-clause-error
-returns-clause-error c = unpacked-refused
+returns-clause-error c = says-refused field_read
 
 pub returns-clause-too_few : goal.returns-clause-too_few
-returns-clause-too_few c = unpacked-short
+returns-clause-too_few c = says-short field_read
 
 pub returns-clause-number : goal.returns-clause-number
 returns-clause-number c = unpacked-number

@@ -1,34 +1,15 @@
 use borrow.Author.Rules.{sfits_of}
-use Rattle.std.proofs.Common.{rules, ℕ, ◌≡◌, ◌∙◌, SFits, to_z, of_z, Option, Result, Ok, Err, Some, None, refl, length, arith}
+use Rattle.std.proofs.Common.{rules, ℕ, ◌≡◌, ◌∙◌, SFits, to_z, of_z, Option, Result, Ok, Err, Some, None, length, arith}
 use Rattle.std.specs.Prelude.{◌==◌, if◌then◌else◌}
 use Rattle.std.specs.Int.{w64, w128}
-use Rattle.std.specs.Result.{IsErrAnd}
 use Rattle.std.proofs.lemmas.Grind.{common_steps}
 use Rattle.std.proofs.lemmas.Int.{to_z-of_z}
-use Rattle.bitstream_io.specs.Error.{Error}
-use Rattle.bitstream_io.specs.Entry.{ReadEntry, chain, gives}
-use Rattle.bitstream_io.specs.Own.{ReadsOwn}
-use Rattle.bitstream_io.specs.Reads.{BitSource, Reads}
-use Rattle.bitstream_io.proofs.ReadsLemmas.{Reads-chain-ok, Reads-chain-err, Reads-gives}
 use Rattle.bitfields.specs.declared.fault.Reason.{Reason}
 use Rattle.bitfields.specs.declared.fault.Reason.TheVariants.{ConstantDiffers}
 use Rattle.bitfields.specs.declared.field_value.FieldValue.{FieldValue}
 use Rattle.bitfields.specs.declared.field_value.FieldValue.TheVariants as Value
-use Rattle.bitfields.specs.Unpacking.{IsReadReason}
+use Rattle.bitfields.proofs.FieldAnswers.{answers, stops}
 use Rattle.bitfields.proofs.unpacking.unpack_field.Goals as goal
-
--- a call answered, and f is made of its answer
-module _ {R A B : Type 0} {K : BitSource R} {e : ReadEntry A} (f : A → Result B Reason) {s t : R} where
-  answers : {a : A} → Reads K e s (Ok a) t → ReadsOwn K IsReadReason (chain e (λ v. gives (f v))) s (f a) t
-  answers {a = a} h = record {
-    plain = Ok (f a);
-    called = Reads-chain-ok e (λ v. gives (f v)) h (Reads-gives (f a) t);
-    answer = refl;
-  }
-
-  stops : {x : Error} {r : Result B Reason} → IsErrAnd r (IsReadReason x) → Reads K e s (Err x) t
-      → ReadsOwn K IsReadReason (chain e (λ v. gives (f v))) s r t
-  stops {x = x} is h = record { plain = Err x; called = Reads-chain-err e (λ v. gives (f v)) h; answer = is }
 
 -- what a constant answers of a number
 constant_of : ℕ → ℕ → Result (Option FieldValue) Reason

@@ -1,6 +1,6 @@
 use Rattle.std.proofs.Common.{◌≡◌, ◌≤◌, length, arith, ap, length-append}
 use Rattle.bitfields.specs.declared.fault.Reason.{Reason}
-use Rattle.bitfields.specs.declared.fault.Reason.TheVariants.{BadArguments, TooManyFields, BadLayout, ValueMissing, ValueMisspelt, ValueDoesNotFit, ValueLeftOver, BitsEnded, ConstantDiffers, LimitPassed, StreamFault, OutOfMemory}
+use Rattle.bitfields.specs.declared.fault.Reason.TheVariants.{BadArguments, TooManyFields, BadLayout, ValueMissing, ValueMisspelt, ValueDoesNotFit, ValueLeftOver, BitsEnded, ConstantDiffers, LimitPassed, PaddingNotZero, BytesLeftOver, StreamFault, OutOfMemory}
 use Rattle.bitfields.specs.Fault.{reason_text}
 use Rattle.bitfields.proofs.fault_line.FaultLine.of.Goals as goal
 
@@ -15,6 +15,8 @@ text ValueLeftOver = omega arith
 text BitsEnded = omega arith
 text ConstantDiffers = omega arith
 text LimitPassed = omega arith
+text PaddingNotZero = omega arith
+text BytesLeftOver = omega arith
 text StreamFault = omega arith
 text OutOfMemory = omega arith
 
