@@ -792,6 +792,40 @@ const KINDS: [(ErrorKind, &str); 2] = [
     (ErrorKind::OutOfMemory, "out of memory"),
 ];
 
+fn refused_at(refusing: Refusing, kind: ErrorKind) -> Refused {
+    match refusing {
+        Refusing::Input(at) => Refused {
+            input: Some(at),
+            kind,
+            ..NONE
+        },
+        Refusing::Output(at) => Refused {
+            output: Some(at),
+            kind,
+            ..NONE
+        },
+    }
+}
+
+/// Whether a row ends as it should if a request is refused. If the call makes it, the last line of its
+/// faults is a stream fault, nothing more is asked, and only a beginning of the row's bytes is written,
+/// or none at all if it was the input's request. If not, the row ends as ever.
+fn ends_at(alloc: Global, row: &Row, refusing: Refusing) -> Result<bool, AllocError> {
+    let refused = refused_at(refusing, ErrorKind::ConnectionReset);
+    let ended = play(alloc, row.0, row.1, false, refused)?;
+    let (input, output, _) = ended.requests;
+    let (is_made, is_last) = match refusing {
+        Refusing::Input(at) => (input > at as u64, input == at as u64 + 1 && output == 0),
+        Refusing::Output(at) => (output > at as u64, output == at as u64 + 1),
+    };
+    if !is_made {
+        return ends(alloc, &ended, row.4, row.2, row.3);
+    }
+    let is_front = row.2.starts_with(&ended.output) && (output > 0 || ended.output.is_empty());
+    let is_told = ended.status == 5 && ended.faults.ends_with(b": stream fault\n");
+    Ok(is_last && is_front && is_told)
+}
+
 /// Whether a call ends as it should if its request is refused with this kind.
 fn ends_refused(
     alloc: Global,
@@ -800,19 +834,7 @@ fn ends_refused(
     reason: &str,
 ) -> Result<bool, AllocError> {
     let Refusal(row, refusing, field, written, requests) = refusal;
-    let refused = match refusing {
-        Refusing::Input(at) => Refused {
-            input: Some(*at),
-            kind,
-            ..NONE
-        },
-        Refusing::Output(at) => Refused {
-            output: Some(*at),
-            kind,
-            ..NONE
-        },
-    };
-    let ended = play(alloc, row.0, row.1, false, refused)?;
+    let ended = play(alloc, row.0, row.1, false, refused_at(*refusing, kind))?;
     let fault = format!(in alloc; "{field}: {reason}")?;
     let front = row.2.get(..*written).unwrap_or(b"");
     Ok(ends(alloc, &ended, 5, front, fault.as_str())? && ended.requests == *requests)
@@ -824,6 +846,19 @@ fn asks_nothing_more_after_a_refusal(rt: HostRuntime) -> Result<(), Fail> {
         for (kind, reason) in KINDS {
             let is_right = ends_refused(rt.alloc(), refusal, kind, reason)?;
             assert!(rt; is_right, "refusal {at}, {reason}");
+        }
+    }
+    Ok(())
+}
+
+#[test]
+fn each_request_of_a_repacking_may_be_refused(rt: HostRuntime) -> Result<(), Fail> {
+    for row in &REPACKINGS {
+        for at in 0..8 {
+            for refusing in [Refusing::Input(at), Refusing::Output(at)] {
+                let is_right = ends_at(rt.alloc(), row, refusing)?;
+                assert!(rt; is_right, "{} of {:?}, request {at}", row.0, row.1);
+            }
         }
     }
     Ok(())
