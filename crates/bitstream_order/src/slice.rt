@@ -4,6 +4,7 @@ ghost use Rattle.std.specs.Int.{FitsUnsigned, w64};
 ghost use Rattle.std.specs.Option.{SomeIff};
 ghost use Rattle.bitstream_order.specs.Tail.{IsTail};
 
+use crate::copy::copy;
 use crate::seek::SeekSource;
 use crate::source::Source;
 use std::io;
@@ -83,44 +84,6 @@ impl<'a> Slice<'a> {
         let front = place.min(all.len() as u64);
         self.bytes = &all[front as usize..];
         self.past = place - front;
-    }
-}
-
-/// Copies N bytes.
-#[inline(always)]
-fn copy_all<const N: usize>(to: &mut [u8], from: &[u8])
-    requires to { length to.old ≡ N }
-    requires from { length from.now ≡ N }
-    ensures { to.new ≡ from.now }
-{
-    to[..N].copy_from_slice(&from[..N]);
-}
-
-/// Copies bytes. Up to 16, as many as a word may have, are copied by a constant length, so without
-/// a call.
-#[inline(always)]
-fn copy(to: &mut [u8], from: &[u8])
-    requires { length to.old ≡ length from.now }
-    ensures { to.new ≡ from.now }
-{
-    match from.len() {
-        1 => copy_all::<1>(to, from),
-        2 => copy_all::<2>(to, from),
-        3 => copy_all::<3>(to, from),
-        4 => copy_all::<4>(to, from),
-        5 => copy_all::<5>(to, from),
-        6 => copy_all::<6>(to, from),
-        7 => copy_all::<7>(to, from),
-        8 => copy_all::<8>(to, from),
-        9 => copy_all::<9>(to, from),
-        10 => copy_all::<10>(to, from),
-        11 => copy_all::<11>(to, from),
-        12 => copy_all::<12>(to, from),
-        13 => copy_all::<13>(to, from),
-        14 => copy_all::<14>(to, from),
-        15 => copy_all::<15>(to, from),
-        16 => copy_all::<16>(to, from),
-        _ => to.copy_from_slice(from),
     }
 }
 
