@@ -24,6 +24,7 @@ pub use Rattle.bitstream_order.specs.Shift
 pub use Rattle.bitstream_order.specs.Port
 pub use Rattle.bitstream_order.specs.Refusal
 pub use Rattle.bitstream_order.specs.Slice
+pub use Rattle.bitstream_order.specs.SliceMut
 pub use Rattle.bitstream_stream.specs.Alignment
 pub use Rattle.bitstream_stream.specs.ByteReader
 pub use Rattle.bitstream_stream.specs.ByteReads

@@ -75,6 +75,7 @@ pub mod read {
 pub mod write {
     pub use bitstream_order::growing::Growing;
     pub use bitstream_order::lent::Lent;
+    pub use bitstream_order::slice_mut::SliceMut;
     pub use bitstream_order::target::Target;
     pub use bitstream_sink::bit_counter::BitCounter;
     pub use bitstream_sink::counter::{Counter, Overflowed};
@@ -125,7 +126,8 @@ pub mod laws {
     pub use bitstream_sink::recorder::laws::{recorders_lack_memory, recordings_grow};
     pub use bitstream_stream::laws::{
         bytes_are_numbers, dropped_queues_are_alignments, ends_are_known, slices_end,
-        slices_refuse_no_seek, slices_tell_their_rest, words_join,
+        slices_lack_room, slices_refuse_no_seek, slices_tell_their_rest, vectors_lack_memory,
+        words_join,
     };
     pub use bitstream_value::laws::{
         bits_are_those_appended, bits_using_a_context_are_those_appended,
@@ -155,5 +157,5 @@ pub use read::{
 };
 pub use write::{
     BitCounter, BitRecorder, BitWrite, BitWriteExt, BitWriter, BitsWritten, Growing, Recorder,
-    Target, ToBitStream, ToBitStreamUsing, ToBitStreamWith,
+    SliceMut, Target, ToBitStream, ToBitStreamUsing, ToBitStreamWith,
 };

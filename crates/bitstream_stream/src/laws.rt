@@ -6,19 +6,27 @@ ghost use Rattle.std.specs.Prelude.{◌≡◌, ℕ, ◌+◌, ◌*◌, ◌^◌, �
 ghost use Rattle.bitstream_number.specs.Word.{Order, High, Low, bits as bits_of, bytes as bytes_in};
 ghost use Rattle.bitstream_count.specs.Entry.{ReadEntry, chain, gives};
 ghost use Rattle.bitstream_count.specs.declared.error.Error.{Error};
+ghost use Rattle.bitstream_count.specs.declared.error.Error.TheVariants.{OutOfMemory, Stream};
+ghost use Rattle.std.specs.declared.io.ErrorKind.TheVariants.{WriteZero};
 ghost use Rattle.bitstream_order.specs.Refusal.{Refusal, TrueEnds, MayRefuseSeek};
 ghost use Rattle.bitstream_order.specs.Slice.{slice_bytes, slice_place, slice_remaining, slice_refuses_seek};
 ghost use Rattle.bitstream_stream.specs.Reads.{Reads, sure_answer};
 ghost use Rattle.bitstream_stream.specs.ReadTable.{unsigned_entry, bytes_entry, align_entry};
 ghost use Rattle.bitstream_stream.specs.Seek.{reader_seeker, MaySeek, TellsRest};
+ghost use Rattle.bitstream_stream.specs.Sink.{WriteRefused};
 ghost use Rattle.bitstream_stream.specs.Ways.{aligned_reader};
 ghost use Rattle.bitstream_stream.specs.WriteTable.{unsigned, buffer};
 
 use crate::read::BitRead;
 use crate::reader::BitReader;
+use crate::write::BitWrite;
+use crate::writer::BitWriter;
+use bitstream_order::growing::Growing;
 use bitstream_order::order::Endianness;
 use bitstream_order::slice::Slice;
+use bitstream_order::slice_mut::SliceMut;
 use bitstream_order::source::Source;
+use std::alloc::Allocator;
 
 /// Reading two numbers, one after the other, is reading one number of the bits of both. The first
 /// one is its high part if the order is big-endian, its low part if little-endian.
@@ -63,6 +71,20 @@ pub fn ends_are_known<R: BitRead, A>()
 /// A [`Slice`] refuses only at a true end.
 pub fn slices_end<E: Endianness>()
     ensures { TrueEnds ⟦<BitReader<Slice<'static>, E> as BitRead>⟧.source.may }
+{}
+
+/// A writer over a [`SliceMut`] fails if it lacks room, and never else.
+pub fn slices_lack_room<E: Endianness>()
+    ensures { (old new : BitWriter SliceMut E) (x : List Bool) (error : Error) →
+        WriteRefused ⟦<BitWriter<SliceMut<'static>, E> as BitWrite>⟧.sink old x error new
+        → error ≡ Stream WriteZero }
+{}
+
+/// A writer over a [`Growing`] fails if its memory was refused, and never else.
+pub fn vectors_lack_memory<E: Endianness, A: Allocator>()
+    ensures { (old new : BitWriter (Growing A) E) (x : List Bool) (error : Error) →
+        WriteRefused ⟦<BitWriter<Growing<A>, E> as BitWrite>⟧.sink old x error new
+        → error ≡ OutOfMemory }
 {}
 
 /// Wherever a [`Slice`] stands, its bytes left are those behind its place.

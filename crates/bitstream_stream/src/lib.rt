@@ -9,6 +9,7 @@ pub mod check;
 mod grow;
 pub mod laws;
 mod others;
+mod over;
 mod piece;
 pub mod place;
 pub mod read;

@@ -1,0 +1,86 @@
+//! Readers and writers over bytes in memory.
+ghost use Rattle.std.specs.Prelude.{◌≡◌, ◌∷◌, [], Some};
+ghost use Rattle.bitstream_order.specs.Port.{new_port_state};
+
+use crate::byte_read::ByteRead;
+use crate::byte_reader::ByteReader;
+use crate::byte_writer::ByteWriter;
+use crate::read::BitRead;
+use crate::reader::BitReader;
+use crate::writer::BitWriter;
+use bitstream_order::order::Endianness;
+use bitstream_order::slice::Slice;
+use bitstream_order::slice_mut::SliceMut;
+
+impl<'a, E: Endianness> BitReader<Slice<'a>, E> {
+    ghost use Rattle.bitstream_stream.specs.Reader.{new_reader_state, requests_made, turns_made};
+
+    /// Returns a reader of bytes in memory, as a [`Slice`].
+    ///
+    /// # Examples
+    ///
+    /// ```
+    /// use bitstream_io::{BE, BitRead, BitReader, Error};
+    ///
+    /// let mut reader = BitReader::<_, BE>::over(&[0xb1, 0xed]);
+    /// assert_eq!(rt; reader.read_unsigned_var::<u16>(12)?, 0xb1e);
+    /// assert!(rt; matches!(reader.read_unsigned_var::<u8>(8), Err(Error::EndOfInput)));
+    /// ```
+    pub fn over(bytes: &'a [u8]) -> BitReader<Slice<'a>, E>
+        ensures state { ⟦<Self as BitRead>⟧.source.state result ≡ new_reader_state (Some bytes.now) [] }
+        ensures requests { requests_made result ≡ 0 }
+        ensures turns { turns_made result ≡ 0 }
+    {
+        BitReader::new(Slice::new(bytes))
+    }
+}
+
+impl<'a, E: Endianness> ByteReader<Slice<'a>, E> {
+    ghost use Rattle.bitstream_stream.specs.ByteReader.{byte_reader_state};
+
+    /// Returns a reader of whole bytes in memory, as a [`Slice`].
+    pub fn over(bytes: &'a [u8]) -> ByteReader<Slice<'a>, E>
+        ensures { ⟦<Self as ByteRead>⟧.source.state result
+            ≡ byte_reader_state (new_port_state (Some bytes.now) []) }
+    {
+        ByteReader::new(Slice::new(bytes))
+    }
+}
+
+impl<'a, E: Endianness> BitWriter<SliceMut<'a>, E> {
+    ghost use Rattle.bitstream_order.specs.SliceMut.{slice_name, written_contents};
+    ghost use Rattle.bitstream_stream.specs.Writer.{writer_state, new_writer_state};
+
+    /// Returns a writer to bytes in memory, from their front, as a [`SliceMut`].
+    ///
+    /// # Examples
+    ///
+    /// ```
+    /// use bitstream_io::{BE, BitWrite, BitWriter};
+    ///
+    /// let mut buffer = [0u8; 4];
+    /// let mut writer = BitWriter::<_, BE>::over(&mut buffer);
+    /// writer.write_unsigned_var(12, 0xb1e_u16)?;
+    /// writer.byte_align()?;
+    /// assert_eq!(rt; writer.into_writer().as_slice(), [0xb1, 0xe0].as_slice());
+    /// ```
+    pub fn over(bytes: &'a mut [u8]) -> BitWriter<SliceMut<'a>, E>
+        ensures { writer_state written_contents (λ target. slice_name target ∷ []) result
+            ≡ new_writer_state (Some []) (bytes.entry.ghost_name ∷ []) }
+    {
+        BitWriter::new(SliceMut::new(bytes))
+    }
+}
+
+impl<'a, E: Endianness> ByteWriter<SliceMut<'a>, E> {
+    ghost use Rattle.bitstream_order.specs.SliceMut.{slice_name, written_contents};
+    ghost use Rattle.bitstream_stream.specs.ByteWriter.{byte_writer_state};
+
+    /// Returns a writer of whole bytes to bytes in memory, from their front, as a [`SliceMut`].
+    pub fn over(bytes: &'a mut [u8]) -> ByteWriter<SliceMut<'a>, E>
+        ensures { byte_writer_state written_contents (λ target. slice_name target ∷ []) result
+            ≡ new_port_state (Some []) (bytes.entry.ghost_name ∷ []) }
+    {
+        ByteWriter::new(SliceMut::new(bytes))
+    }
+}
