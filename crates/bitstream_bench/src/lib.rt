@@ -32,6 +32,8 @@ mod own;
 mod refuse;
 mod refuse_once;
 #[cfg(test)]
+mod room;
+#[cfg(test)]
 mod script;
 pub mod sign_code;
 #[cfg(test)]

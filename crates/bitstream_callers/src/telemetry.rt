@@ -2,10 +2,13 @@
 ghost use Rattle.std.specs.Prelude.{◌≡◌, IfOk, length};
 ghost use Rattle.bitstream_io.specs.Run.{write_run};
 ghost use Rattle.bitstream_io.specs.Sink.{WritesAll};
+ghost use Rattle.bitstream_io.specs.SliceMut.{written_bytes};
 ghost use Rattle.bitstream_io.specs.Word.{High, bits};
 ghost use Rattle.bitstream_callers.specs.Telemetry.{framed_bits, packed_bits, sample_writes};
 
-use bitstream_io::{BE, BitWrite, BitWriteExt, BitWriter, Bits, BitsWritten, Error, Lent};
+use bitstream_io::{
+    BE, BitWrite, BitWriteExt, BitWriter, Bits, BitsWritten, Error, Lent, SliceMut,
+};
 use std::alloc::Global;
 
 /// What is measured at one time.
@@ -64,6 +67,23 @@ impl Sample {
         self.write(&mut writer)?;
         writer.byte_align()?;
         Ok(bytes)
+    }
+
+    /// Packs a sample into the first bytes of a buffer, and returns them as a target that has them
+    /// written. No memory is asked for.
+    ///
+    /// # Errors
+    ///
+    /// `Checked` for a field that does not fit its bits, or `Stream(WriteZero)` if the buffer is too
+    /// short.
+    pub fn pack_into<'a>(&self, buffer: &'a mut [u8]) -> Result<SliceMut<'a>, Error>
+        ensures { IfOk result
+            (λ packed. bits High (written_bytes packed) ≡ packed_bits self.now) }
+    {
+        let mut writer = BitWriter::<_, BE>::over(buffer);
+        self.write(&mut writer)?;
+        writer.byte_align()?;
+        Ok(writer.into_writer())
     }
 
     /// Returns the number of bits that a sample takes. Nothing is written for it.
