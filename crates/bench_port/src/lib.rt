@@ -2,12 +2,17 @@
 //! its items it answers as one number, and where a call is refused it answers 2^64 - 1.
 #![tactic(auto)]
 
-mod missing;
+mod flac;
+mod memory;
 mod mix;
+mod prefix;
 mod reading;
 mod sinks;
+mod targets;
+mod typed;
 mod writing;
 
+use crate::memory::Memory;
 use crate::reading::{
     read_bits, read_bytes, read_signed, read_unary, read_unsigned, read_vbr, read_wide, skip_bits,
 };
@@ -26,11 +31,16 @@ fn read_any<R: Source + Drop, E: Endianness>(width: u32, source: R, count: u64) 
 }
 
 /// Writes unsigned numbers of up to 128 bits.
-fn write_any<E: Endianness>(width: u32, count: u64, seed: u64, out: &mut [u8]) -> u64 {
+pub(crate) fn write_any<T: Memory, E: Endianness>(
+    width: u32,
+    count: u64,
+    seed: u64,
+    out: T,
+) -> u64 {
     if width > 64 {
-        write_wide::<E>(width, count, seed, out)
+        write_wide::<T, E>(width, count, seed, out)
     } else {
-        write_unsigned::<E>(width, count, seed, out)
+        write_unsigned::<T, E>(width, count, seed, out)
     }
 }
 
@@ -44,17 +54,17 @@ fn read_groups<R: Source + Drop, E: Endianness>(field: u32, source: R, count: u6
 }
 
 /// Writes numbers of variable width, in groups of 4 or of 8 bits.
-fn write_groups<E: Endianness>(
+pub(crate) fn write_groups<T: Memory, E: Endianness>(
     field: u32,
     bits: u32,
     count: u64,
     seed: u64,
-    out: &mut [u8],
+    out: T,
 ) -> u64 {
     if field == 4 {
-        write_vbr::<Bits<4>, E>(bits, count, seed, out)
+        write_vbr::<Bits<4>, T, E>(bits, count, seed, out)
     } else {
-        write_vbr::<Bits<8>, E>(bits, count, seed, out)
+        write_vbr::<Bits<8>, T, E>(bits, count, seed, out)
     }
 }
 
@@ -127,9 +137,9 @@ pub extern "C" fn bench_read_signed_slice(order: u32, width: u32, data: &[u8], c
 #[unsafe(no_mangle)]
 pub extern "C" fn bench_write_bits(order: u32, count: u64, seed: u64, out: &mut [u8]) -> u64 {
     if order == 0 {
-        write_bits::<BE>(count, seed, out)
+        write_bits::<_, BE>(count, seed, out)
     } else {
-        write_bits::<LE>(count, seed, out)
+        write_bits::<_, LE>(count, seed, out)
     }
 }
 
@@ -143,9 +153,9 @@ pub extern "C" fn bench_write_unsigned(
     out: &mut [u8],
 ) -> u64 {
     if order == 0 {
-        write_any::<BE>(width, count, seed, out)
+        write_any::<_, BE>(width, count, seed, out)
     } else {
-        write_any::<LE>(width, count, seed, out)
+        write_any::<_, LE>(width, count, seed, out)
     }
 }
 
@@ -159,9 +169,9 @@ pub extern "C" fn bench_write_signed(
     out: &mut [u8],
 ) -> u64 {
     if order == 0 {
-        write_signed::<BE>(width, count, seed, out)
+        write_signed::<_, BE>(width, count, seed, out)
     } else {
-        write_signed::<LE>(width, count, seed, out)
+        write_signed::<_, LE>(width, count, seed, out)
     }
 }
 
@@ -217,9 +227,9 @@ pub extern "C" fn bench_write_bytes(
     out: &mut [u8],
 ) -> u64 {
     if order == 0 {
-        write_bytes::<BE>(skip, data, count, out)
+        write_bytes::<_, BE>(skip, data, count, out)
     } else {
-        write_bytes::<LE>(skip, data, count, out)
+        write_bytes::<_, LE>(skip, data, count, out)
     }
 }
 
@@ -254,9 +264,9 @@ pub extern "C" fn bench_write_unary(
     out: &mut [u8],
 ) -> u64 {
     if order == 0 {
-        write_unary::<BE>(stop, limit, count, seed, out)
+        write_unary::<_, BE>(stop, limit, count, seed, out)
     } else {
-        write_unary::<LE>(stop, limit, count, seed, out)
+        write_unary::<_, LE>(stop, limit, count, seed, out)
     }
 }
 
@@ -281,8 +291,28 @@ pub extern "C" fn bench_write_vbr(
     out: &mut [u8],
 ) -> u64 {
     if order == 0 {
-        write_groups::<BE>(field, bits, count, seed, out)
+        write_groups::<_, BE>(field, bits, count, seed, out)
     } else {
-        write_groups::<LE>(field, bits, count, seed, out)
+        write_groups::<_, LE>(field, bits, count, seed, out)
+    }
+}
+
+/// Reads numbers of variable width from a `Slice`.
+#[unsafe(no_mangle)]
+pub extern "C" fn bench_read_vbr_slice(order: u32, field: u32, data: &[u8], count: u64) -> u64 {
+    if order == 0 {
+        read_groups::<_, BE>(field, Slice::new(data), count)
+    } else {
+        read_groups::<_, LE>(field, Slice::new(data), count)
+    }
+}
+
+/// Skips in a `Slice`.
+#[unsafe(no_mangle)]
+pub extern "C" fn bench_skip_slice(order: u32, step: u32, data: &[u8], count: u64) -> u64 {
+    if order == 0 {
+        skip_bits::<_, BE>(step, Slice::new(data), count)
+    } else {
+        skip_bits::<_, LE>(step, Slice::new(data), count)
     }
 }
