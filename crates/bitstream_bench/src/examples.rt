@@ -76,10 +76,10 @@ fn example_of_bit_write2(rt: HostRuntime) -> Result<(), Fail> {
 
 #[test]
 fn example_of_front(rt: HostRuntime) -> Result<(), Fail> {
-    use bitstream_io::{BE, BitReadExt, BitReader, Bits, Slice};
+    use bitstream_io::{BE, BitReadExt, BitReader, Bits};
 
     let bytes = [0xbe, 0xff, 0xff, 0x80];
-    let mut reader = BitReader::<_, BE>::new(Slice::new(&bytes));
+    let mut reader = BitReader::<_, BE>::over(&bytes);
     let kind = reader.read::<Bits<3>, u8>()?;
     let level = reader.read::<Bits<5>, i8>()?;
     let size: u32 = reader.read_var(17)?;
@@ -126,6 +126,20 @@ fn example_of_slice(rt: HostRuntime) -> Result<(), Fail> {
     let mut reader = BitReader::<_, BE>::new(Slice::new(&[0xb1, 0xed]));
     assert_eq!(rt; reader.read_unsigned_var::<u16>(12)?, 0xb1e);
     assert!(rt; matches!(reader.read_unsigned_var::<u8>(8), Err(Error::EndOfInput)));
+    Ok(())
+}
+
+#[test]
+fn example_of_slice_mut(rt: HostRuntime) -> Result<(), Fail> {
+    use bitstream_io::{BE, BitWrite, BitWriter, SliceMut};
+
+    let mut buffer = [0u8; 4];
+    let mut writer = BitWriter::<_, BE>::new(SliceMut::new(&mut buffer));
+    writer.write_unsigned_var(12, 0xb1e_u16)?;
+    writer.byte_align()?;
+    let packed = writer.into_writer();
+    assert_eq!(rt; packed.as_slice(), [0xb1, 0xe0].as_slice());
+    assert_eq!(rt; packed.free(), 2);
     Ok(())
 }
 
@@ -214,6 +228,28 @@ fn example_of_byte_writer(rt: HostRuntime) -> Result<(), Fail> {
 }
 
 #[test]
+fn example_of_bit_reader_over(rt: HostRuntime) -> Result<(), Fail> {
+    use bitstream_io::{BE, BitRead, BitReader, Error};
+
+    let mut reader = BitReader::<_, BE>::over(&[0xb1, 0xed]);
+    assert_eq!(rt; reader.read_unsigned_var::<u16>(12)?, 0xb1e);
+    assert!(rt; matches!(reader.read_unsigned_var::<u8>(8), Err(Error::EndOfInput)));
+    Ok(())
+}
+
+#[test]
+fn example_of_bit_writer_over(rt: HostRuntime) -> Result<(), Fail> {
+    use bitstream_io::{BE, BitWrite, BitWriter};
+
+    let mut buffer = [0u8; 4];
+    let mut writer = BitWriter::<_, BE>::over(&mut buffer);
+    writer.write_unsigned_var(12, 0xb1e_u16)?;
+    writer.byte_align()?;
+    assert_eq!(rt; writer.into_writer().as_slice(), [0xb1, 0xe0].as_slice());
+    Ok(())
+}
+
+#[test]
 fn example_of_bit_place(rt: HostRuntime) -> Result<(), Fail> {
     use bitstream_io::read::bit_place;
     use std::io::SeekFrom;
@@ -254,7 +290,7 @@ fn example_of_bit_reader(rt: HostRuntime) -> Result<(), Fail> {
 }
 
 #[test]
-fn example_of_seek_bits(rt: HostRuntime) -> Result<(), Fail> {
+fn example_of_bit_reader_seek_bits(rt: HostRuntime) -> Result<(), Fail> {
     use bitstream_io::{BE, BitRead, BitReader, Error};
     use std::io::{Cursor, SeekFrom};
 

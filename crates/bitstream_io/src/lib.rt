@@ -5,10 +5,10 @@
 //! # Examples
 //!
 //! ```
-//! use bitstream_io::{BE, BitReadExt, BitReader, Bits, Slice};
+//! use bitstream_io::{BE, BitReadExt, BitReader, Bits};
 //!
 //! let bytes = [0xbe, 0xff, 0xff, 0x80];
-//! let mut reader = BitReader::<_, BE>::new(Slice::new(&bytes));
+//! let mut reader = BitReader::<_, BE>::over(&bytes);
 //! let kind = reader.read::<Bits<3>, u8>()?;
 //! let level = reader.read::<Bits<5>, i8>()?;
 //! let size: u32 = reader.read_var(17)?;
