@@ -1,4 +1,5 @@
 pub mod BlockHeader
+pub mod Golomb
 pub mod Header
 pub mod PacketHeader
 pub mod PaddedPort

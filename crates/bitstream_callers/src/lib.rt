@@ -4,6 +4,7 @@
 #![tactic(auto)]
 
 pub mod block_header;
+pub mod golomb;
 pub mod header;
 pub mod packet_header;
 pub mod padded_port;
