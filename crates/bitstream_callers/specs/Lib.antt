@@ -1,3 +1,4 @@
+pub mod Adts
 pub mod BlockHeader
 pub mod Golomb
 pub mod Header

@@ -3,6 +3,7 @@
 //! them.
 #![tactic(auto)]
 
+pub mod adts;
 pub mod block_header;
 pub mod golomb;
 pub mod header;
