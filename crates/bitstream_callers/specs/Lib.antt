@@ -5,5 +5,6 @@ pub mod Header
 pub mod PacketHeader
 pub mod PaddedPort
 pub mod Reading
+pub mod Samples
 pub mod StreamInfo
 pub mod Telemetry

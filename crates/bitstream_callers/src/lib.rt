@@ -11,5 +11,6 @@ pub mod packet_header;
 pub mod padded_port;
 pub mod plain;
 pub mod reading;
+pub mod samples;
 pub mod stream_info;
 pub mod telemetry;

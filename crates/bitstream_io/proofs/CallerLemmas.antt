@@ -2,7 +2,6 @@
 -- a caller's own among reads, items that are read in a loop, and what goes back by parts.
 use Rattle.std.proofs.Common.{◌≡◌, ◌⊎◌, ℕ, ℤ, zero, suc, pos, negsuc, Continue, Break, get_or, ◌+◌, ◌-◌, ◌*◌, ◌^◌, ◌<◌, ◌≤◌, ◌==◌, Bool, true, false, List, [], ◌∷◌, ◌++◌, length, take, drop, Option, Some, Result, Ok, Err, refl, sym, ap, ◌∙◌, subst, inl, inr, arith, add-one, length-take}
 use Rattle.std.specs.Prelude.{IfOk, nat_le, nat_lt, map, flat_map, if◌then◌else◌}
-use Rattle.std.proofs.Math.Seq.{take-length}
 use Rattle.std.proofs.lemmas.Bool.{le-leb, lt-leb, le-ltb, lt-ltb, eq-eqb, ne_eqb, cases_lt}
 use Rattle.std.proofs.lemmas.Bool.Decides.{leb_tells, nat_tests}
 use Rattle.std.specs.Borrow.{GName}
@@ -309,28 +308,21 @@ module _ {S A : Type 0} (K : Sink S) (f : A → List WriteEntry) (xs : List A) w
   pub written-begin : (s : S) → WritesAll K (flat_map f (take 0 xs)) s (Ok tt) s
   written-begin s = all_none K s
 
-  module _ (k : ℕ) (x : A) (s t z : S) where
+  module _ (k : ℕ) (x d : A) (s t z : S) where
     -- one more
-    pub written-more : k < length xs → x ≡ get_or xs k x → WritesAll K (flat_map f (take k xs)) s (Ok tt) t
+    pub written-more : k < length xs → x ≡ get_or xs k d → WritesAll K (flat_map f (take k xs)) s (Ok tt) t
         → WritesAll K (f x) t (Ok tt) z → WritesAll K (flat_map f (take (k + 1) xs)) s (Ok tt) z
     written-more less is h one =
-        rw (flat_map-take f xs k x less, ← is) (all_append K (flat_map f (take k xs)) (f x) s t (Ok tt) z h one)
+        rw (flat_map-take f xs k d less, ← is) (all_append K (flat_map f (take k xs)) (f x) s t (Ok tt) z h one)
 
     -- one that is rejected, or meets a fault
-    pub written-stop : (d : Error) (r : Result (Unit {0}) Error) → k < length xs → x ≡ get_or xs k x → r ≡ Err d
-        → WritesAll K (flat_map f (take k xs)) s (Ok tt) t → WritesAll K (f x) t (Err d) z
+    pub written-stop : (e : Error) (r : Result (Unit {0}) Error) → k < length xs → x ≡ get_or xs k d → r ≡ Err e
+        → WritesAll K (flat_map f (take k xs)) s (Ok tt) t → WritesAll K (f x) t (Err e) z
         → WritesAll K (flat_map f xs) s r z
-    written-stop d r less is err h one =
-        rw (flat_map-split f xs k x less, ← is)
+    written-stop e r less is err h one =
+        rw (flat_map-split f xs k d less, ← is)
         (all_append K (flat_map f (take k xs)) (f x ++ flat_map f (drop (k + 1) xs)) s t r z h
-        (all_stop K (f x) (flat_map f (drop (k + 1) xs)) t d r z err one))
-
-  -- all of them
-  pub written-all : (k : ℕ) (s t : S) → k ≡ length xs → WritesAll K (flat_map f (take k xs)) s (Ok tt) t
-      → WritesAll K (flat_map f xs) s (Ok tt) t
-  written-all k s t all h =
-      let same = ap (λ (n : ℕ). take n xs) all ∙ take-length xs in
-      subst (λ (ys : List A). WritesAll K (flat_map f ys) s (Ok tt) t) same h
+        (all_stop K (f x) (flat_map f (drop (k + 1) xs)) t e r z err one))
 
 -- ---- known bits
 
