@@ -6,5 +6,6 @@ pub mod PacketHeader
 pub mod PaddedPort
 pub mod Reading
 pub mod Samples
+pub mod Sensor
 pub mod StreamInfo
 pub mod Telemetry

@@ -12,5 +12,6 @@ pub mod padded_port;
 pub mod plain;
 pub mod reading;
 pub mod samples;
+pub mod sensor;
 pub mod stream_info;
 pub mod telemetry;

@@ -33,7 +33,7 @@ use Rattle.bitstream_value.proofs.ReadSteps.{Finds, next-finds, gives-finds}
 use Rattle.bitstream_value.proofs.SureLemmas.{IsWord, unsigned-word, items-word, word_short}
 use Rattle.bitstream_value.proofs.WriteSteps.{next_call, next_write, stop_call, stop_write}
 use Rattle.bitstream_io.specs.ReadBack.{IsReadAs}
-use Rattle.bitstream_io.proofs.CallsBack.{then-read, const-back}
+use Rattle.bitstream_io.proofs.CallsBack.{then-read, mapped-read, const-back}
 -- one that meets a fault, or is rejected
 pub use Rattle.bitstream_value.proofs.ArrayLemmas.{items-stop}
 
@@ -407,6 +407,11 @@ items_short word k ends new h few = word_short (items-word word k) ends new h fe
 pub part-back : {A B : Type 0} (e : ReadEntry A) (f : A → ReadEntry B) (ws es : List WriteEntry) (a : A) (b : B)
     → IsReadAs ws e a → GoesBack (f a) es b → GoesBack (chain e f) (ws ++ es) b
 part-back e f ws es a b part behind = record { back = then-read e f ws es a b part behind.back }
+
+-- one that nothing stands behind
+pub last-back : {A B : Type 0} (e : ReadEntry A) (make : A → B) (ws : List WriteEntry) (a : A) → IsReadAs ws e a
+    → GoesBack (chain e (λ v. gives (make v))) ws (make a)
+last-back e make ws a part = record { back = mapped-read make ws e a part }
 
 -- a constant whose width and value are literals
 pub literal-back : {B : Type 0} (es : List WriteEntry) (b : B) (o : Order) (n v : ℕ) (f : Bool → ReadEntry B)
