@@ -1,7 +1,11 @@
+pub mod Adts
 pub mod BlockHeader
+pub mod Golomb
 pub mod Header
 pub mod PacketHeader
 pub mod PaddedPort
 pub mod Reading
+pub mod Samples
+pub mod Sensor
 pub mod StreamInfo
 pub mod Telemetry

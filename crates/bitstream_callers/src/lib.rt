@@ -3,11 +3,15 @@
 //! them.
 #![tactic(auto)]
 
+pub mod adts;
 pub mod block_header;
+pub mod golomb;
 pub mod header;
 pub mod packet_header;
 pub mod padded_port;
 pub mod plain;
 pub mod reading;
+pub mod samples;
+pub mod sensor;
 pub mod stream_info;
 pub mod telemetry;

@@ -1,36 +1,39 @@
 -- What callers' proofs need beside the lemmas of single calls: what an answer tells, constants, branches and errors of
 -- a caller's own among reads, items that are read in a loop, and what goes back by parts.
-use Rattle.std.proofs.Common.{◌≡◌, ◌⊎◌, ℕ, ℤ, zero, suc, pos, negsuc, Continue, Break, ◌+◌, ◌-◌, ◌*◌, ◌^◌, ◌<◌, ◌≤◌, ◌==◌, Bool, true, false, List, [], ◌∷◌, ◌++◌, length, take, drop, Option, Some, Result, Ok, Err, refl, sym, ap, ◌∙◌, subst, inl, inr, arith, add-one, length-take}
-use Rattle.std.specs.Prelude.{IfOk, nat_le, nat_lt, map, if◌then◌else◌}
+use Rattle.std.proofs.Common.{◌≡◌, ◌⊎◌, ℕ, ℤ, zero, suc, pos, negsuc, Continue, Break, get_or, ◌+◌, ◌-◌, ◌*◌, ◌^◌, ◌<◌, ◌≤◌, ◌==◌, Bool, true, false, List, [], ◌∷◌, ◌++◌, length, take, drop, Option, Some, Result, Ok, Err, refl, sym, ap, ◌∙◌, subst, inl, inr, arith, add-one, length-take}
+use Rattle.std.specs.Prelude.{IfOk, nat_le, nat_lt, map, flat_map, if◌then◌else◌}
 use Rattle.std.proofs.lemmas.Bool.{le-leb, lt-leb, le-ltb, lt-ltb, eq-eqb, ne_eqb, cases_lt}
 use Rattle.std.proofs.lemmas.Bool.Decides.{leb_tells, nat_tests}
 use Rattle.std.specs.Borrow.{GName}
 use Rattle.std.specs.Result.{IsErrAnd, result_from_control_flow}
 use Rattle.std.specs.declared.ops.ControlFlow.{ControlFlow}
 use Rattle.bitstream_count.specs.declared.error.Error.{Error}
-use Rattle.bitstream_count.specs.declared.error.Error.TheVariants.{Failed, NoSignBit, ReadBits}
+use Rattle.bitstream_count.specs.declared.error.Error.TheVariants.{EndOfInput, Failed, NoSignBit, ReadBits}
 use Rattle.bitstream_count.specs.Entry.{ReadEntry, WriteEntry, TooFew, Takes, word_front, chain, gives, refuses}
 use Rattle.bitstream_number.specs.Word.{Order, FitsSignedBits, bits, number, signed_from, signed_number, word}
-use Rattle.bitstream_number.proofs.WordLemmas.{half, number-lt}
+use Rattle.bitstream_number.proofs.WordLemmas.{half, length-bits, number-lt}
 use Rattle.bitstream_order.specs.Gather.{seen}
 use Rattle.bitstream_order.specs.Refusal.{TrueEnds}
 use Rattle.bitstream_stream.specs.ReadTable.{unsigned_entry, signed_entry, const_entry, unary_entry, skip_entry}
 use Rattle.bitstream_stream.specs.Reader.{new_reader_state}
 use Rattle.bitstream_stream.specs.Reads.{BitSource, Reads, ReadOutcome, ReadsConst, ConstAnswer, is_run_too_long, sure_answer}
+use Rattle.bitstream_stream.specs.Sink.{Sink, WritesAll}
 use Rattle.bitstream_stream.specs.WriteTable.{plain}
 use Rattle.bitstream_stream.proofs.ReadsLemmas.{Reads-chain-ok, Reads-chain-err, Reads-gives, Reads-nothing, exit, ok_front}
 use Rattle.bitstream_stream.proofs.SliceLemmas.{new_answer}
 use Rattle.bitstream_stream.proofs.TableLemmas.{unsigned-on_failed}
+use Rattle.bitstream_stream.proofs.WriteParts.{all_none, all_append, all_one, all_stop, flat_map-take, flat_map-split}
 use Rattle.bitstream_value.specs.Array.{items_entry}
 use Rattle.bitstream_value.specs.Own.{OwnAnswer, ReadsOwn, same_error}
 use Rattle.bitstream_value.proofs.ArrayLemmas.{items-start}
-use Rattle.bitstream_value.proofs.BackLemmas.{GoesBack, signed-word}
+use Rattle.bitstream_value.proofs.BackLemmas.{GoesBack, gives-back, signed-word}
 use Rattle.bitstream_value.proofs.OwnLemmas.{is_error}
 use Rattle.bitstream_value.proofs.OwnSteps.{own_end, if_own, else_own}
 use Rattle.bitstream_value.proofs.ReadSteps.{Finds, next-finds, gives-finds}
-use Rattle.bitstream_value.proofs.SureLemmas.{IsWord, unsigned-word}
+use Rattle.bitstream_value.proofs.SureLemmas.{IsWord, unsigned-word, items-word, word_short}
+use Rattle.bitstream_value.proofs.WriteSteps.{next_call, next_write, stop_call, stop_write}
 use Rattle.bitstream_io.specs.ReadBack.{IsReadAs}
-use Rattle.bitstream_io.proofs.CallsBack.{then-read, const-back}
+use Rattle.bitstream_io.proofs.CallsBack.{then-read, mapped-read, const-back}
 -- one that meets a fault, or is rejected
 pub use Rattle.bitstream_value.proofs.ArrayLemmas.{items-stop}
 
@@ -272,6 +275,14 @@ pub ruleset branches = (
 -- the reads of a function with errors of its own, by the clauses of its calls, which are listed
 pub ruleset own_reads = (next_own_read, exit_own_read, own_end, if_own, else_own)
 
+-- the same for many calls in a row: the fewest lemmas, since each one that fits is counted; with `fits 4000`, and the
+-- clauses listed by their field (`c.in_ok-x.ensures.reads`)
+pub ruleset many_reads = (Reads-chain-ok, exit, Reads-gives)
+
+pub ruleset many_own_reads = (next_own_read, exit_own_read, next_own_const, exit_own_const, own_end)
+
+pub ruleset many_writes = (next_call, next_write, stop_call, stop_write, all_one)
+
 -- ---- items that are read in a loop
 
 items-suc : {A : Type 0} (e : ReadEntry A) (n : ℕ) → items_entry e (suc n)
@@ -289,6 +300,29 @@ module _ {R A : Type 0} {K : BitSource R} (e : ReadEntry A) where
       → Reads K (items_entry e n) s (Ok xs) t → Reads K e t (Ok x) z → Reads K (items_entry e (n + 1)) s (Ok ys) z
   items-push n xs ys x is h k =
       rw (add-one n, items-suc e n, is) (Reads-chain-ok _ _ h (Reads-chain-ok _ _ k (Reads-gives _ _)))
+
+-- ---- items that are written in a loop
+
+module _ {S A : Type 0} (K : Sink S) (f : A → List WriteEntry) (xs : List A) where
+  -- none yet
+  pub written-begin : (s : S) → WritesAll K (flat_map f (take 0 xs)) s (Ok tt) s
+  written-begin s = all_none K s
+
+  module _ (k : ℕ) (x d : A) (s t z : S) where
+    -- one more
+    pub written-more : k < length xs → x ≡ get_or xs k d → WritesAll K (flat_map f (take k xs)) s (Ok tt) t
+        → WritesAll K (f x) t (Ok tt) z → WritesAll K (flat_map f (take (k + 1) xs)) s (Ok tt) z
+    written-more less is h one =
+        rw (flat_map-take f xs k d less, ← is) (all_append K (flat_map f (take k xs)) (f x) s t (Ok tt) z h one)
+
+    -- one that is rejected, or meets a fault
+    pub written-stop : (e : Error) (r : Result (Unit {0}) Error) → k < length xs → x ≡ get_or xs k d → r ≡ Err e
+        → WritesAll K (flat_map f (take k xs)) s (Ok tt) t → WritesAll K (f x) t (Err e) z
+        → WritesAll K (flat_map f xs) s r z
+    written-stop e r less is err h one =
+        rw (flat_map-split f xs k d less, ← is)
+        (all_append K (flat_map f (take k xs)) (f x ++ flat_map f (drop (k + 1) xs)) s t r z h
+        (all_stop K (f x) (flat_map f (drop (k + 1) xs)) t e r z err one))
 
 -- ---- known bits
 
@@ -341,12 +375,43 @@ module _ {R A : Type 0} {K : BitSource R} {s t : R} {n : ℕ} {xs : List ℕ} {k
       ∙ ap sure_answer front in
       subst (λ z. OwnAnswer becomes (λ y. y) z r) plain h.answer
 
+  -- and if reads find it among the bits, or too few of them
+  pub own_fields_there : {E : Type 0} {becomes : Error → E → Type 0} {e : ReadEntry (Result A E)} {x r : Result A E}
+      → TrueEnds K.may → K.state s ≡ new_reader_state known reference_names → known ≡ Some xs
+      → ReadsOwn K becomes e s r t → Finds (bits K.order xs) 0 e n (Ok x) → n ≤ 8 * length xs → r ≡ x
+  own_fields_there ends new told h found enough =
+      let le : 0 + n ≤ length (bits K.order xs) = let len = length-bits K.order xs in omega arith in
+      own_front_answered ends new told h (found.there 0 le)
+
+  pub own_fields_short : {E : Type 0} {becomes : Error → E → Type 0} {e : ReadEntry (Result A E)}
+      {x : Result (Result A E) Error} {r : Result A E} → TrueEnds K.may
+      → K.state s ≡ new_reader_state known reference_names → known ≡ Some xs → ReadsOwn K becomes e s r t
+      → Finds (bits K.order xs) 0 e n x → 8 * length xs < n → IsErrAnd r (becomes EndOfInput)
+  own_fields_short {becomes = becomes} {r = r} ends new told h found few =
+      let less : length (bits K.order xs) < 0 + n = let len = length-bits K.order xs in omega arith in
+      let plain =
+      new_answer ends xs reference_names (new ∙ ap (λ z. new_reader_state z reference_names) told) h.called
+      ∙ ap sure_answer (found.short 0 (omega arith) less) in
+      subst (λ z. OwnAnswer becomes (λ y. y) z r) plain h.answer
+
+-- too few bits for items that are words
+pub items_short : {R A : Type 0} {K : BitSource R} {e : ReadEntry A} {n : ℕ} {g : List Bool → A}
+    {r : Result (List A) Error} {s t : R} {xs : List ℕ} {reference_names : List GName}
+    → IsWord e n (λ w. Ok (g w)) → (k : ℕ) → TrueEnds K.may → K.state s ≡ new_reader_state (Some xs) reference_names
+    → Reads K (items_entry e k) s r t → 8 * length xs < k * n → r ≡ Err EndOfInput
+items_short word k ends new h few = word_short (items-word word k) ends new h few
+
 -- ---- back again
 
 -- a part whose writes are read back, as a law or a caller's own law says, and what stands behind it
 pub part-back : {A B : Type 0} (e : ReadEntry A) (f : A → ReadEntry B) (ws es : List WriteEntry) (a : A) (b : B)
     → IsReadAs ws e a → GoesBack (f a) es b → GoesBack (chain e f) (ws ++ es) b
 part-back e f ws es a b part behind = record { back = then-read e f ws es a b part behind.back }
+
+-- one that nothing stands behind
+pub last-back : {A B : Type 0} (e : ReadEntry A) (make : A → B) (ws : List WriteEntry) (a : A) → IsReadAs ws e a
+    → GoesBack (chain e (λ v. gives (make v))) ws (make a)
+last-back e make ws a part = record { back = mapped-read make ws e a part }
 
 -- a constant whose width and value are literals
 pub literal-back : {B : Type 0} (es : List WriteEntry) (b : B) (o : Order) (n v : ℕ) (f : Bool → ReadEntry B)
@@ -355,3 +420,17 @@ pub literal-back : {B : Type 0} (es : List WriteEntry) (b : B) (o : Order) (n v 
 literal-back es b o n v f fits behind =
     let small : v < 2 ^ n = grind (arith, nat_tests) in
     const-back es b o n v f small behind
+
+-- what goes back if a condition holds, and if not
+module _ {B : Type 0} (x y : ReadEntry B) (es : List WriteEntry) (b : B) where
+  pub if-back : (c : Bool) → c ≡ true → GoesBack x es b → GoesBack (if c then x else y) es b
+  if-back true is h = h
+  if-back false is h = cc
+
+  pub else-back : (c : Bool) → c ≡ false → GoesBack y es b → GoesBack (if c then x else y) es b
+  else-back true is h = cc
+  else-back false is h = h
+
+-- a value that is computed of what was read
+pub computed-back : {A : Type 0} (a b : A) → a ≡ b → GoesBack (gives a) [] b
+computed-back a b is = rw is (gives-back b)

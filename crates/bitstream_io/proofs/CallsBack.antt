@@ -119,7 +119,7 @@ value_in-fits zero v fits = omega arith
 value_in-fits (suc n) v fits = rw (ne_eqb (suc n) 0 (λ e. omega arith)) refl
 
 -- a read whose answer is made another value
-mapped-read : {A B : Type 0} (make : A → B) (es : List WriteEntry) (e : ReadEntry A) (a : A) → IsReadAs es e a
+pub mapped-read : {A B : Type 0} (make : A → B) (es : List WriteEntry) (e : ReadEntry A) (a : A) → IsReadAs es e a
     → IsReadAs es (chain e (λ v. gives (make v))) (make a)
 mapped-read make es e a h =
     subst (λ (ws : List WriteEntry). IsReadAs ws (chain e (λ v. gives (make v))) (make a)) (append-nil es)

@@ -1,0 +1,32 @@
+-- Runs of samples of 12 bits.
+use Rattle.std.specs.Prelude.{◌≤◌, ℕ, Bool, List, [], ◌∷◌, Ok, map}
+use Rattle.std.specs.List.{flat_map}
+use Rattle.bitstream_io.specs.Array.{items_entry, words}
+use Rattle.bitstream_io.specs.Entry.{ReadEntry, WriteEntry}
+use Rattle.bitstream_io.specs.ReadTable.{unsigned_entry}
+use Rattle.bitstream_io.specs.Reads.{BitSource, Reads}
+use Rattle.bitstream_io.specs.Word.{Order, High, number}
+use Rattle.bitstream_io.specs.WriteTable.{unsigned}
+
+-- so many samples, one after another
+abbrev pub samples_entry : Order → ℕ → ReadEntry (List ℕ)
+samples_entry o count = items_entry (unsigned_entry o 16 12) count
+
+-- the samples that bits say
+abbrev pub samples_in : ℕ → List Bool → List ℕ
+samples_in count bits = map (number High) (words 12 count bits)
+
+-- the write of a sample
+abbrev pub sample_writes : Order → ℕ → List WriteEntry
+sample_writes o sample = unsigned o 16 12 sample ∷ []
+
+-- the writes of samples, in order
+abbrev pub samples_writes : Order → List ℕ → List WriteEntry
+samples_writes o samples = flat_map (sample_writes o) samples
+
+-- at most so many samples were read, and nothing else
+pub record ReadSome {R : Type 0} (K : BitSource R) (count : ℕ) (old new : R) : Type 0 where
+  pub taken : ℕ
+  pub within : taken ≤ count
+  pub samples : List ℕ
+  pub reads : Reads K (samples_entry K.order taken) old (Ok samples) new

@@ -1,0 +1,43 @@
+-- A measurement of a wheel's sensor.
+use Rattle.std.specs.Prelude.{◌^◌, ◌<◌, ◌++◌, Bool, true, false, List, [], ◌∷◌}
+use Rattle.bitstream_io.specs.Entry.{ReadEntry, WriteEntry, gives}
+use Rattle.bitstream_io.specs.ReadTable.{signed_vbr_entry, unary_entry, vbr_entry}
+use Rattle.bitstream_io.specs.Steps.{◌>>=◌}
+use Rattle.bitstream_io.specs.Tree.{Tree, leaf, node, bit_by_bit, path_entry}
+use Rattle.bitstream_io.specs.Word.{Order, FitsSignedBits}
+use Rattle.bitstream_io.specs.WriteTable.{signed_vbr, unary_word, vbr}
+use Rattle.bitstream_callers.specs.declared.sensor.Measurement.{Measurement}
+use Rattle.bitstream_callers.specs.declared.sensor.State.{State}
+use Rattle.bitstream_callers.specs.declared.sensor.State.TheVariants.{Idle, Forward, Backward, Braking}
+
+-- the code of the states, as a tree
+abbrev pub state_tree : Tree State
+state_tree = node (leaf Idle) (node (leaf Forward) (node (leaf Backward) (leaf Braking)))
+
+-- and as a table
+abbrev pub state_word : State → List Bool
+state_word Idle = false ∷ []
+state_word Forward = true ∷ false ∷ []
+state_word Backward = true ∷ true ∷ false ∷ []
+state_word Braking = true ∷ true ∷ true ∷ []
+
+-- the reads of a measurement, in order
+abbrev pub measurement_entry : Order → ReadEntry Measurement
+measurement_entry o = do
+  missed ← unary_entry false
+  distance ← vbr_entry o 4 32 (2 ^ 32)
+  turn ← signed_vbr_entry o 5 16
+  state ← path_entry state_tree
+  gives (record { missed = missed; distance = distance; turn = turn; state = state })
+
+-- the writes of a measurement, in order
+abbrev pub measurement_writes : Order → Measurement → List WriteEntry
+measurement_writes o measurement =
+    (unary_word false measurement.missed ∷ vbr o 4 measurement.distance ∷ signed_vbr o 5 measurement.turn ∷ [])
+    ++ bit_by_bit (state_word measurement.state)
+
+-- each number is one of its type
+pub record Fits (measurement : Measurement) : Type 0 where
+  pub missed : measurement.missed < 2 ^ 32
+  pub distance : measurement.distance < 2 ^ 32
+  pub turn : FitsSignedBits 16 measurement.turn

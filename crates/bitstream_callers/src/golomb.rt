@@ -1,0 +1,84 @@
+//! Exponential Golomb numbers, as the parameter sets of H.264 and H.265 have them.
+ghost use Rattle.std.specs.Prelude.{◌≡◌, ◌++◌, ◌^◌, ◌<◌, ◌-◌, ℕ, ℤ, Bool, List, Ok, IfOk, length, unsigned_abs};
+ghost use Rattle.bitstream_io.specs.Entry.{Takes};
+ghost use Rattle.bitstream_io.specs.Reads.{Reads};
+ghost use Rattle.bitstream_io.specs.Run.{write_run};
+ghost use Rattle.bitstream_io.specs.Sink.{WritesAll};
+ghost use Rattle.bitstream_io.specs.Word.{Order};
+ghost use Rattle.bitstream_callers.specs.Golomb.{se_entry, se_writes, ue_entry, ue_writes};
+
+use bitstream_io::{BitRead, BitReadExt, BitWrite, BitWriteExt, Bits, Error};
+
+/// Reads an unsigned number, `ue(v)`.
+///
+/// # Errors
+///
+/// `VariableWidthOverflow` for more than 31 zeros in front. They are read then, with the one behind
+/// them. Else those of the reader.
+pub fn read_ue<R: BitRead>(reader: &mut R) -> Result<u32, Error>
+    ensures reads { Reads R.source (ue_entry R.source.order) reader.old result reader.new }
+    ensures below { IfOk result (λ value. value < 2 ^ 32 - 1) }
+{
+    let zeros = reader.read_unary::<Bits<1>>()?;
+    if zeros > 31 {
+        return Err(Error::VariableWidthOverflow);
+    }
+    let rest: u32 = reader.read_var(zeros)?;
+    Ok((1 << zeros) - 1 + rest)
+}
+
+/// Reads a signed number, `se(v)`.
+///
+/// # Errors
+///
+/// Those of [`read_ue`].
+pub fn read_se<R: BitRead>(reader: &mut R) -> Result<i32, Error>
+    ensures { Reads R.source (se_entry R.source.order) reader.old result reader.new }
+{
+    let place = read_ue(reader)?;
+    let half = (place / 2) as i32;
+    Ok(if place % 2 == 1 { half + 1 } else { -half })
+}
+
+/// Writes an unsigned number, `ue(v)`. The greatest number of 32 bits has no word.
+///
+/// # Errors
+///
+/// Those of the sink.
+pub fn write_ue<W: BitWrite>(writer: &mut W, value: u32) -> Result<(), Error>
+    requires { value < 2 ^ 32 - 1 }
+    ensures { WritesAll W.sink (ue_writes W.sink.order value) writer.old result writer.new }
+{
+    let more = value + 1;
+    let zeros = 31 - more.leading_zeros();
+    writer.write_unary::<Bits<1>>(zeros)?;
+    writer.write_var(zeros, more - (1 << zeros))
+}
+
+/// Writes a signed number, `se(v)`. The least number of 32 bits has no word.
+///
+/// # Errors
+///
+/// Those of the sink.
+pub fn write_se<W: BitWrite>(writer: &mut W, value: i32) -> Result<(), Error>
+    requires { unsigned_abs value < 2 ^ 31 }
+    ensures { WritesAll W.sink (se_writes W.sink.order value) writer.old result writer.new }
+{
+    let twice = 2 * value.unsigned_abs();
+    write_ue(writer, if value > 0 { twice - 1 } else { twice })
+}
+
+/// An unsigned number is read back as it was written, in either order of bits, wherever it stands.
+pub fn unsigned_numbers_go_back()
+    ensures { (o : Order) (value at from : ℕ) (more : List Bool) → value < 2 ^ 32 - 1
+        → let word = write_run (ue_writes o value) at in
+        (ue_entry o).reads from (word ++ more) ≡ Takes (length word) (Ok value) }
+{}
+
+/// So is a signed number.
+pub fn signed_numbers_go_back()
+    ensures { (o : Order) (value : ℤ) (at from : ℕ) (more : List Bool)
+        → unsigned_abs value < 2 ^ 31
+        → let word = write_run (se_writes o value) at in
+        (se_entry o).reads from (word ++ more) ≡ Takes (length word) (Ok value) }
+{}

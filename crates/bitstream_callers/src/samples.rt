@@ -1,0 +1,80 @@
+//! Runs of samples of 12 bits, in a vector.
+ghost use Rattle.std.specs.Prelude.{◌≡◌, ◌⊎◌, ◌++◌, ◌*◌, ◌^◌, ◌<◌, ◌≤◌, ℕ, Bool, List, Ok, Err, length};
+ghost use Rattle.std.specs.List.{All};
+ghost use Rattle.bitstream_io.specs.Entry.{Takes};
+ghost use Rattle.bitstream_io.specs.Error.TheVariants.{EndOfInput, OutOfMemory};
+ghost use Rattle.bitstream_io.specs.Gather.{seen};
+ghost use Rattle.bitstream_io.specs.Reads.{Reads};
+ghost use Rattle.bitstream_io.specs.Run.{write_run};
+ghost use Rattle.bitstream_io.specs.Sink.{WritesAll};
+ghost use Rattle.bitstream_io.specs.Word.{Order, High, bits};
+ghost use Rattle.bitstream_callers.specs.Samples.{ReadSome, samples_entry, samples_in, samples_writes};
+
+use bitstream_io::{BE, BitRead, BitReadExt, BitReader, BitWrite, BitWriteExt, Bits, Error, Slice};
+use std::alloc::Global;
+
+/// Reads so many samples.
+///
+/// # Errors
+///
+/// Those of the reader; and `OutOfMemory` if the vector is refused memory. Some of the samples are
+/// read then, and the reader goes on.
+pub fn read_samples<R: BitRead>(
+    alloc: Global,
+    reader: &mut R,
+    count: usize,
+) -> Result<Vec<u16>, Error>
+    ensures { Reads R.source (samples_entry R.source.order count)
+        reader.old (seen (λ samples. samples.items) result) reader.new
+        ⊎ ((result ≡ Err OutOfMemory) × ReadSome R.source count reader.old reader.new) }
+{
+    let mut samples = Vec::new(alloc);
+    for _ in 0..count {
+        samples.push(reader.read::<Bits<12>, u16>()?)?;
+    }
+    Ok(samples)
+}
+
+/// Returns the samples that bytes begin with.
+///
+/// # Errors
+///
+/// `EndOfInput` for too few bytes, and `OutOfMemory`.
+pub fn parse_samples(alloc: Global, bytes: &[u8], count: usize) -> Result<Vec<u16>, Error>
+    ensures there { count * 12 ≤ 8 * length bytes.now
+        → (result ≡ Err OutOfMemory)
+        ⊎ (seen (λ samples. samples.items) result ≡ Ok (samples_in count (bits High bytes.now))) }
+    ensures short { 8 * length bytes.now < count * 12
+        → (result ≡ Err OutOfMemory) ⊎ (result ≡ Err EndOfInput) }
+{
+    read_samples(
+        alloc,
+        &mut BitReader::<_, BE>::new(Slice::new(bytes)),
+        count,
+    )
+}
+
+/// Writes samples.
+///
+/// # Errors
+///
+/// `Checked` for a sample of 2^12 or more. Those before it are written then. Else those of the sink.
+pub fn write_samples<W: BitWrite>(writer: &mut W, samples: &[u16]) -> Result<(), Error>
+    ensures { WritesAll W.sink (samples_writes W.sink.order samples.now)
+        writer.old result writer.new }
+{
+    for sample in samples {
+        writer.write::<Bits<12>, u16>(*sample)?;
+    }
+    Ok(())
+}
+
+/// Samples that fit their bits are read back as they were written, in either order of bits, wherever
+/// they stand.
+pub fn samples_go_back()
+    ensures { (o : Order) (samples : List ℕ) (at from : ℕ) (more : List Bool)
+        → All (λ sample. sample < 2 ^ 12) samples
+        → let word = write_run (samples_writes o samples) at in
+        (samples_entry o (length samples)).reads from (word ++ more)
+        ≡ Takes (length word) (Ok samples) }
+{}

@@ -1,0 +1,120 @@
+//! A measurement of a wheel's sensor: a unary number, numbers of variable width, and a prefix code.
+ghost use Rattle.std.specs.Prelude.{◌≡◌, ◌++◌, ℕ, Bool, List, Ok, IfOk, length};
+ghost use Rattle.bitstream_io.specs.Entry.{Takes};
+ghost use Rattle.bitstream_io.specs.HuffmanTree.{tree_of};
+ghost use Rattle.bitstream_io.specs.Reads.{Reads, sure_answer};
+ghost use Rattle.bitstream_io.specs.Run.{write_run};
+ghost use Rattle.bitstream_io.specs.Sink.{WritesAll};
+ghost use Rattle.bitstream_io.specs.Word.{Order, High, bits};
+ghost use Rattle.bitstream_callers.specs.declared.sensor.Measurement.{Measurement};
+ghost use Rattle.bitstream_callers.specs.Sensor.{Fits, measurement_entry, measurement_writes, state_tree};
+
+use bitstream_io::huffman::HuffmanTree;
+use bitstream_io::{BE, BitRead, BitReadExt, BitReader, BitWrite, BitWriteExt, Bits, Error, Slice};
+use std::alloc::{AllocError, Global};
+
+/// How a wheel turns.
+#[derive(Clone, Copy, Debug, PartialEq, Eq)]
+pub enum State {
+    /// Not at all.
+    Idle,
+    /// Forwards.
+    Forward,
+    /// Backwards.
+    Backward,
+    /// Slower and slower.
+    Braking,
+}
+
+/// A code of the states.
+pub type StateCode = HuffmanTree<State, Global>;
+
+/// What is measured at one time.
+#[derive(Clone, Copy, Debug, PartialEq)]
+pub struct Measurement {
+    /// The measurements that were lost before this one.
+    pub missed: u32,
+    /// How far the wheel turned since the start.
+    pub distance: u32,
+    /// How far it turned since the last measurement, backwards if negative.
+    pub turn: i16,
+    /// How it turns.
+    pub state: State,
+}
+
+/// Makes the code of the states. The more often a state is met, the shorter is its word.
+///
+/// # Errors
+///
+/// If memory is refused.
+pub fn state_code(alloc: Global) -> Result<StateCode, AllocError>
+    ensures { IfOk result (λ code. tree_of code ≡ state_tree) }
+{
+    let idle = HuffmanTree::leaf(alloc, State::Idle)?;
+    let forward = HuffmanTree::leaf(alloc, State::Forward)?;
+    let backward = HuffmanTree::leaf(alloc, State::Backward)?;
+    let braking = HuffmanTree::leaf(alloc, State::Braking)?;
+    let rare = HuffmanTree::node(backward, braking)?;
+    HuffmanTree::node(idle, HuffmanTree::node(forward, rare)?)
+}
+
+impl Measurement {
+    /// Reads a measurement.
+    ///
+    /// # Errors
+    ///
+    /// Those of the reader. `VariableWidthOverflow` and `RedundantGroup` for numbers that are not
+    /// written so.
+    pub fn read<R: BitRead>(code: &StateCode, reader: &mut R) -> Result<Measurement, Error>
+        requires { tree_of code.now ≡ state_tree }
+        ensures { Reads R.source (measurement_entry R.source.order) reader.old result reader.new }
+    {
+        Ok(Measurement {
+            missed: reader.read_unary::<Bits<0>>()?,
+            distance: reader.read_vbr::<Bits<4>, u32>()?,
+            turn: reader.read_vbr::<Bits<5>, i16>()?,
+            state: reader.read_huffman(code)?,
+        })
+    }
+
+    /// Returns the measurement that a packet begins with.
+    ///
+    /// # Errors
+    ///
+    /// Those of `read`, of which `EndOfInput` is the only one of the stream.
+    pub fn parse(code: &StateCode, packet: &[u8]) -> Result<Measurement, Error>
+        requires { tree_of code.now ≡ state_tree }
+        ensures answer { result
+            ≡ sure_answer ((measurement_entry High).reads 0 (bits High packet.now)) }
+        ensures back { (measurement : Measurement) (more : List Bool) → Fits measurement
+            → bits High packet.now ≡ write_run (measurement_writes High measurement) 0 ++ more
+            → result ≡ Ok measurement }
+    {
+        measurements_go_back();
+        Measurement::read(code, &mut BitReader::<_, BE>::new(Slice::new(packet)))
+    }
+
+    /// Writes a measurement.
+    ///
+    /// # Errors
+    ///
+    /// Those of the sink.
+    pub fn write<W: BitWrite>(&self, code: &StateCode, writer: &mut W) -> Result<(), Error>
+        requires { tree_of code.now ≡ state_tree }
+        ensures { WritesAll W.sink (measurement_writes W.sink.order self.now)
+            writer.old result writer.new }
+    {
+        writer.write_unary::<Bits<0>>(self.missed)?;
+        writer.write_vbr::<Bits<4>, u32>(self.distance)?;
+        writer.write_vbr::<Bits<5>, i16>(self.turn)?;
+        writer.write_huffman(code, self.state)
+    }
+}
+
+/// A measurement is read back as it was written, in either order of bits, wherever it stands.
+pub fn measurements_go_back()
+    ensures { (o : Order) (measurement : Measurement) (at from : ℕ) (more : List Bool)
+        → Fits measurement
+        → let word = write_run (measurement_writes o measurement) at in
+        (measurement_entry o).reads from (word ++ more) ≡ Takes (length word) (Ok measurement) }
+{}
