@@ -88,7 +88,8 @@ bytes_within-Ok n text bytes h =
     let p = parts_by (length parts == n) (list_all is_decimal parts) (list_all is_byte parts) (map decimal_value parts)
     bytes h in
     let t = texts_back parts p.1 p.2 in
-    let count : length (map decimal_value parts) ≡ n = length-map parts decimal_value ∙ eqb-true (length parts) n p.0 in (
+    let count : length (map decimal_value parts) ≡ n = length-map parts decimal_value ∙ eqb-true (length parts) n p.0
+    in (
       ap length (sym p.3) ∙ count,
       subst (λ bs. All (λ b. b < 256) bs) p.3 (All-from_recursion (λ b. b < 256) (map decimal_value parts) t.1),
       ap bytes_text (sym p.3) ∙ ap (join_with_byte 32) t.0 ∙ join_with_byte-slice_split 32 text,

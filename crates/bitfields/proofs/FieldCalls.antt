@@ -260,8 +260,8 @@ trips o (Constant n v) vs at i h =
       word = w;
       value = None;
       writes = unsigned-fits o 32 n v at i.1 i.2;
-      reads = λ more. made (unsigned_entry o 32 n) (λ u. if u == v then Ok None else Err ConstantDiffers) at (length w) (w
-          ++ more) v (unsigned-answers o 32 n v at more i.1 i.2)
+      reads = λ more. made (unsigned_entry o 32 n) (λ u. if u == v then Ok None else Err ConstantDiffers) at
+          (length w) (w ++ more) v (unsigned-answers o 32 n v at more i.1 i.2)
           ∙ ap (λ (r : Result (Option FieldValue) Reason). Takes (length w) (Ok r)) same;
       first = refl;
     }

@@ -213,7 +213,8 @@ constant_after_spelt front back n (Some v) f e d h found =
     let same : Constant n v ≡ f = cc in
     found n v (some, few, omega arith) (ap (λ t. t ++ 61 ∷ decimal v) p.2 ∙ ap (λ t. front ++ 61 ∷ t) q.2) same
 
-constant_bits_spelt : {P : Type 0} (front back : List ℕ) (bits : Option ℕ) (f : Field) → decimal_within 1 32 front ≡ bits
+constant_bits_spelt : {P : Type 0} (front back : List ℕ) (bits : Option ℕ) (f : Field)
+    → decimal_within 1 32 front ≡ bits
     → constant_after bits back ≡ Some f
     → ((n v : ℕ) → IsField (Constant n v) → decimal n ++ 61 ∷ decimal v ≡ front ++ 61 ∷ back → Constant n v ≡ f → P) → P
 constant_bits_spelt front back None f e h found = absurd (cc)

@@ -270,7 +270,8 @@ module _ (calls : FieldCalls) where
   -- the first field's word, and what follows it
   first_then : (o : Order) (k : ℕ) (f : Field) (fs : List Field) (v : Option FieldValue) (s t : ReaderState)
       (h : ReadDone o (calls o f) s (Ok (Ok v)) t) (more : List Bool)
-      → says_by calls o k (f ∷ fs) s.taken (h.word ++ more) ≡ values_and (value_list v) (says_by calls o (k + 1) fs t.taken more)
+      → says_by calls o k (f ∷ fs) s.taken (h.word ++ more)
+      ≡ values_and (value_list v) (says_by calls o (k + 1) fs t.taken more)
   first_then o k f fs v s t h more =
       says-first calls o k f fs s.taken h.word more v (h.decides more)
       ∙ ap (λ (p : ℕ). values_and (value_list v) (says_by calls o (k + 1) fs p more)) (sym h.taken)

@@ -186,7 +186,8 @@ plain-found {e = e} {p = p} {u = u} {w = w} {a = a} h found =
 vbr_call : (o : Order) (field : ℕ) {v p : ℕ} {w : List Bool} → 2 ≤ field → ok (vbr_word o field v) ≡ Ok w → v < 2 ^ 64
     → Found (answered answer.Vbr (vbr_entry o field 64 (2 ^ 64))) p w (answer.Vbr v)
 vbr_call o field {v = v} {p = p} wide e h =
-    plain-found e (mapped-found answer.Vbr (groups-found true o field 64 (2 ^ 64) v p wide (omega arith) (omega arith) h))
+    plain-found e (mapped-found answer.Vbr (groups-found true o field 64 (2 ^ 64) v p wide (omega arith) (omega
+    arith) h))
 
 signed_vbr_call : (o : Order) (field : ℕ) {x : ℤ} {p : ℕ} {w : List Bool} → 2 ≤ field
     → ok (vbr_word o field (zig x)) ≡ Ok w → FitsSignedBits 64 x

@@ -13,7 +13,8 @@ returns-then-not-is_decimal c =
     let parts = map (λ (x : Bor (List ℕ)). x.now) c.args.texts.now in
     let no : c.is_decimal.result ≡ false = search rules in
     let is : is_decimal (get_or parts i []) ≡ false =
-    ap is_decimal (get_or-map (λ (x : Bor (List ℕ)). x.now) c.args.texts.now i _ [] here) ∙ sym c.is_decimal.ensures ∙ no
+    ap is_decimal (get_or-map (λ (x : Bor (List ℕ)). x.now) c.args.texts.now i _ [] here) ∙ sym c.is_decimal.ensures
+    ∙ no
     in
     sym (list_all_at is_decimal parts i [] (rw length-map here) is)
 

@@ -5,5 +5,6 @@ use Rattle.std.proofs.lemmas.Iterator.Splits.{YieldsList-from_slice_split}
 use Rattle.bitfields.proofs.lines.parts.Goals as goal
 
 pub returns : goal.returns
-returns c = map_from_collect _ c.collect.ensures.ran (YieldsList-from_slice_split _ (λ b. b == c.args.separator) c.args.text.now
+returns c =
+    map_from_collect _ c.collect.ensures.ran (YieldsList-from_slice_split _ (λ b. b == c.args.separator) c.args.text.now
     c.split.ensures.rest c.split.ensures.done c.split.ensures.closure (λ x b q h. search rules))

@@ -22,7 +22,8 @@ pub returns-in-Variable : goal.returns-in-Variable
 returns-in-Variable g c = rw c.in-Variable.is (rw c.first_unsigned-in-Variable.ensures.first at c.append_groups.ensures)
 
 pub returns-in-Lenient : goal.returns-in-Lenient
-returns-in-Lenient g c = rw c.in-Lenient.is (rw c.first_unsigned-in-Lenient.ensures.first at c.append_groups-in-Lenient.ensures)
+returns-in-Lenient g c =
+    rw c.in-Lenient.is (rw c.first_unsigned-in-Lenient.ensures.first at c.append_groups-in-Lenient.ensures)
 
 pub returns-in-SignedVariable : goal.returns-in-SignedVariable
 returns-in-SignedVariable g c =

@@ -21,7 +21,8 @@ returns-in_err-value-in-Unsigned g c =
     c.in_err-value-in-Unsigned.ensures.reads)
 
 pub returns-in_ok-value-in-Unsigned : goal.returns-in_ok-value-in-Unsigned
-returns-in_ok-value-in-Unsigned g c = rw c.in-Unsigned.is (answers (λ v. Ok (Some (Value.Unsigned v))) c.in_ok-value-in-Unsigned.ensures.reads)
+returns-in_ok-value-in-Unsigned g c =
+    rw c.in-Unsigned.is (answers (λ v. Ok (Some (Value.Unsigned v))) c.in_ok-value-in-Unsigned.ensures.reads)
 
 pub returns-in_err-value-in-Signed : goal.returns-in_err-value-in-Signed
 returns-in_err-value-in-Signed g c =
@@ -32,7 +33,8 @@ pub returns-in_ok-value-in-Signed : goal.returns-in_ok-value-in-Signed
 returns-in_ok-value-in-Signed g c =
     let value = c.in_ok-value-in-Signed.value in
     let fits : SFits w128 value = search (rules, sfits_of) in
-    rw (c.in-Signed.is, to_z-of_z w128 value fits) (answers (λ v. Ok (Some (Value.Signed v))) c.in_ok-value-in-Signed.ensures.reads)
+    rw (c.in-Signed.is, to_z-of_z w128 value fits) (answers (λ v. Ok (Some (Value.Signed v)))
+    c.in_ok-value-in-Signed.ensures.reads)
 
 pub returns-in_err-value-in-Unary : goal.returns-in_err-value-in-Unary
 returns-in_err-value-in-Unary g c =
@@ -40,7 +42,8 @@ returns-in_err-value-in-Unary g c =
     c.in_err-value-in-Unary.ensures)
 
 pub returns-in_ok-value-in-Unary : goal.returns-in_ok-value-in-Unary
-returns-in_ok-value-in-Unary g c = rw c.in-Unary.is (answers (λ v. Ok (Some (Value.Unsigned v))) c.in_ok-value-in-Unary.ensures)
+returns-in_ok-value-in-Unary g c =
+    rw c.in-Unary.is (answers (λ v. Ok (Some (Value.Unsigned v))) c.in_ok-value-in-Unary.ensures)
 
 pub returns-in_err-value-in-Variable : goal.returns-in_err-value-in-Variable
 returns-in_err-value-in-Variable g c =
@@ -48,7 +51,8 @@ returns-in_err-value-in-Variable g c =
     c.in_err-value-in-Variable.ensures)
 
 pub returns-in_ok-value-in-Variable : goal.returns-in_ok-value-in-Variable
-returns-in_ok-value-in-Variable g c = rw c.in-Variable.is (answers (λ v. Ok (Some (Value.Unsigned v))) c.in_ok-value-in-Variable.ensures)
+returns-in_ok-value-in-Variable g c =
+    rw c.in-Variable.is (answers (λ v. Ok (Some (Value.Unsigned v))) c.in_ok-value-in-Variable.ensures)
 
 pub returns-in_err-value-in-Lenient : goal.returns-in_err-value-in-Lenient
 returns-in_err-value-in-Lenient g c =
@@ -56,11 +60,13 @@ returns-in_err-value-in-Lenient g c =
     c.in_err-value-in-Lenient.ensures)
 
 pub returns-in_ok-value-in-Lenient : goal.returns-in_ok-value-in-Lenient
-returns-in_ok-value-in-Lenient g c = rw c.in-Lenient.is (answers (λ v. Ok (Some (Value.Unsigned v))) c.in_ok-value-in-Lenient.ensures)
+returns-in_ok-value-in-Lenient g c =
+    rw c.in-Lenient.is (answers (λ v. Ok (Some (Value.Unsigned v))) c.in_ok-value-in-Lenient.ensures)
 
 pub returns-in_err-value-in-SignedVariable : goal.returns-in_err-value-in-SignedVariable
 returns-in_err-value-in-SignedVariable g c =
-    rw c.in-SignedVariable.is (stops (λ v. Ok (Some (Value.Signed v))) c.from_residual-in_err-value-in-SignedVariable.ensures.1
+    rw c.in-SignedVariable.is (stops (λ v. Ok (Some (Value.Signed v)))
+    c.from_residual-in_err-value-in-SignedVariable.ensures.1
     c.in_err-value-in-SignedVariable.ensures)
 
 pub returns-in_ok-value-in-SignedVariable : goal.returns-in_ok-value-in-SignedVariable
@@ -70,7 +76,8 @@ returns-in_ok-value-in-SignedVariable g c =
     let wide : SFits w128 c.widened.result = search (rules, sfits_of) in
     let same : to_z w128 (of_z w128 c.widened.result) ≡ value = to_z-of_z w128 c.widened.result wide ∙ c.widened.ensures
     ∙ to_z-of_z w64 value fits in
-    rw (c.in-SignedVariable.is, same) (answers (λ v. Ok (Some (Value.Signed v))) c.in_ok-value-in-SignedVariable.ensures)
+    rw (c.in-SignedVariable.is, same) (answers (λ v. Ok (Some (Value.Signed v)))
+    c.in_ok-value-in-SignedVariable.ensures)
 
 pub returns-in_err-read_bytes-in-Bytes : goal.returns-in_err-read_bytes-in-Bytes
 returns-in_err-read_bytes-in-Bytes g c =

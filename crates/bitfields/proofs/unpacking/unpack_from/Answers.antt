@@ -12,7 +12,8 @@ loop-index-preserved g c =
     let h : i < length c.args.fields.now = omega arith in
     let printed : string_bytes c.print_field.new.lines ≡ string_bytes c.loop-index.lines
     ++ printed_lines (value_list c.in-Ok-unpack_field.value) = search rules in
-    Unpacking-more g.R.BitRead.source c.args.fields.now i _ _ _ _ _ _ _ h c.loop-index.invariant c.in-Ok-unpack_field.ensures printed
+    Unpacking-more g.R.BitRead.source c.args.fields.now i _ _ _ _ _ _ _ h c.loop-index.invariant
+    c.in-Ok-unpack_field.ensures printed
 
 pub returns-in_default : goal.returns-in_default
 returns-in_default g c =
@@ -25,7 +26,8 @@ pub returns-then-is_err : goal.returns-then-is_err
 returns-then-is_err g c =
     let i = c.loop-index.index in
     let h : i < length c.args.fields.now = omega arith in
-    Unpacking-line_refused g.R.BitRead.source c.args.fields.now i _ _ _ _ _ c.in-Ok-unpack_field.value _ h c.loop-index.invariant
+    Unpacking-line_refused g.R.BitRead.source c.args.fields.now i _ _ _ _ _ c.in-Ok-unpack_field.value _ h
+    c.loop-index.invariant
     c.in-Ok-unpack_field.ensures (c.print_field.ensures.some (search rules)) c.new-then-is_err.ensures
 
 pub returns-in-Err : goal.returns-in-Err
