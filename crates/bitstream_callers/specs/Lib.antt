@@ -7,5 +7,6 @@ pub mod PaddedPort
 pub mod Reading
 pub mod Samples
 pub mod Sensor
+pub mod Sps
 pub mod StreamInfo
 pub mod Telemetry

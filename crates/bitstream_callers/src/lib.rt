@@ -13,5 +13,6 @@ pub mod plain;
 pub mod reading;
 pub mod samples;
 pub mod sensor;
+pub mod sps;
 pub mod stream_info;
 pub mod telemetry;

@@ -354,8 +354,19 @@ module _ {B : Type 0} (b : List Bool) (k n l : ℕ) (r : Result B Error) where
       → Finds b k (chain (skip_entry n) f) l r
   skip-finds f le found = next-finds b k n l (skip_entry n) f (λ w. tt) r (skip-word n) le found
 
--- ---- what a new reader answers, over a stream that refuses at true ends alone, if the front is known
+-- ---- what a new reader answers, over a stream that refuses at true ends alone
 
+-- whatever the front is, with errors of one's own
+pub own_answered : {R A E : Type 0} {K : BitSource R} {becomes : Error → E → Type 0} {e : ReadEntry (Result A E)}
+    {r : Result A E} {s t : R} {xs : List ℕ} {known : Option (List ℕ)} {reference_names : List GName}
+    → TrueEnds K.may → K.state s ≡ new_reader_state known reference_names → known ≡ Some xs
+    → ReadsOwn K becomes e s r t → OwnAnswer becomes (λ y. y) (sure_answer (e.reads 0 (bits K.order xs))) r
+own_answered {becomes = becomes} {r = r} {xs = xs} {reference_names = reference_names} ends new told h =
+    let plain =
+    new_answer ends xs reference_names (new ∙ ap (λ z. new_reader_state z reference_names) told) h.called in
+    subst (λ z. OwnAnswer becomes (λ y. y) z r) plain h.answer
+
+-- if the front is known
 module _ {R A : Type 0} {K : BitSource R} {s t : R} {n : ℕ} {xs : List ℕ} {known : Option (List ℕ)}
     {reference_names : List GName} where
   pub front_answered : {e : ReadEntry A} {x r : Result A Error} → TrueEnds K.may
@@ -369,11 +380,8 @@ module _ {R A : Type 0} {K : BitSource R} {s t : R} {n : ℕ} {xs : List ℕ} {k
   pub own_front_answered : {E : Type 0} {becomes : Error → E → Type 0} {e : ReadEntry (Result A E)} {x r : Result A E}
       → TrueEnds K.may → K.state s ≡ new_reader_state known reference_names → known ≡ Some xs
       → ReadsOwn K becomes e s r t → e.reads 0 (bits K.order xs) ≡ Takes n (Ok x) → r ≡ x
-  own_front_answered {becomes = becomes} {x = x} {r = r} ends new told h front =
-      let plain =
-      new_answer ends xs reference_names (new ∙ ap (λ z. new_reader_state z reference_names) told) h.called
-      ∙ ap sure_answer front in
-      subst (λ z. OwnAnswer becomes (λ y. y) z r) plain h.answer
+  own_front_answered {becomes = becomes} {r = r} ends new told h front =
+      subst (λ z. OwnAnswer becomes (λ y. y) (sure_answer z) r) front (own_answered ends new told h)
 
   -- and if reads find it among the bits, or too few of them
   pub own_fields_there : {E : Type 0} {becomes : Error → E → Type 0} {e : ReadEntry (Result A E)} {x r : Result A E}
@@ -389,10 +397,8 @@ module _ {R A : Type 0} {K : BitSource R} {s t : R} {n : ℕ} {xs : List ℕ} {k
       → Finds (bits K.order xs) 0 e n x → 8 * length xs < n → IsErrAnd r (becomes EndOfInput)
   own_fields_short {becomes = becomes} {r = r} ends new told h found few =
       let less : length (bits K.order xs) < 0 + n = let len = length-bits K.order xs in omega arith in
-      let plain =
-      new_answer ends xs reference_names (new ∙ ap (λ z. new_reader_state z reference_names) told) h.called
-      ∙ ap sure_answer (found.short 0 (omega arith) less) in
-      subst (λ z. OwnAnswer becomes (λ y. y) z r) plain h.answer
+      subst (λ z. OwnAnswer becomes (λ y. y) (sure_answer z) r) (found.short 0 (omega arith) less)
+      (own_answered ends new told h)
 
 -- too few bits for items that are words
 pub items_short : {R A : Type 0} {K : BitSource R} {e : ReadEntry A} {n : ℕ} {g : List Bool → A}
