@@ -22,6 +22,8 @@ mod errors;
 mod examples;
 #[cfg(test)]
 mod faults;
+#[cfg(test)]
+mod formats;
 mod memory;
 #[cfg(test)]
 mod numbers;
