@@ -185,7 +185,8 @@ fn packs_into() -> Result<[bool; 2], Error> {
         pressure: 1,
     };
     let mut buffer = [0u8; 8];
-    let packed = sample.pack_into(&mut buffer)?.as_slice() == [0xab, 0xcd, 0xef, 0xf8, 0x00, 0x01];
+    let wanted = [0xab, 0xcd, 0xef, 0xf8, 0x00, 0x01];
+    let packed = sample.pack_into(&mut buffer)?.as_slice() == wanted.as_slice();
     let mut shorter = [0u8; 5];
     let refused = matches!(
         sample.pack_into(&mut shorter),

@@ -1,5 +1,4 @@
 //! Answers of calls, as rows spell them.
-ghost use Rattle.std.specs.Prelude.{◌<◌, IfSome};
 
 use crate::objection::Objection;
 use bitstream_io::{CheckedError, Error};
@@ -86,15 +85,13 @@ pub fn bytes_of(alloc: Global, text: &str) -> Result<Vec<u8>, Objection> {
 
 fn byte_of(pair: &[u8]) -> Option<u8> {
     match pair {
-        [high, low] => Some(digit_of(*high)? * 16 + digit_of(*low)?),
+        [high, low] => Some((digit_of(*high)? << 4) | digit_of(*low)?),
         _ => None,
     }
 }
 
 /// The number of a hexadecimal digit.
-fn digit_of(digit: u8) -> Option<u8>
-    ensures { IfSome result (λ d. d < 16) }
-{
+fn digit_of(digit: u8) -> Option<u8> {
     match digit {
         b'0'..=b'9' => Some(digit - b'0'),
         b'A'..=b'F' => Some(digit - b'A' + 10),
