@@ -4,7 +4,7 @@ use Rattle.bitstream_io.specs.Entry.{ReadEntry, WriteEntry, gives}
 use Rattle.bitstream_io.specs.Error.{Error}
 use Rattle.bitstream_io.specs.ReadTable.{bit_entry, const_entry, first_bit, unsigned_entry}
 use Rattle.bitstream_io.specs.Steps.{◌>>=◌}
-use Rattle.bitstream_io.specs.Word.{Order, High, number, word}
+use Rattle.bitstream_io.specs.Word.{Order, word}
 use Rattle.bitstream_io.specs.WriteTable.{bit, plain, unsigned}
 use Rattle.bitstream_callers.specs.StreamInfo.{number_at}
 use Rattle.bitstream_callers.specs.declared.adts.AdtsError.{AdtsError}

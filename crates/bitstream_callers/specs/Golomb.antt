@@ -8,7 +8,7 @@ use Rattle.bitstream_io.specs.Steps.{◌>>=◌}
 use Rattle.bitstream_io.specs.Word.{Order}
 use Rattle.bitstream_io.specs.WriteTable.{unary_word, unsigned}
 
--- a number of so many bits, behind as many numbers of fewer bits
+-- a number of so many bits, counted from the first one that needs so many
 abbrev pub rest_entry : Order → ℕ → ReadEntry ℕ
 rest_entry o zeros = do
   rest ← unsigned_entry o 32 zeros
@@ -32,7 +32,7 @@ ue_writes o v = unary_word true (zeros_of v) ∷ unsigned o 32 (zeros_of v) (v +
 abbrev pub signed_at : ℕ → ℤ
 signed_at place = if place % 2 == 1 then pos (place / 2 + 1) else neg_ℤ (pos (place / 2))
 
--- and the place of a number
+-- the place of a number in that order
 abbrev pub place_of : ℤ → ℕ
 place_of (pos n) = 2 * n - 1
 place_of (negsuc n) = 2 * (n + 1)

@@ -8,7 +8,7 @@ use Rattle.bitstream_io.specs.Reads.{BitSource, Reads}
 use Rattle.bitstream_io.specs.Word.{Order, High, number}
 use Rattle.bitstream_io.specs.WriteTable.{unsigned}
 
--- so many samples, one after another
+-- the given number of samples, one after another
 abbrev pub samples_entry : Order → ℕ → ReadEntry (List ℕ)
 samples_entry o count = items_entry (unsigned_entry o 16 12) count
 
@@ -24,7 +24,7 @@ sample_writes o sample = unsigned o 16 12 sample ∷ []
 abbrev pub samples_writes : Order → List ℕ → List WriteEntry
 samples_writes o samples = flat_map (sample_writes o) samples
 
--- at most so many samples were read, and nothing else
+-- at most the given number of samples were read, and nothing else
 pub record ReadSome {R : Type 0} (K : BitSource R) (count : ℕ) (old new : R) : Type 0 where
   pub taken : ℕ
   pub within : taken ≤ count

@@ -14,7 +14,7 @@ use Rattle.bitstream_callers.specs.declared.sensor.State.TheVariants.{Idle, Forw
 abbrev pub state_tree : Tree State
 state_tree = node (leaf Idle) (node (leaf Forward) (node (leaf Backward) (leaf Braking)))
 
--- and as a table
+-- the words of the states: the paths of that tree
 abbrev pub state_word : State → List Bool
 state_word Idle = false ∷ []
 state_word Forward = true ∷ false ∷ []

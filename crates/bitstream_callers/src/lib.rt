@@ -1,6 +1,6 @@
 //! Small callers of `bitstream_io`: a reader of a FLAC block, a packer of telemetry, a protocol's header
-//! both ways, and types that say themselves how they are read and written. `CALLING.md` goes through
-//! them.
+//! both ways, types that say themselves how they are read and written, numbers that are computed, a
+//! header with a syncword, samples in a loop, and a prefix code. `CALLING.md` goes through them.
 #![tactic(auto)]
 
 pub mod adts;

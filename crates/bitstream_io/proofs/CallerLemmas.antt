@@ -1,7 +1,7 @@
 -- What callers' proofs need beside the lemmas of single calls: what an answer tells, constants, branches and errors of
 -- a caller's own among reads, items that are read in a loop, and what goes back by parts.
-use Rattle.std.proofs.Common.{◌≡◌, ◌⊎◌, ℕ, ℤ, zero, suc, pos, negsuc, Continue, Break, get_or, ◌+◌, ◌-◌, ◌*◌, ◌^◌, ◌<◌, ◌≤◌, ◌==◌, Bool, true, false, List, [], ◌∷◌, ◌++◌, length, take, drop, Option, Some, Result, Ok, Err, refl, sym, ap, ◌∙◌, subst, inl, inr, arith, add-one, length-take}
-use Rattle.std.specs.Prelude.{IfOk, nat_le, nat_lt, map, flat_map, if◌then◌else◌}
+use Rattle.std.proofs.Common.{◌≡◌, ℕ, ℤ, suc, Continue, Break, get_or, ◌+◌, ◌-◌, ◌*◌, ◌^◌, ◌<◌, ◌≤◌, ◌==◌, Bool, true, false, List, [], ◌∷◌, ◌++◌, length, take, drop, Option, Some, Result, Ok, Err, refl, sym, ap, ◌∙◌, subst, inl, inr, arith, add-one, length-take}
+use Rattle.std.specs.Prelude.{nat_le, nat_lt, flat_map, if◌then◌else◌}
 use Rattle.std.proofs.lemmas.Bool.{le-leb, lt-leb, le-ltb, lt-ltb, eq-eqb, ne_eqb, cases_lt}
 use Rattle.std.proofs.lemmas.Bool.Decides.{leb_tells, nat_tests}
 use Rattle.std.specs.Borrow.{GName}
@@ -29,7 +29,7 @@ use Rattle.bitstream_value.proofs.ArrayLemmas.{items-start}
 use Rattle.bitstream_value.proofs.BackLemmas.{GoesBack, gives-back, signed-word}
 use Rattle.bitstream_value.proofs.OwnLemmas.{is_error}
 use Rattle.bitstream_value.proofs.OwnSteps.{own_end, if_own, else_own}
-use Rattle.bitstream_value.proofs.ReadSteps.{Finds, next-finds, gives-finds}
+use Rattle.bitstream_value.proofs.ReadSteps.{Finds, next-finds}
 use Rattle.bitstream_value.proofs.SureLemmas.{IsWord, unsigned-word, items-word, word_short}
 use Rattle.bitstream_value.proofs.WriteSteps.{next_call, next_write, stop_call, stop_write}
 use Rattle.bitstream_io.specs.ReadBack.{IsReadAs}

@@ -1,5 +1,4 @@
 use Rattle.bitstream_io.proofs.ReadSteps.{reads}
-use Rattle.bitstream_io.proofs.ReadsLemmas.{Reads-chain-ok, Reads-gives}
 use Rattle.bitstream_callers.proofs.GolombLemmas.{at_even, at_odd}
 use Rattle.bitstream_callers.proofs.golomb.read_se.Goals as goal
 

@@ -1,4 +1,4 @@
-use Rattle.std.proofs.Common.{ℕ, ◌<◌, ◌^◌, arith, inl}
+use Rattle.std.proofs.Common.{◌<◌, ◌^◌, arith, inl}
 use Rattle.std.proofs.lemmas.List.Elements.{All-weaker}
 use Rattle.bitstream_io.specs.ReadBack.{IsReadAs}
 use Rattle.bitstream_io.specs.ReadTable.{unsigned_entry}

@@ -1,4 +1,4 @@
-use Rattle.std.proofs.Common.{Ok, arith, refl}
+use Rattle.std.proofs.Common.{refl}
 use Rattle.bitstream_io.proofs.CallerLemmas.{written-begin, written-more, written-stop}
 use Rattle.bitstream_io.proofs.OwnLemmas.{is_error}
 use Rattle.bitstream_callers.specs.Samples.{sample_writes}

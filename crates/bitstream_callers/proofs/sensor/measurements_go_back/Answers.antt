@@ -1,7 +1,7 @@
-use Rattle.std.proofs.Common.{◌≡◌, ◌++◌, ◌∷◌, [], refl}
+use Rattle.std.proofs.Common.{refl}
 use Rattle.bitstream_io.specs.Tree.{IsPath, bit_by_bit, path_entry}
 use Rattle.bitstream_io.specs.Word.{Order}
-use Rattle.bitstream_io.proofs.BackLemmas.{GoesBack, gives-back}
+use Rattle.bitstream_io.proofs.BackLemmas.{GoesBack}
 use Rattle.bitstream_io.proofs.CallerLemmas.{last-back}
 use Rattle.bitstream_io.proofs.CallsBack.{calls_go_back, path-read}
 use Rattle.bitstream_callers.specs.Sensor.{Fits, measurement_entry, measurement_writes, state_tree, state_word}

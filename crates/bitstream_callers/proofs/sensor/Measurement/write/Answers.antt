@@ -1,7 +1,7 @@
 use borrow.Author.Rules.{sfits_of}
-use Rattle.std.proofs.Common.{◌≡◌, List, Bool, SFits, w16, refl, ap, ◌∙◌}
+use Rattle.std.proofs.Common.{◌≡◌, SFits, w16, refl}
 use Rattle.std.proofs.lemmas.Int.{to_z-of_z}
-use Rattle.bitstream_io.specs.Tree.{bit_by_bit, symbol_word}
+use Rattle.bitstream_io.specs.Tree.{symbol_word}
 use Rattle.bitstream_io.proofs.WriteSteps.{few_writes, writes}
 use Rattle.bitstream_callers.specs.Sensor.{state_tree, state_word}
 use Rattle.bitstream_callers.specs.contracts.sensor.StatePartialEq.TheImpl.{eq-value}

@@ -1,4 +1,4 @@
-use Rattle.std.proofs.Common.{[], ◌∷◌, Ok, refl, rules}
+use Rattle.std.proofs.Common.{◌∷◌, refl, rules}
 use Rattle.bitstream_io.specs.Word.{High}
 use Rattle.bitstream_io.specs.WriteTable.{unsigned}
 use Rattle.bitstream_io.proofs.WriteParts.{all_append}
