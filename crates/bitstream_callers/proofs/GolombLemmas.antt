@@ -23,7 +23,7 @@ shifted zeros few =
     let one : 1 * 2 ^ zeros ≡ 2 ^ zeros = omega arith in
     rw one (mod-eq_of_lt small)
 
--- the number that is read behind so many zeros
+-- the number that is read behind `zeros` zeros has 32 bits, and is not the greatest
 pub sum_below : (zeros rest : ℕ) → zeros ≤ 31 → rest < 2 ^ zeros → 1 * 2 ^ zeros % 4294967296 - 1 + rest < 4294967295
 sum_below zeros rest few small =
     let most : 2 ^ zeros ≤ 2 ^ 31 = pow_mono few in

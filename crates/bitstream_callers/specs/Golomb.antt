@@ -8,7 +8,7 @@ use Rattle.bitstream_io.specs.Steps.{◌>>=◌}
 use Rattle.bitstream_io.specs.Word.{Order}
 use Rattle.bitstream_io.specs.WriteTable.{unary_word, unsigned}
 
--- a number of so many bits, counted from the first one that needs so many
+-- the number that is written behind `zeros` zeros and a one: its last bits, as many as the zeros
 abbrev pub rest_entry : Order → ℕ → ReadEntry ℕ
 rest_entry o zeros = do
   rest ← unsigned_entry o 32 zeros

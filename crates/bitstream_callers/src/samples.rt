@@ -13,7 +13,7 @@ ghost use Rattle.bitstream_callers.specs.Samples.{ReadSome, samples_entry, sampl
 use bitstream_io::{BE, BitRead, BitReadExt, BitReader, BitWrite, BitWriteExt, Bits, Error, Slice};
 use std::alloc::Global;
 
-/// Reads so many samples.
+/// Reads the given number of samples.
 ///
 /// # Errors
 ///
