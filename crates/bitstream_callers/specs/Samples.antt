@@ -1,4 +1,4 @@
--- Runs of samples of 12 bits.
+-- Samples of 12 bits.
 use Rattle.std.specs.Prelude.{◌≤◌, ℕ, Bool, List, [], ◌∷◌, Ok, map}
 use Rattle.std.specs.List.{flat_map}
 use Rattle.bitstream_io.specs.Array.{items_entry, words}

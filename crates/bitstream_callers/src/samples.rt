@@ -1,4 +1,4 @@
-//! Runs of samples of 12 bits, in a vector.
+//! Samples of 12 bits, in a vector.
 ghost use Rattle.std.specs.Prelude.{◌≡◌, ◌⊎◌, ◌++◌, ◌*◌, ◌^◌, ◌<◌, ◌≤◌, ℕ, Bool, List, Ok, Err, length};
 ghost use Rattle.std.specs.List.{All};
 ghost use Rattle.bitstream_io.specs.Entry.{Takes};
