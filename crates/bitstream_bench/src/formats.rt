@@ -1,5 +1,9 @@
 //! The callers that read and write known formats, each on its happy path. The bytes are those of the
 //! formats' own documents, or made by hand.
+ghost use Rattle.std.specs.Prelude.{◌≡◌};
+ghost use Rattle.bitstream_callers.specs.Sensor.{state_tree};
+ghost use Rattle.bitstream_io.specs.HuffmanTree.{tree_of};
+
 use bitstream_callers::adts::{AdtsError, AdtsHeader};
 use bitstream_callers::golomb::{read_se, read_ue, write_se, write_ue};
 use bitstream_callers::samples::{parse_samples, write_samples};
@@ -128,7 +132,9 @@ fn reads_and_writes_samples(rt: HostRuntime) -> Result<(), Fail> {
 
 /// Whether a measurement is read from three bytes, and written as them: `110`, `1100 1100 0001`,
 /// `00101` and `110`.
-fn measures(code: &StateCode) -> Result<[bool; 2], Error> {
+fn measures(code: &StateCode) -> Result<[bool; 2], Error>
+    requires { tree_of code.now ≡ state_tree }
+{
     let measured = Measurement {
         missed: 2,
         distance: 100,

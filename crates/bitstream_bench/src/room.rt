@@ -1,4 +1,6 @@
 //! Bytes in memory as a target: where a request is refused, and what was written until then.
+ghost use Rattle.std.specs.Prelude.{◌≤◌};
+
 use bitstream_io::{
     BE, BitWrite, BitWriter, ByteWrite, ByteWriter, Endianness, Error, LE, SliceMut,
 };
@@ -19,101 +21,111 @@ fn write_packet<W: BitWrite>(writer: &mut W) -> Result<(), Error> {
     writer.byte_align()
 }
 
-/// What a packet comes to if there is room for a number of bytes.
+/// A packet that is written where there is room for a number of bytes: how many of it are written,
+/// and what then stands in memory that was filled with `ee`, in either order.
 struct Row {
     room: usize,
-    /// The bytes that are written.
-    big_endian: &'static [u8],
-    little_endian: &'static [u8],
-    /// Whether the packet is written.
-    fits: bool,
+    written: usize,
+    big_endian: [u8; 6],
+    little_endian: [u8; 6],
 }
 
 const ROWS: [Row; 7] = [
     Row {
         room: 0,
-        big_endian: &[],
-        little_endian: &[],
-        fits: false,
+        written: 0,
+        big_endian: [0xee; 6],
+        little_endian: [0xee; 6],
     },
     Row {
         room: 1,
-        big_endian: &[0xb1],
-        little_endian: &[0x1e],
-        fits: false,
+        written: 1,
+        big_endian: [0xb1, 0xee, 0xee, 0xee, 0xee, 0xee],
+        little_endian: [0x1e, 0xee, 0xee, 0xee, 0xee, 0xee],
     },
     Row {
         room: 2,
-        big_endian: &[0xb1, 0xed],
-        little_endian: &[0x1e, 0xdb],
-        fits: false,
+        written: 2,
+        big_endian: [0xb1, 0xed, 0xee, 0xee, 0xee, 0xee],
+        little_endian: [0x1e, 0xdb, 0xee, 0xee, 0xee, 0xee],
     },
     // The two bytes are one request, of which none is written.
     Row {
         room: 3,
-        big_endian: &[0xb1, 0xed],
-        little_endian: &[0x1e, 0xdb],
-        fits: false,
+        written: 2,
+        big_endian: [0xb1, 0xed, 0xee, 0xee, 0xee, 0xee],
+        little_endian: [0x1e, 0xdb, 0xee, 0xee, 0xee, 0xee],
     },
     Row {
         room: 4,
-        big_endian: &[0xb1, 0xed, 0x12, 0x34],
-        little_endian: &[0x1e, 0xdb, 0x12, 0x34],
-        fits: false,
+        written: 4,
+        big_endian: [0xb1, 0xed, 0x12, 0x34, 0xee, 0xee],
+        little_endian: [0x1e, 0xdb, 0x12, 0x34, 0xee, 0xee],
     },
     Row {
         room: 5,
-        big_endian: &[0xb1, 0xed, 0x12, 0x34, 0x50],
-        little_endian: &[0x1e, 0xdb, 0x12, 0x34, 0x05],
-        fits: true,
+        written: 5,
+        big_endian: [0xb1, 0xed, 0x12, 0x34, 0x50, 0xee],
+        little_endian: [0x1e, 0xdb, 0x12, 0x34, 0x05, 0xee],
     },
     Row {
         room: 6,
-        big_endian: &[0xb1, 0xed, 0x12, 0x34, 0x50],
-        little_endian: &[0x1e, 0xdb, 0x12, 0x34, 0x05],
-        fits: true,
+        written: 5,
+        big_endian: [0xb1, 0xed, 0x12, 0x34, 0x50, 0xee],
+        little_endian: [0x1e, 0xdb, 0x12, 0x34, 0x05, 0xee],
     },
 ];
 
-/// Whether a packet in this much room leaves these bytes and touches no others, and the writer failed
-/// if it did not fit.
-fn leaves<E: Endianness>(room: usize, bytes: &[u8], fits: bool) -> bool {
-    let mut memory = [0xee_u8; 8];
-    let mut writer = BitWriter::<_, E>::over(&mut memory[..room]);
+/// Writes a packet to memory, and tells how many bytes were written and how many are free. `None` if
+/// it was refused for another reason than want of room, or if the writer did not fail then.
+fn write_to<E: Endianness>(memory: &mut [u8]) -> Option<(usize, usize)> {
+    let mut writer = BitWriter::<_, E>::over(memory);
     let answer = write_packet(&mut writer);
-    let fine = if fits {
-        answer.is_ok() && writer.write_bit(true).is_ok()
+    let done = answer.is_ok();
+    let next = writer.write_bit(true);
+    let fine = if done {
+        next.is_ok()
     } else {
-        lacks_room(answer) && matches!(writer.write_bit(true), Err(Error::Failed))
+        lacks_room(answer) && matches!(next, Err(Error::Failed))
     };
     let target = writer.into_writer();
-    let told = target.as_slice() == bytes && target.free() == room - bytes.len();
-    let untouched = memory[bytes.len()..].iter().all(|byte| *byte == 0xee);
-    fine && told && untouched
+    let told = (target.as_slice().len(), target.free());
+    if fine { Some(told) } else { None }
+}
+
+/// Whether a packet in this much room leaves this memory, and tells of it.
+fn leaves<E: Endianness>(room: usize, written: usize, wanted: [u8; 6]) -> bool {
+    let room = room.min(6);
+    let mut memory = [0xee_u8; 6];
+    let told = write_to::<E>(&mut memory[..room]);
+    told == Some((written, room.saturating_sub(written))) && memory == wanted
 }
 
 #[test]
 fn writes_while_there_is_room(rt: HostRuntime) -> Result<(), Fail> {
     for row in &ROWS {
-        let high = leaves::<BE>(row.room, row.big_endian, row.fits);
-        let low = leaves::<LE>(row.room, row.little_endian, row.fits);
+        let high = leaves::<BE>(row.room, row.written, row.big_endian);
+        let low = leaves::<LE>(row.room, row.written, row.little_endian);
         assert_eq!(rt; (row.room, high, low), (row.room, true, true));
     }
     Ok(())
 }
 
 /// Whether a buffer of this length goes into as much room by one request, and one byte more does not.
-fn fills(length: usize) -> bool {
+fn fills(length: usize) -> bool
+    requires { length ≤ 20 }
+{
     let bytes = [0x5a_u8; 20];
     let mut memory = [0u8; 20];
     let mut writer = BitWriter::<_, BE>::new(SliceMut::new(&mut memory[..length]));
     let written = writer.write_bytes(&bytes[..length]).is_ok() && writer.flush().is_ok();
-    written && lacks_room(writer.write_bytes(&bytes[..1])) && memory[..length] == bytes[..length]
+    let full = lacks_room(writer.write_bytes(&[1]));
+    written && full && writer.into_writer().as_slice() == &bytes[..length]
 }
 
 #[test]
 fn fills_the_room_there_is(rt: HostRuntime) -> Result<(), Fail> {
-    for length in 0..=20 {
+    for length in 0..21 {
         assert_eq!(rt; (length, fills(length)), (length, true));
     }
     Ok(())
