@@ -68,7 +68,7 @@ fn r12_long_chain(rt: HostRuntime) -> Result<(), Fail> {
     Ok(())
 }
 
-/// The tree of 20 symbols whose table has memory for the given number of blocks.
+/// The tree of 20 symbols whose nodes have memory for the given number of blocks.
 fn grown(alloc: Global, served: u32) -> Result<HuffmanTree<u16, RefuseMemory<Global>>, AllocError> {
     let mut tree = HuffmanTree::leaf(RefuseMemory::new(alloc, served), 0)?;
     for symbol in 1..20 {
@@ -79,7 +79,7 @@ fn grown(alloc: Global, served: u32) -> Result<HuffmanTree<u16, RefuseMemory<Glo
 }
 
 #[test]
-fn each_growth_of_a_table_may_lack_memory(rt: HostRuntime) {
+fn each_growth_of_a_tree_may_lack_memory(rt: HostRuntime) {
     for served in 0..6 {
         let made = grown(rt.alloc(), served).is_ok();
         assert_eq!(rt; made, served == 5, "growth {served}");

@@ -1,4 +1,4 @@
--- NodesOf of nodes: which tree stands where, two tables as one, and the way down to a symbol's first leaf.
+-- Nodes of trees: which tree stands where, the nodes of two trees in one list, and the way to a symbol's first leaf.
 use Rattle.std.proofs.Common.{◌≡◌, ◌⊎◌, inl, inr, ℕ, zero, suc, ◌+◌, ◌-◌, ◌^◌, ◌<◌, ◌≤◌, Bool, true, false, eqb, List, [], ◌∷◌, ◌++◌, length, map, take, get_or, Option, Some, None, refl, sym, ap, ◌∙◌, subst, arith, length-append}
 use Rattle.std.specs.Prelude.{slice_get, is_some, if◌then◌else◌, nat_le, MatchOption}
 use Rattle.std.specs.Option.{option_map}
@@ -58,7 +58,7 @@ Stands-within nodes (leaf x) low end h = let e = h.0 in let below = slice_get_wi
 Stands-within nodes (node a b) low end h = let below =
     slice_get_within nodes (end - 1) (Branch h.zero_root h.one_root) h.root in omega arith
 
--- ---- as the table is read
+-- ---- as the nodes are read
 
 between-suc : {S : Type 0} (nodes : List (Node S)) (n low end : ℕ) → tree_between nodes (suc n) low end
     ≡ tree_behind (tree_between nodes n) (slice_get nodes (end - 1)) low end
@@ -150,7 +150,7 @@ between-Stands nodes (suc n) low end t e =
     Stands-behind nodes (tree_between nodes n) (slice_get nodes (end - 1)) low end t (between-Stands nodes n) refl
     (sym (between-suc nodes n low end) ∙ e)
 
--- ---- the tree of a whole table
+-- ---- the tree of all nodes
 
 value_of-there : {T : Type 0} (o : Option T) (there : is_some o ≡ true) → o ≡ Some (value_of o there)
 value_of-there None there = absurd cc
@@ -185,13 +185,13 @@ pub stands-leaf : {S : Type 0} (nodes : List (Node S)) (x : S) → nodes ≡ Lea
     → Stands nodes (leaf x) 0 (length nodes)
 stands-leaf nodes x e = rw e (refl, refl)
 
--- a table has a root
+-- the nodes of a tree have a root
 pub nodes_of-some : {S A : Type 0} (code : HuffmanTree S A) → 0 < length (nodes_of code)
 nodes_of-some code = Stands-some (nodes_of code) (tree_of code) 0 (length (nodes_of code)) (tree_of-stands code)
 
--- ---- two tables as one
+-- ---- the nodes of two trees in one list
 
--- the first k of the nodes that are put behind a table
+-- the first k of the nodes that are put behind others
 pub length-moved : {S : Type 0} (xs ys zs : List (Node S)) (n k : ℕ) → zs ≡ xs ++ map (moved n) (take k ys)
     → k ≤ length ys → length zs ≡ length xs + k
 length-moved xs ys zs n k e le =
@@ -276,7 +276,7 @@ nodes_of-end xs ys z o =
     ∙ ap (λ n. length xs + n) (length-map ys (moved (length xs))) in
     subst (λ n. slice_get (zs ++ Branch z o ∷ []) n ≡ Some (Branch z o)) size (get-end zs (Branch z o))
 
--- the tables of two trees, one behind the other, with a branch behind both
+-- the nodes of two trees, one behind the other, with a branch behind both
 pub record Joins {S : Type 0} (xs ys : List (Node S)) (t u : Tree S) : Type 0 where
   pub first : Stands xs t 0 (length xs)
   pub second : Stands ys u 0 (length ys)
@@ -337,11 +337,11 @@ module _ {S : Type 0} (xs ys : List (Node S)) (t u : Tree S) (h : Joins xs ys t 
     );
   }
 
--- what `joined` makes of the tables of two trees, and a branch behind it
+-- what `joined` makes of the nodes of two trees, and a branch behind them
 module _ {S A : Type 0} (first second : HuffmanTree S A) (nodes : List (Node S)) (m n : ℕ)
     (h : Joined (nodes_of first) (nodes_of second) nodes m n) where
-  tables : Joins (nodes_of first) (nodes_of second) (tree_of first) (tree_of second)
-  tables = record { first = tree_of-stands first; second = tree_of-stands second }
+  trees : Joins (nodes_of first) (nodes_of second) (tree_of first) (tree_of second)
+  trees = record { first = tree_of-stands first; second = tree_of-stands second }
 
   size-with : (ys : List (Node S)) (x : Node S) → ys ≡ nodes ++ x ∷ [] → length ys
       ≡ length (nodes_of first) + length (nodes_of second) + 1
@@ -362,7 +362,7 @@ module _ {S A : Type 0} (first second : HuffmanTree S A) (nodes : List (Node S))
       subst (λ (zs : List (Node S)). Stands zs (node (tree_of first) (tree_of second)) 0 (length ys))
       (sym (whole-is ys (Branch m n) e))
       (subst (λ i. Stands whole (node (tree_of first) (tree_of second)) 0 i) (sym (size-with ys (Branch m n) e))
-      (zero-first (nodes_of first) (nodes_of second) (tree_of first) (tree_of second) tables m n h.first_ends
+      (zero-first (nodes_of first) (nodes_of second) (tree_of first) (tree_of second) trees m n h.first_ends
       h.second_ends))
 
   -- or that of the side of 1
@@ -373,12 +373,12 @@ module _ {S A : Type 0} (first second : HuffmanTree S A) (nodes : List (Node S))
       subst (λ (zs : List (Node S)). Stands zs (node (tree_of second) (tree_of first)) 0 (length ys))
       (sym (whole-is ys (Branch n m) e))
       (subst (λ i. Stands whole (node (tree_of second) (tree_of first)) 0 i) (sym (size-with ys (Branch n m) e))
-      (one-first (nodes_of first) (nodes_of second) (tree_of first) (tree_of second) tables n m h.first_ends
+      (one-first (nodes_of first) (nodes_of second) (tree_of first) (tree_of second) trees n m h.first_ends
       h.second_ends))
 
 -- ---- the way down
 
--- each branch is behind the tables of its sides
+-- each branch is behind the nodes of its sides
 pub places-below : {S : Type 0} (nodes : List (Node S)) (t : Tree S) (low end k z o : ℕ) → Stands nodes t low end
     → low ≤ k → k < end → slice_get nodes k ≡ Some (Branch z o) → (z < k) × (o < k)
 places-below nodes (leaf x) low end k z o h after below e =
@@ -415,7 +415,7 @@ places-below nodes (node a b) low end k z o h after below e =
           ]
     ]
 
--- so its places are numbers of 64 bits where those of the table are, also further on
+-- so its places are numbers of 64 bits where those of all nodes are, also further on
 pub fits-moved : {S A : Type 0} (code : HuffmanTree S A) (n k : ℕ) (x : Node S) → x ≡ get_or (nodes_of code) k x
     → k < length (nodes_of code) → n + k < 2 ^ 64 → FitsMoved n x
 fits-moved code n k (Leaf x) is below small = tt
@@ -427,7 +427,7 @@ fits-moved code n k (Branch z o) is below small =
     let o_below = p.1 in
     (omega arith, omega arith)
 
--- what a read of the leaf or branch at a table's end tells of its tree
+-- what a read of the leaf or branch behind all others tells of its tree
 pub leaf-is : {S : Type 0} (nodes : List (Node S)) (t : Tree S) (low root : ℕ) (x : S) → Stands nodes t low (root + 1)
     → slice_get nodes root ≡ Some (Leaf x) → t ≡ leaf x
 leaf-is nodes (leaf y) low root x h e =

@@ -1,4 +1,4 @@
--- The ways down a table, with what was read or written on them.
+-- The ways down a tree, with what was read or written on them.
 use Rattle.std.proofs.Common.{◌≡◌, inl, inr, ℕ, ◌+◌, ◌<◌, ◌≤◌, Bool, true, false, List, ◌∷◌, length, get_or, Option, Some, None, Result, Ok, Err, refl, sym, ap, ◌∙◌, subst, arith}
 use Rattle.std.specs.Prelude.{slice_get, nat_le, if◌then◌else◌, IsTrue, ◌↔◌}
 use Rattle.std.specs.Result.{IsErrAnd}
@@ -51,7 +51,7 @@ lacks-more same s nodes low k before tells not j after below has = elim (cases_l
 
 -- ---- reading
 
--- the bits so far led down to the table that ends at `root`, and what is read from there on is the answer
+-- the bits so far led down to the part that ends at `root`, and what is read from there on is the answer
 pub record Reading {N S : Type 0} (K : BitSource N) (nodes : List (Node S)) (t : Tree S) (from : N) (root : ℕ)
     (to : N) : Type 0 where
   pub below : Tree S
@@ -145,7 +145,7 @@ module _ {N S : Type 0} {K : BitSource N} {nodes : List (Node S)} {t : Tree S} {
 
 -- ---- writing
 
--- the bits so far led down to the table that ends at `root`, in which the symbol's first leaf stands at `place`
+-- the bits so far led down to the part that ends at `root`, in which the symbol's first leaf stands at `place`
 pub record Writing {P S : Type 0} (K : Sink P) (same : S → S → Bool) (s : S) (nodes : List (Node S))
     (t : Tree S) (from : P) (root place : ℕ) (to : P) : Type 0 where
   pub below : Tree S

@@ -24,25 +24,25 @@ abbrev pub ByteReadsOwn : {R A E : Type 0} → ByteSource R → (Error → E →
 ByteReadsOwn K becomes entry old result new = OwnErrors becomes (λ answer. answer)
     (λ plain. ByteReads K entry old plain new) result
 
--- calls that write these bytes, a piece each, up to the first that answers an error; of no calls, nothing at all
+-- calls that write these bytes, a buffer each, up to the first that answers an error; of no calls, nothing at all
 unfoldable pub ByteWritesAll : {S : Type 0} → ByteSink S → List (List ℕ) → S → Result (Unit {0}) Error → S → Type 0
 ByteWritesAll K [] old result new = (result ≡ Ok tt) × (new ≡ old)
-ByteWritesAll {S} K (piece ∷ pieces) old result new =
-    (IsErr result × ByteWrites K piece old result new)
-    ⊎ ((mid : S) × ByteWrites {S = S} {T = Unit {0}} K piece old (Ok tt) mid × ByteWritesAll K pieces mid result new)
+ByteWritesAll {S} K (buffer ∷ buffers) old result new =
+    (IsErr result × ByteWrites K buffer old result new)
+    ⊎ ((mid : S) × ByteWrites {S = S} {T = Unit {0}} K buffer old (Ok tt) mid × ByteWritesAll K buffers mid result new)
 
 -- such calls, and behind them, if all were done, this answer
 abbrev pub ByteWritesOwn : {S E : Type 0} → ByteSink S → (Error → E → Type 0) → List (List ℕ) → Result (Unit {0}) E → S
     → Result (Unit {0}) E → S → Type 0
-ByteWritesOwn K becomes pieces answer old result new =
-    OwnErrors becomes (λ _. answer) (λ plain. ByteWritesAll K pieces old plain new) result
+ByteWritesOwn K becomes buffers answer old result new =
+    OwnErrors becomes (λ _. answer) (λ plain. ByteWritesAll K buffers old plain new) result
 
--- how many bytes the pieces have in all
+-- how many bytes the buffers have in all
 abbrev pub total_length : List (List ℕ) → ℕ
 total_length [] = 0
-total_length (piece ∷ pieces) = length piece + total_length pieces
+total_length (buffer ∷ buffers) = length buffer + total_length buffers
 
--- in both orders of bytes the pieces have as many bytes in all
+-- in both orders of bytes the buffers have as many bytes in all
 abbrev pub HasOneTotal : (Order → List (List ℕ)) → Type 0
 HasOneTotal writes = (o p : Order) → total_length (writes o) ≡ total_length (writes p)
 
@@ -55,8 +55,8 @@ held_by most n = if nat_lt most n then Err CounterOverflow else Ok n
 -- have on it
 abbrev pub CountsBytes : {C E : Type 0} → (C → ℕ) → ℕ → (Error → E → Type 0) → List (List ℕ) → Result (Unit {0}) E
     → Result C E → Type 0
-CountsBytes value most becomes pieces answer result = OwnAnswer becomes (in_place answer)
-    (held_by most (total_length pieces)) (number_of value result)
+CountsBytes value most becomes buffers answer result = OwnAnswer becomes (in_place answer)
+    (held_by most (total_length buffers)) (number_of value result)
 
 -- a sink that keeps the number of bytes and nothing else, up to the greatest number of its type
 abbrev pub byte_counter_sink : {S : Type 0} → (count : S → ℕ) → (greatest : ℕ) → ((s : S) → count s ≤ greatest)

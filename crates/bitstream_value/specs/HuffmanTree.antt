@@ -1,4 +1,4 @@
--- The tree that a table stands for.
+-- The tree that nodes stand for.
 use Rattle.std.specs.Prelude.{◌≡◌, true, List, Option, Some, None, is_some}
 use Rattle.std.proofs.lemmas.Bool.{false≢true}
 use Rattle.bitstream_value.specs.Nodes.{nodes_tree}

@@ -1,4 +1,4 @@
--- How a tree stands in a table of nodes, which name their branches by place.
+-- How a tree stands in a list of nodes, whose branches name their sides by place.
 use Rattle.std.specs.Prelude.{◌≡◌, ℕ, zero, suc, ◌+◌, ◌-◌, ◌<◌, ◌≤◌, ◌^◌, ◌==◌, nat_lt, if◌then◌else◌, Bool, true, List, ◌++◌, length, map, Option, Some, None, slice_get, MatchOption, ⊤}
 use Rattle.bitstream_value.specs.Tree.{Tree, leaf, node}
 use Rattle.bitstream_value.specs.declared.huffman.tree.Node.{Node}
@@ -10,8 +10,8 @@ both None y = None
 both (Some a) None = None
 both (Some a) (Some b) = Some (node a b)
 
--- The tree whose table ends with this node and stands from `low` up to `end`. A leaf stands alone. A branch stands
--- behind the tables of its two sides, either of which may come first, and each of which ends at the place that the
+-- The tree whose nodes end with this one and stand from `low` up to `end`. A leaf stands alone. A branch stands
+-- behind the nodes of its two sides, either of which may come first, and each of which ends at the place that the
 -- branch names.
 abbrev pub tree_behind : {S : Type 0} → (ℕ → ℕ → Option (Tree S)) → Option (Node S) → ℕ → ℕ → Option (Tree S)
 tree_behind stands None low end = None
@@ -26,7 +26,7 @@ unfoldable pub tree_between : {S : Type 0} → List (Node S) → ℕ → ℕ →
 tree_between nodes zero low end = None
 tree_between nodes (suc n) low end = tree_behind (tree_between nodes n) (slice_get nodes (end - 1)) low end
 
--- the tree of a whole table
+-- the tree of all nodes
 abbrev pub nodes_tree : {S : Type 0} → List (Node S) → Option (Tree S)
 nodes_tree nodes = tree_between nodes (length nodes) 0 (length nodes)
 
@@ -40,7 +40,7 @@ abbrev pub FitsMoved : {S : Type 0} → ℕ → Node S → Type 0
 FitsMoved n (Leaf x) = ⊤
 FitsMoved n (Branch z o) = (z + n < 2 ^ 64) × (o + n < 2 ^ 64)
 
--- the nodes of one table and then those of another, and the places of their roots
+-- the nodes of one tree and then those of another, and the places of their roots
 pub record Joined {S : Type 0} (first second nodes : List (Node S)) (first_root second_root : ℕ) : Type 0 where
   pub nodes_are : nodes ≡ first ++ map (moved (length first)) second
   pub first_ends : first_root + 1 ≡ length first

@@ -52,8 +52,8 @@ impl<N: Counter> BytesWritten<N> {
     ///
     /// `CounterOverflow` if the sum is above the greatest number of N. Nothing is added then.
     fn add(&mut self, bytes: usize) -> Result<(), Error>
-        ensures { (piece : List ℕ) → length piece ≡ bytes
-            → ByteWrites ⟦<BytesWritten<N> as ByteWrite>⟧.sink piece self.old result self.new }
+        ensures { (buffer : List ℕ) → length buffer ≡ bytes
+            → ByteWrites ⟦<BytesWritten<N> as ByteWrite>⟧.sink buffer self.old result self.new }
     {
         let bytes = value_of::<N>(bytes)?;
         self.count.checked_add_assign(bytes)?;

@@ -8,7 +8,7 @@ mod walk;
 use crate::huffman::tree::join::joined;
 use std::alloc::{AllocError, Allocator};
 
-/// One node of a table: a leaf with its symbol, or a branch with the places of its two sides.
+/// One node of a tree: a leaf with its symbol, or a branch with the places of its two sides.
 #[derive(Copy, Clone, Drop)]
 enum Node<S> {
     Leaf(S),
@@ -38,7 +38,7 @@ enum Node<S> {
 /// ```
 #[derive(Drop)]
 pub struct HuffmanTree<S, A: Allocator> {
-    // Each side of a branch is a part of the table before it, which ends with that side's root. The
+    // Each side of a branch is a part of the nodes before it, which ends with that side's root. The
     // longer side comes first.
     nodes: Vec<Node<S>, A>,
     ghost has_tree: { is_some (nodes_tree nodes.items) ≡ true },

@@ -1,4 +1,4 @@
-//! Two tables as one.
+//! The nodes of two trees in one list.
 ghost use Rattle.std.specs.Prelude.{IfOk};
 ghost use Rattle.bitstream_value.specs.HuffmanTree.{nodes_of};
 ghost use Rattle.bitstream_value.specs.Nodes.{Joined};
@@ -6,7 +6,7 @@ ghost use Rattle.bitstream_value.specs.Nodes.{Joined};
 use crate::huffman::tree::{HuffmanTree, Node};
 use std::alloc::{AllocError, Allocator};
 
-/// Puts one table behind another, and returns both with the places of their roots.
+/// Puts one tree's nodes behind another's, and returns all with the places of the two roots.
 ///
 /// # Errors
 ///

@@ -1,4 +1,4 @@
-//! The walks down a table: reading to a leaf, and writing to a symbol's first leaf.
+//! The walks down a tree: reading to a leaf, and writing to a symbol's first leaf.
 ghost use Rattle.std.specs.Prelude.{◌≡◌, ◌+◌, ◌<◌, ◌≤◌, ◌↔◌, length, nat_le, if◌then◌else◌, IsTrue};
 ghost use Rattle.bitstream_value.specs.HuffmanTree.{nodes_of, tree_of};
 ghost use Rattle.bitstream_value.specs.Nodes.{FindsFirst, HasSymbol};
@@ -78,10 +78,10 @@ impl<S: Copy + Eq, A: Allocator> HuffmanTree<S, A> {
     }
 
     /// Returns the place of the symbol's first leaf on a branch's side of 0, if it has one there.
-    /// `leaf` is the first one in the branch's table.
+    /// `leaf` is the symbol's first leaf below the branch.
     ///
     /// If the side of 0 stands behind the other one, all of it is searched. It is the shorter of
-    /// the two then, so what a write searches in all grows as the table does.
+    /// the two then, so what a write searches in all grows as the number of nodes does.
     fn leaf_on_zero_side(&self, zero: usize, one: usize, leaf: usize, symbol: S) -> Option<usize>
         requires { zero < length (nodes_of self.now) }
         ensures inside { zero < one → result ≡ (if nat_le leaf zero then Some leaf else None) }

@@ -1,8 +1,8 @@
-use Rattle.bitstream_io.proofs.ByteTypeLemmas.{plainly_written, few_pieces}
+use Rattle.bitstream_io.proofs.ByteTypeLemmas.{plainly_written, few_byte_writes}
 use Rattle.bitstream_callers.proofs.padded_port.PaddedPortToByteStreamWith.to_writer.Goals as goal
 
 pub returns-in_err-write : goal.returns-in_err-write
-returns-in_err-write g c = search (plainly_written, few_pieces) depth 12
+returns-in_err-write g c = search (plainly_written, few_byte_writes) depth 12
 
 pub returns : goal.returns
-returns g c = search (plainly_written, few_pieces) depth 12
+returns g c = search (plainly_written, few_byte_writes) depth 12
