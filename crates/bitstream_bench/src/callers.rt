@@ -3,6 +3,7 @@ use bitstream_callers::block_header::{BlockHeader, append};
 use bitstream_callers::header::{Header, version};
 use bitstream_callers::packet_header::{PacketError, PacketHeader};
 use bitstream_callers::padded_port::PaddedPort;
+use bitstream_callers::plain::{drift, picture_size};
 use bitstream_callers::reading::{Reading, ReadingError};
 use bitstream_callers::stream_info::{StreamInfo, StreamInfoBlock, sample_rate};
 use bitstream_callers::telemetry::{Sample, heartbeat};
@@ -83,6 +84,16 @@ fn parses_and_builds_a_stream_info(rt: HostRuntime) -> Result<(), Fail> {
     );
     assert!(rt; goes_to(rt.alloc(), &block, &WHOLE_BLOCK)?);
     assert!(rt; has_272_bits(&block)?);
+    Ok(())
+}
+
+#[test]
+fn adds_to_what_was_read(rt: HostRuntime) -> Result<(), Fail> {
+    let size = picture_size(&[0x2f, 0x91, 0x01, 0x4b, 0x00])?;
+    assert_eq!(rt;
+        (size, drift(&[0xf2, 0x9e, 0xc0])?),
+        ((402, 301), (-215, -15))
+    );
     Ok(())
 }
 

@@ -1,6 +1,7 @@
-//! Parsers without contracts, of unary numbers, variable widths, constants, prefix codes and bytes.
+//! Parsers without contracts, of unary numbers, variable widths, constants, prefix codes, bytes, and sums on what was
+//! read.
 use bitstream_io::huffman::HuffmanTree;
-use bitstream_io::{BE, BitRead, BitReadExt, BitReader, Bits, Error, LittleEndian};
+use bitstream_io::{BE, BitRead, BitReadExt, BitReader, Bits, Error, LE, LittleEndian};
 use std::alloc::Global;
 use std::io::Read;
 
@@ -24,6 +25,32 @@ pub fn parse_turn(packet: &[u8]) -> Result<Turn, Error> {
         lost: reader.read_unary::<Bits<0>>()?,
         angle: reader.read_vbr::<Bits<5>, i16>()?,
     })
+}
+
+/// Returns the width and the height of a picture of WebP's lossless format, in pixels. Its header has a byte of
+/// signature, and then each less 1 in 14 bits, least significant bit first.
+///
+/// # Errors
+///
+/// Those of the reader.
+pub fn picture_size(header: &[u8]) -> Result<(u16, u16), Error> {
+    let mut reader = BitReader::<_, LE>::over(header);
+    reader.skip(8)?;
+    let width = reader.read::<Bits<14>, u16>()? + 1;
+    let height = reader.read::<Bits<14>, u16>()? + 1;
+    Ok((width, height))
+}
+
+/// Returns a temperature in tenths of a degree, of 12 bits, and how far it is from one of 8 bits in whole degrees.
+///
+/// # Errors
+///
+/// Those of the reader.
+pub fn drift(packet: &[u8]) -> Result<(i16, i16), Error> {
+    let mut reader = BitReader::<_, BE>::over(packet);
+    let now = reader.read::<Bits<12>, i16>()?;
+    let set = reader.read::<Bits<8>, i16>()?;
+    Ok((now, now - set * 10))
 }
 
 /// Returns how a wheel turns: not at all, forwards or backwards.

@@ -1,20 +1,20 @@
 -- What callers' proofs need beside the lemmas of single calls: what an answer tells, constants, branches and errors of
 -- a caller's own among reads, items that are read in a loop, and what goes back by parts.
-use Rattle.std.proofs.Common.{◌≡◌, ℕ, ℤ, suc, Continue, Break, get_or, ◌+◌, ◌-◌, ◌*◌, ◌^◌, ◌<◌, ◌≤◌, ◌==◌, Bool, true, false, List, [], ◌∷◌, ◌++◌, length, take, drop, Option, Some, Result, Ok, Err, refl, sym, ap, ◌∙◌, subst, inl, inr, arith, add-one, length-take}
+use Rattle.std.proofs.Common.{◌≡◌, ℕ, ℤ, suc, Continue, Break, get_or, ◌+◌, ◌-◌, ◌*◌, ◌^◌, ◌<◌, ◌≤◌, ◌==◌, Bool, true, false, List, [], ◌∷◌, ◌++◌, length, take, drop, Option, Some, Result, Ok, Err, refl, ap, ◌∙◌, subst, arith, add-one}
 use Rattle.std.specs.Prelude.{nat_le, nat_lt, flat_map, if◌then◌else◌}
-use Rattle.std.proofs.lemmas.Bool.{le-leb, lt-leb, le-ltb, lt-ltb, eq-eqb, ne_eqb, cases_lt}
-use Rattle.std.proofs.lemmas.Bool.Decides.{leb_tells, nat_tests}
+use Rattle.std.proofs.lemmas.Bool.{le-leb, lt-leb, eq-eqb, ne_eqb}
+use Rattle.std.proofs.lemmas.Bool.Decides.{nat_tests}
 use Rattle.std.specs.Borrow.{GName}
 use Rattle.std.specs.Result.{IsErrAnd, result_from_control_flow}
 use Rattle.std.specs.declared.ops.ControlFlow.{ControlFlow}
 use Rattle.bitstream_count.specs.declared.error.Error.{Error}
-use Rattle.bitstream_count.specs.declared.error.Error.TheVariants.{EndOfInput, Failed, NoSignBit, ReadBits}
-use Rattle.bitstream_count.specs.Entry.{ReadEntry, WriteEntry, TooFew, Takes, word_front, chain, gives, refuses}
-use Rattle.bitstream_number.specs.Word.{Order, FitsSignedBits, bits, number, signed_from, signed_number, word}
-use Rattle.bitstream_number.proofs.WordLemmas.{half, length-bits, number-lt}
+use Rattle.bitstream_count.specs.declared.error.Error.TheVariants.{EndOfInput, Failed}
+use Rattle.bitstream_count.specs.Entry.{ReadEntry, WriteEntry, Takes, chain, gives, refuses}
+use Rattle.bitstream_number.specs.Word.{Order, FitsSignedBits, bits, number, word}
+use Rattle.bitstream_number.proofs.WordLemmas.{length-bits}
 use Rattle.bitstream_order.specs.Gather.{seen}
 use Rattle.bitstream_order.specs.Refusal.{TrueEnds}
-use Rattle.bitstream_stream.specs.ReadTable.{unsigned_entry, signed_entry, const_entry, unary_entry, skip_entry}
+use Rattle.bitstream_stream.specs.ReadTable.{signed_entry, const_entry, unary_entry, skip_entry}
 use Rattle.bitstream_stream.specs.Reader.{new_reader_state}
 use Rattle.bitstream_stream.specs.Reads.{BitSource, Reads, ReadOutcome, ReadsConst, ConstAnswer, is_run_too_long, sure_answer}
 use Rattle.bitstream_stream.specs.Sink.{Sink, WritesAll}
@@ -26,16 +26,19 @@ use Rattle.bitstream_stream.proofs.WriteParts.{all_none, all_append, all_one, al
 use Rattle.bitstream_value.specs.Array.{items_entry}
 use Rattle.bitstream_value.specs.Own.{OwnAnswer, ReadsOwn, same_error}
 use Rattle.bitstream_value.proofs.ArrayLemmas.{items-start}
-use Rattle.bitstream_value.proofs.BackLemmas.{GoesBack, gives-back, signed-word}
+use Rattle.bitstream_value.proofs.BackLemmas.{GoesBack, gives-back}
+use Rattle.bitstream_value.proofs.CheckedLemmas.{signed-holds, signed-on_failed}
 use Rattle.bitstream_value.proofs.OwnLemmas.{is_error}
 use Rattle.bitstream_value.proofs.OwnSteps.{own_end, if_own, else_own}
 use Rattle.bitstream_value.proofs.ReadSteps.{Finds, next-finds}
-use Rattle.bitstream_value.proofs.SureLemmas.{IsWord, unsigned-word, items-word, word_short}
+use Rattle.bitstream_value.proofs.SureLemmas.{IsWord, items-word, word_short}
 use Rattle.bitstream_value.proofs.WriteSteps.{next_call, next_write, stop_call, stop_write}
 use Rattle.bitstream_io.specs.ReadBack.{IsReadAs}
 use Rattle.bitstream_io.proofs.CallsBack.{then-read, mapped-read, const-back}
 -- one that meets a fault, or is rejected
 pub use Rattle.bitstream_value.proofs.ArrayLemmas.{items-stop}
+-- a number that a read of n bits answered is below 2^n
+pub use Rattle.bitstream_stream.proofs.SignedLemmas.{unsigned-below as below}
 
 -- ---- what an answer tells
 
@@ -44,84 +47,10 @@ pub sound : {R A : Type 0} {K : BitSource R} {grows : Bool} {e : ReadEntry A} {a
     → e.on_failed ≡ Err Failed → ReadOutcome K grows e s (Ok a) t → (K.state t).failed ≡ false
 sound failed read = (ok_front failed read).failed
 
--- the word of n bits that a call answered
-word_taken : {A : Type 0} (n m : ℕ) (g : List Bool → A) (a : A) (b : List Bool)
-    → word_front n (λ w. Ok (g w)) b ≡ Takes m (Ok a) → (w : List Bool) × (length w ≡ n) × (a ≡ g w)
-word_taken n m g a b front = elim (leb_tells n (length b)) [
-  | inl some ↦
-      let same : Takes n (Ok (g (take n b))) ≡ Takes m (Ok a) = rw some.0 at front in
-      let size : length (take n b) ≡ n = let enough = some.1 in simp length-take (omega arith) in
-      (take n b, size, cc)
-  | inr none ↦ let same : TooFew ≡ Takes m (Ok a) = rw none.0 at front in cc
-]
-
-word_of : {R A : Type 0} {K : BitSource R} {e : ReadEntry A} {a : A} {s t : R} (n : ℕ) (g : List Bool → A)
-    → e.on_failed ≡ Err Failed → IsWord e n (λ w. Ok (g w)) → Reads K e s (Ok a) t
-    → (w : List Bool) × (length w ≡ n) × (a ≡ g w)
-word_of {K = K} {a = a} {s = s} n g failed is read =
-    let h = ok_front failed read in
-    let b = h.word ++ [] in
-    word_taken n (length h.word) g a b (sym (is.reads (K.state s).taken b) ∙ h.decides [])
-
--- a number that a read of n bits answered is below 2^n
-below_word : (o : Order) (n x : ℕ) (w : List Bool) → length w ≡ n → x ≡ number o w → x < 2 ^ n
-below_word o n x w size is = rw (is, ← size) (number-lt o w)
-
-unsigned_front : (o : Order) (size n p m x : ℕ) (b : List Bool)
-    → (unsigned_entry o size n).reads p b ≡ Takes m (Ok x) → n ≤ size
-unfolding unsigned_entry
-unsigned_front o size n p m x b front = elim (leb_tells n size) [
-  | inl within ↦ within.1
-  | inr wide ↦ let none : Takes 0 (Err ReadBits) ≡ Takes m (Ok x) = rw wide.0 at front in cc
-]
-
-pub below : {R : Type 0} {K : BitSource R} {s t : R} (o : Order) (size n x : ℕ)
-    → Reads K (unsigned_entry o size n) s (Ok x) t → x < 2 ^ n
-below o size n x read =
-    let failed = unsigned-on_failed o size n in
-    let within = unsigned_front o size n _ _ x _ ((ok_front failed read).decides []) in
-    let w = word_of n (number o) failed (unsigned-word o size n within) read in
-    below_word o n x w.0 w.1 w.2
-
--- one of either sign is within the range of n bits
-signed_from-fits : (n k : ℕ) → 0 < n → k < 2 ^ n → FitsSignedBits n (signed_from n k)
-signed_from-fits n k some small = elim (cases_lt k (2 ^ (n - 1))) [
-  | inl low ↦ rw (lt-ltb k (2 ^ (n - 1)) low) low
-  | inr high ↦ let twice = half n some in rw (le-ltb k (2 ^ (n - 1)) high) (omega arith)
-]
-
-fits_word : (o : Order) (n : ℕ) (x : ℤ) (w : List Bool) → 0 < n → length w ≡ n → x ≡ signed_number o w
-    → FitsSignedBits n x
-fits_word o n x w some size is =
-    let fits = signed_from-fits (length w) (number o w) (omega arith) (number-lt o w) in
-    rw (is, ← size) fits
-
-signed_front : (o : Order) (size n p m : ℕ) (x : ℤ) (b : List Bool)
-    → (signed_entry o size n).reads p b ≡ Takes m (Ok x) → (1 ≤ n) × (n ≤ size)
-unfolding signed_entry
-signed_front o size n p m x b front = elim (cases_lt 0 n) [
-  | inl some ↦
-      let later = rw (ne_eqb n 0 (λ e. omega arith)) at front in
-      elim (leb_tells n size) [
-        | inl within ↦ (omega arith, within.1)
-        | inr wide ↦ let none : Takes 0 (Err ReadBits) ≡ Takes m (Ok x) = rw wide.0 at later in cc
-      ]
-  | inr none ↦
-      let first : Takes 0 (Err NoSignBit) ≡ Takes m (Ok x) = rw (eq-eqb n 0 (omega arith)) at front in
-      cc
-]
-
-pub signed-on_failed : (o : Order) (size n : ℕ) → (signed_entry o size n).on_failed ≡ Err Failed
-unfolding signed_entry
-signed-on_failed o size n = refl
-
+-- a signed number that a read of n bits answered lies in their range (`below` says the same of an unsigned one)
 pub in_range : {R : Type 0} {K : BitSource R} {s t : R} (o : Order) (size n : ℕ) (x : ℤ)
     → Reads K (signed_entry o size n) s (Ok x) t → FitsSignedBits n x
-in_range o size n x read =
-    let failed = signed-on_failed o size n in
-    let front = signed_front o size n _ _ x _ ((ok_front failed read).decides []) in
-    let w = word_of n (signed_number o) failed (signed-word o size n front.0 front.1) read in
-    fits_word o n x w.0 (omega (arith, front.0)) w.1 w.2
+in_range o size n x read = (signed-holds o size n read).1
 
 -- an error of an answer that a clause sees by a view
 pub seen_is_err : {A B : Type 0} {x : Error} (view : A → B) (r : Result A Error) → seen view r ≡ Err x → r ≡ Err x

@@ -51,7 +51,7 @@ signed-wide : (o : Order) (size n p : ℕ) (w : List Bool) → size < n → (sig
 unfolding signed_entry
 signed-wide o size n p w wide = rw (ne_eqb n 0 (λ e. omega (arith, e, wide)), lt-leb n size wide) refl
 
-signed-on_failed : (o : Order) (size n : ℕ) → (signed_entry o size n).on_failed ≡ Err Failed
+pub signed-on_failed : (o : Order) (size n : ℕ) → (signed_entry o size n).on_failed ≡ Err Failed
 unfolding signed_entry
 signed-on_failed o size n = refl
 

@@ -17,3 +17,4 @@ pub mod ByteTypeLemmas
 pub mod OwnSteps
 pub mod ByteSteps
 pub mod LengthSteps
+pub mod FitsLemmas

@@ -1,4 +1,5 @@
 pub mod Checked
+pub mod Signed
 pub mod HuffmanTree
 pub mod Array
 pub mod LimitedUnary

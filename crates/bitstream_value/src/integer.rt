@@ -1,5 +1,5 @@
 //! Types whose values are read and written as bits.
-ghost use Rattle.std.specs.Prelude.{ℕ, List};
+ghost use Rattle.std.specs.Prelude.{ℕ, List, IfOk};
 ghost use Rattle.bitstream_number.specs.Word.{Order};
 ghost use Rattle.bitstream_count.specs.Entry.{ReadEntry, WriteEntry};
 ghost use Rattle.bitstream_stream.specs.Reads.{Reads};
@@ -28,6 +28,10 @@ use bitstream_stream::write::BitWrite;
 ///
 /// Those of the reader ([`BitRead`]) and of the sink ([`BitWrite`]). The calls below name only the
 /// errors of their own.
+///
+/// A value that was read in n bits fits them: an unsigned number is below 2^n, a signed one lies from
+/// -2^(n-1) to 2^(n-1) - 1, and a `NonZero` is at most 2^n. Callers know it, so that a sum on a
+/// field that is narrower than its type needs no test.
 pub trait Integer: Sized {
     // The read entry and the write entries of a value in a number of bits, in either order.
     ghost reads: { Order → ℕ → ReadEntry Self };
@@ -37,10 +41,14 @@ pub trait Integer: Sized {
     // The widths at which no value is rejected for its width.
     ghost IsWidth: { ℕ → Type 0 };
 
+    // What is known of a value that was read in a number of bits.
+    ghost Fits: { ℕ → Self → Type 0 };
+
     /// Reads a value of `B::BITS` bits, a width that is never rejected.
     fn read<B: Width, R: BitRead>(reader: &mut R) -> Result<Self, Error>
         requires { IsWidth B.BITS }
         ensures reads { Reads R.source (reads R.source.order B.BITS) reader.old result reader.new }
+        ensures fits { IfOk result (λ value. Fits B.BITS value) }
     {
         Self::read_var(reader, BitCount::unknown(B::BITS))
     }
@@ -54,7 +62,8 @@ pub trait Integer: Sized {
     /// type's size in bits, or of more. No bit of the value is read then.
     fn read_var<C: Count, R: BitRead>(reader: &mut R, bits: C) -> Result<Self, Error>
         ensures reads { Reads R.source (reads R.source.order (C.number bits))
-            reader.old result reader.new };
+            reader.old result reader.new }
+        ensures fits { IfOk result (λ value. Fits (C.number bits) value) };
 
     /// Writes a value in `B::BITS` bits, a width that is never rejected.
     ///

@@ -1,4 +1,5 @@
 //! Calls that read values of any type.
+ghost use Rattle.std.specs.Prelude.{IfOk};
 ghost use Rattle.bitstream_order.specs.Gather.{seen};
 ghost use Rattle.bitstream_stream.specs.Reads.{Reads};
 ghost use Rattle.bitstream_value.specs.Own.{ReadsOwn};
@@ -37,7 +38,8 @@ pub trait BitReadExt: BitRead {
     fn read<B: Width, I: Integer>(&mut self) -> Result<I, Error>
         requires { I.IsWidth B.BITS }
         ensures reads { Reads Self.source (I.reads Self.source.order B.BITS)
-            self.old result self.new };
+            self.old result self.new }
+        ensures fits { IfOk result (λ value. I.Fits B.BITS value) };
 
     /// Reads a value of the given number of bits.
     ///
@@ -46,7 +48,8 @@ pub trait BitReadExt: BitRead {
     /// As [`Integer::read_var`].
     fn read_var<I: Integer>(&mut self, bits: u32) -> Result<I, Error>
         ensures reads { Reads Self.source (I.reads Self.source.order bits)
-            self.old result self.new };
+            self.old result self.new }
+        ensures fits { IfOk result (λ value. I.Fits bits value) };
 
     /// Reads a value of the given number of bits.
     ///
@@ -55,7 +58,8 @@ pub trait BitReadExt: BitRead {
     /// As [`Integer::read_var`].
     fn read_counted<C: Count, I: Integer>(&mut self, bits: C) -> Result<I, Error>
         ensures reads { Reads Self.source (I.reads Self.source.order (C.number bits))
-            self.old result self.new };
+            self.old result self.new }
+        ensures fits { IfOk result (λ value. I.Fits (C.number bits) value) };
 
     /// Reads a value of variable width, in groups of `F::BITS` bits.
     ///

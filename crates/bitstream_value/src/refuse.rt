@@ -1,5 +1,5 @@
 //! Errors that read and write nothing, and come after `Failed`.
-ghost use Rattle.std.specs.Prelude.{◌≡◌, false, Err};
+ghost use Rattle.std.specs.Prelude.{◌≡◌, false, Err, IsErr};
 ghost use Rattle.bitstream_count.specs.Entry.{refuses};
 ghost use Rattle.bitstream_stream.specs.Reads.{Reads, is_run_too_long};
 ghost use Rattle.bitstream_stream.specs.Sink.{Writes};
@@ -12,6 +12,7 @@ use bitstream_stream::write::BitWrite;
 pub(crate) fn refuse_read<T, R: BitRead>(reader: &mut R, error: Error) -> Result<T, Error>
     requires { is_run_too_long {A = T} (Err error) ≡ false }
     ensures reads { Reads R.source (refuses error) reader.old result reader.new }
+    ensures error { IsErr result }
 {
     // A read of no bits answers an error only if the reader has failed.
     let _: u8 = reader.read_unsigned_var(0)?;

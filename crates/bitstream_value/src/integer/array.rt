@@ -1,5 +1,5 @@
 //! Arrays, as their items in order.
-ghost use Rattle.std.specs.List.{flat_map};
+ghost use Rattle.std.specs.List.{All, flat_map};
 ghost use Rattle.bitstream_value.specs.Array.{items_entry};
 
 use crate::integer::{Integer, VBRInteger};
@@ -15,6 +15,8 @@ impl<I: Integer + Copy + Default, const SIZE: usize> Integer for [I; SIZE] {
     ghost writes = { λ o n items. flat_map (I.writes o n) items };
 
     ghost IsWidth = { I.IsWidth };
+
+    ghost Fits = { λ n items. All (I.Fits n) items };
 
     fn read_var<C: Count, R: BitRead>(reader: &mut R, bits: C) -> Result<[I; SIZE], Error> {
         let mut items = [I::default(); SIZE];

@@ -1,5 +1,5 @@
 //! `bool`, as one bit.
-ghost use Rattle.std.specs.Prelude.{◌≡◌, [], ◌∷◌};
+ghost use Rattle.std.specs.Prelude.{◌≡◌, [], ◌∷◌, ⊤};
 ghost use Rattle.bitstream_value.specs.Boolean.{truth_entry, truth};
 
 use crate::integer::Integer;
@@ -16,6 +16,8 @@ impl Integer for bool {
     ghost writes = { λ _ n b. truth n b ∷ [] };
 
     ghost IsWidth = { λ n. n ≡ 1 };
+
+    ghost Fits = { λ _ _. ⊤ };
 
     fn read<B: Width, R: BitRead>(reader: &mut R) -> Result<bool, Error> {
         reader.read_bit()

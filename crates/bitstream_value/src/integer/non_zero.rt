@@ -1,5 +1,5 @@
 //! `NonZero` types, and `Option`s of them.
-ghost use Rattle.std.specs.Prelude.{◌≡◌, ℕ, ◌+◌, ◌-◌, ◌^◌, ◌<◌, ◌≤◌, [], ◌∷◌, MatchOption};
+ghost use Rattle.std.specs.Prelude.{◌≡◌, ℕ, ◌+◌, ◌-◌, ◌^◌, ◌<◌, ◌≤◌, [], ◌∷◌, MatchOption, IfOk};
 ghost use Rattle.std.specs.Int.NonZero.{non_zero_u8_get, non_zero_u16_get, non_zero_u32_get, non_zero_u64_get, non_zero_u128_get};
 ghost use Rattle.std.proofs.Common.{sym, arith};
 ghost use Rattle.bitstream_stream.specs.Reads.{Reads};
@@ -55,6 +55,7 @@ fn read_non_zero<N: NonZeroInteger, C: Count, R: BitRead>(
     ensures reads { Reads R.source
         (non_zero_entry N.after R.source.order N.Base.BITS_SIZE (C.number bits))
         reader.old result reader.new }
+    ensures fits { IfOk result (λ x. N.number x ≤ 2 ^ C.number bits) }
 {
     if bits.bits() < N::Base::BITS_SIZE {
         let base: N::Base = reader.read_unsigned_counted(bits)?;
@@ -87,6 +88,7 @@ fn read_non_zero_fixed<B: Width, N: NonZeroInteger, R: BitRead>(reader: &mut R) 
     ensures reads { Reads R.source
         (non_zero_entry N.after R.source.order N.Base.BITS_SIZE B.BITS)
         reader.old result reader.new }
+    ensures fits { IfOk result (λ x. N.number x ≤ 2 ^ B.BITS) }
 {
     let base = reader.read_unsigned::<B, N::Base>()?;
     Ok(N::next(base))
@@ -150,6 +152,8 @@ impl<N: NonZeroInteger> Integer for Option<N> {
     ghost writes = { λ o n x. unsigned o N.Base.BITS_SIZE n (number_or_zero N.number x) ∷ [] };
 
     ghost IsWidth = { λ n. n ≤ N.Base.BITS_SIZE };
+
+    ghost Fits = { λ n x. number_or_zero N.number x < 2 ^ n };
 
     fn read<B: Width, R: BitRead>(reader: &mut R) -> Result<Option<N>, Error> {
         let base = reader.read_unsigned::<B, N::Base>()?;
@@ -219,6 +223,8 @@ impl Integer for NonZero<u8> {
 
     ghost IsWidth = { λ n. n < 8 };
 
+    ghost Fits = { λ n x. non_zero_u8_get x ≤ 2 ^ n };
+
     fn read<B: Width, R: BitRead>(reader: &mut R) -> Result<NonZero<u8>, Error> {
         read_non_zero_fixed::<B, NonZero<u8>, R>(reader)
     }
@@ -284,6 +290,8 @@ impl Integer for NonZero<u16> {
     ghost writes = { λ o n x. non_zero o 16 n (non_zero_u16_get x) ∷ [] };
 
     ghost IsWidth = { λ n. n < 16 };
+
+    ghost Fits = { λ n x. non_zero_u16_get x ≤ 2 ^ n };
 
     fn read<B: Width, R: BitRead>(reader: &mut R) -> Result<NonZero<u16>, Error> {
         read_non_zero_fixed::<B, NonZero<u16>, R>(reader)
@@ -351,6 +359,8 @@ impl Integer for NonZero<u32> {
 
     ghost IsWidth = { λ n. n < 32 };
 
+    ghost Fits = { λ n x. non_zero_u32_get x ≤ 2 ^ n };
+
     fn read<B: Width, R: BitRead>(reader: &mut R) -> Result<NonZero<u32>, Error> {
         read_non_zero_fixed::<B, NonZero<u32>, R>(reader)
     }
@@ -417,6 +427,8 @@ impl Integer for NonZero<u64> {
 
     ghost IsWidth = { λ n. n < 64 };
 
+    ghost Fits = { λ n x. non_zero_u64_get x ≤ 2 ^ n };
+
     fn read<B: Width, R: BitRead>(reader: &mut R) -> Result<NonZero<u64>, Error> {
         read_non_zero_fixed::<B, NonZero<u64>, R>(reader)
     }
@@ -482,6 +494,8 @@ impl Integer for NonZero<u128> {
     ghost writes = { λ o n x. non_zero o 128 n (non_zero_u128_get x) ∷ [] };
 
     ghost IsWidth = { λ n. n < 128 };
+
+    ghost Fits = { λ n x. non_zero_u128_get x ≤ 2 ^ n };
 
     fn read<B: Width, R: BitRead>(reader: &mut R) -> Result<NonZero<u128>, Error> {
         read_non_zero_fixed::<B, NonZero<u128>, R>(reader)

@@ -1,8 +1,11 @@
 //! Signed integers.
-ghost use Rattle.std.specs.Prelude.{[], ◌∷◌, ◌<◌, ◌≤◌};
+ghost use Rattle.std.specs.Prelude.{[], ◌∷◌, ◌<◌, ◌≤◌, IfOk};
+ghost use Rattle.bitstream_order.specs.Gather.{seen};
 ghost use Rattle.bitstream_stream.specs.ReadTable.{signed_entry, signed_vbr_entry};
+ghost use Rattle.bitstream_stream.specs.Reads.{Reads};
 ghost use Rattle.bitstream_stream.specs.Sink.{WritesAll};
 ghost use Rattle.bitstream_stream.specs.WriteTable.{signed, signed_vbr};
+ghost use Rattle.bitstream_value.specs.Signed.{InSignedRange};
 
 use crate::integer::{Integer, VBRInteger};
 use bitstream_count::count::Count;
@@ -10,6 +13,26 @@ use bitstream_count::error::Error;
 use bitstream_number::number::{SignedInteger, Width};
 use bitstream_stream::read::BitRead;
 use bitstream_stream::write::BitWrite;
+
+/// Reads a signed number of the given number of bits, by one call.
+fn read_signed<S: SignedInteger, C: Count, R: BitRead>(reader: &mut R, bits: C) -> Result<S, Error>
+    ensures reads { Reads R.source (signed_entry R.source.order S.BITS_SIZE (C.number bits))
+        reader.old (seen S.integer result) reader.new }
+    ensures fits { IfOk result (λ number. InSignedRange (C.number bits) (S.integer number)) }
+{
+    reader.read_signed_var(bits.bits())
+}
+
+/// Reads a signed number of `B::BITS` bits, by one call.
+fn read_signed_fixed<B: Width, S: SignedInteger, R: BitRead>(reader: &mut R) -> Result<S, Error>
+    requires some { 1 ≤ B.BITS }
+    requires within { B.BITS ≤ S.BITS_SIZE }
+    ensures reads { Reads R.source (signed_entry R.source.order S.BITS_SIZE B.BITS)
+        reader.old (seen S.integer result) reader.new }
+    ensures fits { IfOk result (λ number. InSignedRange B.BITS (S.integer number)) }
+{
+    reader.read_signed::<B, S>()
+}
 
 /// Writes a signed number in the given number of bits, by one call.
 fn write_signed<S: SignedInteger, C: Count, W: BitWrite>(
@@ -58,12 +81,14 @@ impl Integer for i8 {
 
     ghost IsWidth = { λ n. (1 ≤ n) × (n ≤ 8) };
 
+    ghost Fits = { λ n x. InSignedRange n x };
+
     fn read<B: Width, R: BitRead>(reader: &mut R) -> Result<i8, Error> {
-        reader.read_signed::<B, i8>()
+        read_signed_fixed::<B, i8, R>(reader)
     }
 
     fn read_var<C: Count, R: BitRead>(reader: &mut R, bits: C) -> Result<i8, Error> {
-        reader.read_signed_var(bits.bits())
+        read_signed(reader, bits)
     }
 
     fn write<B: Width, W: BitWrite>(self, writer: &mut W) -> Result<(), Error> {
@@ -98,12 +123,14 @@ impl Integer for i16 {
 
     ghost IsWidth = { λ n. (1 ≤ n) × (n ≤ 16) };
 
+    ghost Fits = { λ n x. InSignedRange n x };
+
     fn read<B: Width, R: BitRead>(reader: &mut R) -> Result<i16, Error> {
-        reader.read_signed::<B, i16>()
+        read_signed_fixed::<B, i16, R>(reader)
     }
 
     fn read_var<C: Count, R: BitRead>(reader: &mut R, bits: C) -> Result<i16, Error> {
-        reader.read_signed_var(bits.bits())
+        read_signed(reader, bits)
     }
 
     fn write<B: Width, W: BitWrite>(self, writer: &mut W) -> Result<(), Error> {
@@ -138,12 +165,14 @@ impl Integer for i32 {
 
     ghost IsWidth = { λ n. (1 ≤ n) × (n ≤ 32) };
 
+    ghost Fits = { λ n x. InSignedRange n x };
+
     fn read<B: Width, R: BitRead>(reader: &mut R) -> Result<i32, Error> {
-        reader.read_signed::<B, i32>()
+        read_signed_fixed::<B, i32, R>(reader)
     }
 
     fn read_var<C: Count, R: BitRead>(reader: &mut R, bits: C) -> Result<i32, Error> {
-        reader.read_signed_var(bits.bits())
+        read_signed(reader, bits)
     }
 
     fn write<B: Width, W: BitWrite>(self, writer: &mut W) -> Result<(), Error> {
@@ -178,12 +207,14 @@ impl Integer for i64 {
 
     ghost IsWidth = { λ n. (1 ≤ n) × (n ≤ 64) };
 
+    ghost Fits = { λ n x. InSignedRange n x };
+
     fn read<B: Width, R: BitRead>(reader: &mut R) -> Result<i64, Error> {
-        reader.read_signed::<B, i64>()
+        read_signed_fixed::<B, i64, R>(reader)
     }
 
     fn read_var<C: Count, R: BitRead>(reader: &mut R, bits: C) -> Result<i64, Error> {
-        reader.read_signed_var(bits.bits())
+        read_signed(reader, bits)
     }
 
     fn write<B: Width, W: BitWrite>(self, writer: &mut W) -> Result<(), Error> {
@@ -218,12 +249,14 @@ impl Integer for i128 {
 
     ghost IsWidth = { λ n. (1 ≤ n) × (n ≤ 128) };
 
+    ghost Fits = { λ n x. InSignedRange n x };
+
     fn read<B: Width, R: BitRead>(reader: &mut R) -> Result<i128, Error> {
-        reader.read_signed::<B, i128>()
+        read_signed_fixed::<B, i128, R>(reader)
     }
 
     fn read_var<C: Count, R: BitRead>(reader: &mut R, bits: C) -> Result<i128, Error> {
-        reader.read_signed_var(bits.bits())
+        read_signed(reader, bits)
     }
 
     fn write<B: Width, W: BitWrite>(self, writer: &mut W) -> Result<(), Error> {

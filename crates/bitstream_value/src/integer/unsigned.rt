@@ -1,6 +1,8 @@
 //! Unsigned integers.
-ghost use Rattle.std.specs.Prelude.{[], ◌∷◌, ◌^◌, ◌<◌, ◌≤◌};
+ghost use Rattle.std.specs.Prelude.{[], ◌∷◌, ◌^◌, ◌<◌, ◌≤◌, IfOk};
+ghost use Rattle.bitstream_order.specs.Gather.{seen};
 ghost use Rattle.bitstream_stream.specs.ReadTable.{unsigned_entry, vbr_entry};
+ghost use Rattle.bitstream_stream.specs.Reads.{Reads};
 ghost use Rattle.bitstream_stream.specs.Sink.{WritesAll};
 ghost use Rattle.bitstream_stream.specs.WriteTable.{unsigned, vbr};
 
@@ -10,6 +12,28 @@ use bitstream_count::error::Error;
 use bitstream_number::number::{UnsignedInteger, Width};
 use bitstream_stream::read::BitRead;
 use bitstream_stream::write::BitWrite;
+
+/// Reads a number of the given number of bits, by one call.
+fn read_number<U: UnsignedInteger, C: Count, R: BitRead>(
+    reader: &mut R,
+    bits: C,
+) -> Result<U, Error>
+    ensures reads { Reads R.source (unsigned_entry R.source.order U.BITS_SIZE (C.number bits))
+        reader.old (seen U.value result) reader.new }
+    ensures fits { IfOk result (λ number. U.value number < 2 ^ C.number bits) }
+{
+    reader.read_unsigned_counted(bits)
+}
+
+/// Reads a number of `B::BITS` bits, by one call.
+fn read_number_fixed<B: Width, U: UnsignedInteger, R: BitRead>(reader: &mut R) -> Result<U, Error>
+    requires { B.BITS ≤ U.BITS_SIZE }
+    ensures reads { Reads R.source (unsigned_entry R.source.order U.BITS_SIZE B.BITS)
+        reader.old (seen U.value result) reader.new }
+    ensures fits { IfOk result (λ number. U.value number < 2 ^ B.BITS) }
+{
+    reader.read_unsigned::<B, U>()
+}
 
 /// Writes a number in the given number of bits, by one call.
 pub(crate) fn write_number<U: UnsignedInteger, C: Count, W: BitWrite>(
@@ -57,12 +81,14 @@ impl Integer for u8 {
 
     ghost IsWidth = { λ n. n ≤ 8 };
 
+    ghost Fits = { λ n v. v < 2 ^ n };
+
     fn read<B: Width, R: BitRead>(reader: &mut R) -> Result<u8, Error> {
-        reader.read_unsigned::<B, u8>()
+        read_number_fixed::<B, u8, R>(reader)
     }
 
     fn read_var<C: Count, R: BitRead>(reader: &mut R, bits: C) -> Result<u8, Error> {
-        reader.read_unsigned_counted(bits)
+        read_number(reader, bits)
     }
 
     fn write<B: Width, W: BitWrite>(self, writer: &mut W) -> Result<(), Error> {
@@ -97,12 +123,14 @@ impl Integer for u16 {
 
     ghost IsWidth = { λ n. n ≤ 16 };
 
+    ghost Fits = { λ n v. v < 2 ^ n };
+
     fn read<B: Width, R: BitRead>(reader: &mut R) -> Result<u16, Error> {
-        reader.read_unsigned::<B, u16>()
+        read_number_fixed::<B, u16, R>(reader)
     }
 
     fn read_var<C: Count, R: BitRead>(reader: &mut R, bits: C) -> Result<u16, Error> {
-        reader.read_unsigned_counted(bits)
+        read_number(reader, bits)
     }
 
     fn write<B: Width, W: BitWrite>(self, writer: &mut W) -> Result<(), Error> {
@@ -137,12 +165,14 @@ impl Integer for u32 {
 
     ghost IsWidth = { λ n. n ≤ 32 };
 
+    ghost Fits = { λ n v. v < 2 ^ n };
+
     fn read<B: Width, R: BitRead>(reader: &mut R) -> Result<u32, Error> {
-        reader.read_unsigned::<B, u32>()
+        read_number_fixed::<B, u32, R>(reader)
     }
 
     fn read_var<C: Count, R: BitRead>(reader: &mut R, bits: C) -> Result<u32, Error> {
-        reader.read_unsigned_counted(bits)
+        read_number(reader, bits)
     }
 
     fn write<B: Width, W: BitWrite>(self, writer: &mut W) -> Result<(), Error> {
@@ -177,12 +207,14 @@ impl Integer for u64 {
 
     ghost IsWidth = { λ n. n ≤ 64 };
 
+    ghost Fits = { λ n v. v < 2 ^ n };
+
     fn read<B: Width, R: BitRead>(reader: &mut R) -> Result<u64, Error> {
-        reader.read_unsigned::<B, u64>()
+        read_number_fixed::<B, u64, R>(reader)
     }
 
     fn read_var<C: Count, R: BitRead>(reader: &mut R, bits: C) -> Result<u64, Error> {
-        reader.read_unsigned_counted(bits)
+        read_number(reader, bits)
     }
 
     fn write<B: Width, W: BitWrite>(self, writer: &mut W) -> Result<(), Error> {
@@ -217,12 +249,14 @@ impl Integer for u128 {
 
     ghost IsWidth = { λ n. n ≤ 128 };
 
+    ghost Fits = { λ n v. v < 2 ^ n };
+
     fn read<B: Width, R: BitRead>(reader: &mut R) -> Result<u128, Error> {
-        reader.read_unsigned::<B, u128>()
+        read_number_fixed::<B, u128, R>(reader)
     }
 
     fn read_var<C: Count, R: BitRead>(reader: &mut R, bits: C) -> Result<u128, Error> {
-        reader.read_unsigned_counted(bits)
+        read_number(reader, bits)
     }
 
     fn write<B: Width, W: BitWrite>(self, writer: &mut W) -> Result<(), Error> {

@@ -1,5 +1,5 @@
 use Rattle.std.proofs.Common.{rules}
-use Rattle.bitstream_io.proofs.CallerLemmas.{below, branches}
+use Rattle.bitstream_io.proofs.CallerLemmas.{branches}
 use Rattle.bitstream_io.proofs.ReadSteps.{few_reads, reads}
 use Rattle.bitstream_callers.proofs.GolombLemmas.{shifted, sum_below}
 use Rattle.bitstream_callers.proofs.golomb.read_ue.Goals as goal
@@ -21,7 +21,7 @@ returns-in_err-rest-clause-reads g c = search (
 
 pub overflow_add-result : goal.overflow_add-result
 overflow_add-result g c =
-    let small = sum_below _ _ c.if-zeros-gt31.false (below _ _ _ _ c.in_ok-rest.ensures.reads) in search (rules, small)
+    let small = sum_below _ _ c.if-zeros-gt31.false c.in_ok-rest.ensures.fits in search (rules, small)
 
 pub returns-clause-reads : goal.returns-clause-reads
 returns-clause-reads g c =
@@ -29,4 +29,4 @@ returns-clause-reads g c =
     (search (reads, branches, c.in_ok-zeros.ensures.reads, c.in_ok-rest.ensures.reads) depth 12)
 
 pub returns-clause-below : goal.returns-clause-below
-returns-clause-below g c = sum_below _ _ c.if-zeros-gt31.false (below _ _ _ _ c.in_ok-rest.ensures.reads)
+returns-clause-below g c = sum_below _ _ c.if-zeros-gt31.false c.in_ok-rest.ensures.fits

@@ -5,19 +5,15 @@ use Rattle.bitstream_stream.proofs.TableLemmas.{none-then, unsigned-on_failed}
 use Rattle.std.proofs.Common.{refl}
 use Rattle.bitstream_value.proofs.refuse.refuse_read.Goals as goal
 
-pub returns-in_err-read_unsigned_var : goal.returns-in_err-read_unsigned_var
-returns-in_err-read_unsigned_var g c = record {
-  reads =
-      Reads-same (none-then g.R.BitRead.source.order 8 (refuses c.args.error) refl)
-      (exit (λ _. refuses c.args.error) c.from_residual.result c.from_residual.ensures.1
-      c.in_err-read_unsigned_var.ensures.reads);
-}
+pub returns-in_err-read_unsigned_var-clause-reads : goal.returns-in_err-read_unsigned_var-clause-reads
+returns-in_err-read_unsigned_var-clause-reads g c =
+    Reads-same (none-then g.R.BitRead.source.order 8 (refuses c.args.error) refl)
+    (exit (λ _. refuses c.args.error) c.from_residual.result c.from_residual.ensures.1
+    c.in_err-read_unsigned_var.ensures.reads)
 
-pub returns : goal.returns
-returns g c = record {
-  reads =
-      let fine = Reads-fine (unsigned-on_failed g.R.BitRead.source.order 8 0) c.in_ok-read_unsigned_var.ensures.reads in
-      Reads-same (none-then g.R.BitRead.source.order 8 (refuses c.args.error) refl)
-      (Reads-chain-ok _ (λ _. refuses c.args.error) c.in_ok-read_unsigned_var.ensures.reads
-      (Reads-refuses c.args.error _ fine c.requires));
-}
+pub returns-clause-reads : goal.returns-clause-reads
+returns-clause-reads g c =
+    let fine = Reads-fine (unsigned-on_failed g.R.BitRead.source.order 8 0) c.in_ok-read_unsigned_var.ensures.reads in
+    Reads-same (none-then g.R.BitRead.source.order 8 (refuses c.args.error) refl)
+    (Reads-chain-ok _ (λ _. refuses c.args.error) c.in_ok-read_unsigned_var.ensures.reads
+    (Reads-refuses c.args.error _ fine c.requires))

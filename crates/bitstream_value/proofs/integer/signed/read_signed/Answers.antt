@@ -1,0 +1,5 @@
+use Rattle.bitstream_value.proofs.FitsLemmas.{signed-in_range}
+use Rattle.bitstream_value.proofs.integer.signed.read_signed.Goals as goal
+
+pub returns-clause-fits : goal.returns-clause-fits
+returns-clause-fits g c = rw c.bits.ensures.value at (signed-in_range _ _ _ _ _ c.read_signed_var.ensures.reads)
