@@ -3,7 +3,7 @@ use bitstream_callers::block_header::{BlockHeader, append};
 use bitstream_callers::header::{Header, version};
 use bitstream_callers::packet_header::{PacketError, PacketHeader};
 use bitstream_callers::padded_port::PaddedPort;
-use bitstream_callers::plain::{drift, picture_size};
+use bitstream_callers::plain::{chunk, direction, drift, first_block, parse_turn, picture_size};
 use bitstream_callers::reading::{Reading, ReadingError};
 use bitstream_callers::stream_info::{StreamInfo, StreamInfoBlock, sample_rate};
 use bitstream_callers::telemetry::{Sample, heartbeat};
@@ -84,6 +84,23 @@ fn parses_and_builds_a_stream_info(rt: HostRuntime) -> Result<(), Fail> {
     );
     assert!(rt; goes_to(rt.alloc(), &block, &WHOLE_BLOCK)?);
     assert!(rt; has_272_bits(&block)?);
+    Ok(())
+}
+
+/// Whether the packets of a wheel, a turn and a way, are these bytes.
+fn turns(alloc: Global, turn: &[u8], way: &[u8]) -> Result<bool, Error> {
+    let turned = parse_turn(turn)?;
+    Ok((turned.lost, turned.angle) == (2, -3) && direction(alloc, way)? == '+')
+}
+
+#[test]
+fn parses_plain_packets(rt: HostRuntime) -> Result<(), Fail> {
+    assert!(rt; turns(rt.alloc(), &[0x2b], &[0x80])?);
+    let bytes = [0, 0, 0, 3, 0x64, 0x61, 0x74, 0x61, 7, 8, 9];
+    let data = chunk(rt.alloc(), bytes.as_slice())?;
+    assert!(rt; data.as_slice() == [7, 8, 9].as_slice());
+    let file = [0x66, 0x4c, 0x61, 0x43, 0x00, 0x00, 0x00, 0x22];
+    assert!(rt; matches!(first_block(file.as_slice()), Ok(34)));
     Ok(())
 }
 
