@@ -32,8 +32,8 @@ returns-in_err-read-2 g c = next_const _ _ c.in_ok-read_const.ensures.reads (nex
 pub returns-in_err-read_bit-2 : goal.returns-in_err-read_bit-2
 returns-in_err-read_bit-2 g c = next_const _ _ c.in_ok-read_const.ensures.reads (next _ c.in_ok-mpeg_2.ensures.reads
     (next_const _ _ c.in_ok-read_const-2.ensures.reads (next _ c.in_ok-read_bit.ensures.reads (next _
-    c.in_ok-read.ensures.reads (next _ c.in_ok-read-2.ensures.reads (exit _
-    c.from_residual-in_err-read_bit-2.ensures.1 c.in_err-read_bit-2.ensures.reads))))))
+    c.in_ok-read.ensures.reads (next _ c.in_ok-read-2.ensures.reads (exit _ c.from_residual-in_err-read_bit-2.ensures.1
+    c.in_err-read_bit-2.ensures.reads))))))
 
 pub returns-in_err-read-3 : goal.returns-in_err-read-3
 returns-in_err-read-3 g c = next_const _ _ c.in_ok-read_const.ensures.reads (next _ c.in_ok-mpeg_2.ensures.reads
@@ -59,47 +59,46 @@ pub returns-in_err-read_bit-5 : goal.returns-in_err-read_bit-5
 returns-in_err-read_bit-5 g c = next_const _ _ c.in_ok-read_const.ensures.reads (next _ c.in_ok-mpeg_2.ensures.reads
     (next_const _ _ c.in_ok-read_const-2.ensures.reads (next _ c.in_ok-read_bit.ensures.reads (next _
     c.in_ok-read.ensures.reads (next _ c.in_ok-read-2.ensures.reads (next _ c.in_ok-read_bit-2.ensures.reads (next _
-    c.in_ok-read-3.ensures.reads (next _ c.in_ok-read_bit-3.ensures.reads (next _ c.in_ok-read_bit-4.ensures.reads
-    (exit _ c.from_residual-in_err-read_bit-5.ensures.1 c.in_err-read_bit-5.ensures.reads))))))))))
+    c.in_ok-read-3.ensures.reads (next _ c.in_ok-read_bit-3.ensures.reads (next _ c.in_ok-read_bit-4.ensures.reads (exit
+    _ c.from_residual-in_err-read_bit-5.ensures.1 c.in_err-read_bit-5.ensures.reads))))))))))
 
 pub returns-in_err-read_bit-6 : goal.returns-in_err-read_bit-6
 returns-in_err-read_bit-6 g c = next_const _ _ c.in_ok-read_const.ensures.reads (next _ c.in_ok-mpeg_2.ensures.reads
     (next_const _ _ c.in_ok-read_const-2.ensures.reads (next _ c.in_ok-read_bit.ensures.reads (next _
     c.in_ok-read.ensures.reads (next _ c.in_ok-read-2.ensures.reads (next _ c.in_ok-read_bit-2.ensures.reads (next _
-    c.in_ok-read-3.ensures.reads (next _ c.in_ok-read_bit-3.ensures.reads (next _ c.in_ok-read_bit-4.ensures.reads
-    (next _ c.in_ok-read_bit-5.ensures.reads (exit _ c.from_residual-in_err-read_bit-6.ensures.1
+    c.in_ok-read-3.ensures.reads (next _ c.in_ok-read_bit-3.ensures.reads (next _ c.in_ok-read_bit-4.ensures.reads (next
+    _ c.in_ok-read_bit-5.ensures.reads (exit _ c.from_residual-in_err-read_bit-6.ensures.1
     c.in_err-read_bit-6.ensures.reads)))))))))))
 
 pub returns-in_err-read-4 : goal.returns-in_err-read-4
 returns-in_err-read-4 g c = next_const _ _ c.in_ok-read_const.ensures.reads (next _ c.in_ok-mpeg_2.ensures.reads
     (next_const _ _ c.in_ok-read_const-2.ensures.reads (next _ c.in_ok-read_bit.ensures.reads (next _
     c.in_ok-read.ensures.reads (next _ c.in_ok-read-2.ensures.reads (next _ c.in_ok-read_bit-2.ensures.reads (next _
-    c.in_ok-read-3.ensures.reads (next _ c.in_ok-read_bit-3.ensures.reads (next _ c.in_ok-read_bit-4.ensures.reads
-    (next _ c.in_ok-read_bit-5.ensures.reads (next _ c.in_ok-read_bit-6.ensures.reads (exit _
+    c.in_ok-read-3.ensures.reads (next _ c.in_ok-read_bit-3.ensures.reads (next _ c.in_ok-read_bit-4.ensures.reads (next
+    _ c.in_ok-read_bit-5.ensures.reads (next _ c.in_ok-read_bit-6.ensures.reads (exit _
     c.from_residual-in_err-read-4.ensures.1 c.in_err-read-4.ensures.reads))))))))))))
 
 pub returns-in_err-read-5 : goal.returns-in_err-read-5
 returns-in_err-read-5 g c = next_const _ _ c.in_ok-read_const.ensures.reads (next _ c.in_ok-mpeg_2.ensures.reads
     (next_const _ _ c.in_ok-read_const-2.ensures.reads (next _ c.in_ok-read_bit.ensures.reads (next _
     c.in_ok-read.ensures.reads (next _ c.in_ok-read-2.ensures.reads (next _ c.in_ok-read_bit-2.ensures.reads (next _
-    c.in_ok-read-3.ensures.reads (next _ c.in_ok-read_bit-3.ensures.reads (next _ c.in_ok-read_bit-4.ensures.reads
-    (next _ c.in_ok-read_bit-5.ensures.reads (next _ c.in_ok-read_bit-6.ensures.reads (next _
-    c.in_ok-read-4.ensures.reads (exit _ c.from_residual-in_err-read-5.ensures.1
-    c.in_err-read-5.ensures.reads)))))))))))))
+    c.in_ok-read-3.ensures.reads (next _ c.in_ok-read_bit-3.ensures.reads (next _ c.in_ok-read_bit-4.ensures.reads (next
+    _ c.in_ok-read_bit-5.ensures.reads (next _ c.in_ok-read_bit-6.ensures.reads (next _ c.in_ok-read-4.ensures.reads
+    (exit _ c.from_residual-in_err-read-5.ensures.1 c.in_err-read-5.ensures.reads)))))))))))))
 
 pub returns-in_err-read-6 : goal.returns-in_err-read-6
 returns-in_err-read-6 g c = next_const _ _ c.in_ok-read_const.ensures.reads (next _ c.in_ok-mpeg_2.ensures.reads
     (next_const _ _ c.in_ok-read_const-2.ensures.reads (next _ c.in_ok-read_bit.ensures.reads (next _
     c.in_ok-read.ensures.reads (next _ c.in_ok-read-2.ensures.reads (next _ c.in_ok-read_bit-2.ensures.reads (next _
-    c.in_ok-read-3.ensures.reads (next _ c.in_ok-read_bit-3.ensures.reads (next _ c.in_ok-read_bit-4.ensures.reads
-    (next _ c.in_ok-read_bit-5.ensures.reads (next _ c.in_ok-read_bit-6.ensures.reads (next _
-    c.in_ok-read-4.ensures.reads (next _ c.in_ok-read-5.ensures.reads (exit _ c.from_residual-in_err-read-6.ensures.1
+    c.in_ok-read-3.ensures.reads (next _ c.in_ok-read_bit-3.ensures.reads (next _ c.in_ok-read_bit-4.ensures.reads (next
+    _ c.in_ok-read_bit-5.ensures.reads (next _ c.in_ok-read_bit-6.ensures.reads (next _ c.in_ok-read-4.ensures.reads
+    (next _ c.in_ok-read-5.ensures.reads (exit _ c.from_residual-in_err-read-6.ensures.1
     c.in_err-read-6.ensures.reads))))))))))))))
 
 pub returns : goal.returns
 returns g c = next_const _ _ c.in_ok-read_const.ensures.reads (next _ c.in_ok-mpeg_2.ensures.reads (next_const _ _
-    c.in_ok-read_const-2.ensures.reads (next _ c.in_ok-read_bit.ensures.reads (next _ c.in_ok-read.ensures.reads (next
-    _ c.in_ok-read-2.ensures.reads (next _ c.in_ok-read_bit-2.ensures.reads (next _ c.in_ok-read-3.ensures.reads (next
-    _ c.in_ok-read_bit-3.ensures.reads (next _ c.in_ok-read_bit-4.ensures.reads (next _
-    c.in_ok-read_bit-5.ensures.reads (next _ c.in_ok-read_bit-6.ensures.reads (next _ c.in_ok-read-4.ensures.reads
-    (next _ c.in_ok-read-5.ensures.reads (next _ c.in_ok-read-6.ensures.reads (own_end _ _)))))))))))))))
+    c.in_ok-read_const-2.ensures.reads (next _ c.in_ok-read_bit.ensures.reads (next _ c.in_ok-read.ensures.reads (next _
+    c.in_ok-read-2.ensures.reads (next _ c.in_ok-read_bit-2.ensures.reads (next _ c.in_ok-read-3.ensures.reads (next _
+    c.in_ok-read_bit-3.ensures.reads (next _ c.in_ok-read_bit-4.ensures.reads (next _ c.in_ok-read_bit-5.ensures.reads
+    (next _ c.in_ok-read_bit-6.ensures.reads (next _ c.in_ok-read-4.ensures.reads (next _ c.in_ok-read-5.ensures.reads
+    (next _ c.in_ok-read-6.ensures.reads (own_end _ _)))))))))))))))
