@@ -1,4 +1,5 @@
 pub mod RunLemmas
+pub mod NonZeroBack
 pub mod CallsBack
 pub mod CallerLemmas
 mod ReadBackLemmas
