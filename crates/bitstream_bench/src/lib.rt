@@ -31,6 +31,8 @@ mod numbers;
 mod older;
 #[cfg(test)]
 mod own;
+#[cfg(test)]
+mod program;
 mod refuse;
 mod refuse_once;
 #[cfg(test)]
