@@ -33,6 +33,8 @@ mod older;
 mod own;
 #[cfg(test)]
 mod program;
+#[cfg(test)]
+mod program_rows;
 mod refuse;
 mod refuse_once;
 #[cfg(test)]
