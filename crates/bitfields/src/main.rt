@@ -1,27 +1,8 @@
 //! Packs decimal values into bit fields, counts their bits, unpacks bit fields into decimal values, and repacks them.
 #![tactic(auto)]
 
-mod decimal;
-mod exact;
-mod fault;
-mod fault_line;
-mod field;
-mod field_value;
-mod input;
-mod laws;
-mod layout;
-mod lines;
-mod packing;
-#[cfg(test)]
-mod r01_first_path;
-mod repacking;
-mod run;
-mod size;
-mod unpacking;
-mod value;
-
-use fault::{Fault, Reason};
-use run::{report, run};
+use bitfields_core::run::{report, run};
+use bitfields_core::{Fault, Reason};
 use std::io::ErrorKind;
 use std::process::ExitCode;
 use std::{env, io};

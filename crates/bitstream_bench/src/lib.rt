@@ -31,6 +31,10 @@ mod numbers;
 mod older;
 #[cfg(test)]
 mod own;
+#[cfg(test)]
+mod program;
+#[cfg(test)]
+mod program_rows;
 mod refuse;
 mod refuse_once;
 #[cfg(test)]

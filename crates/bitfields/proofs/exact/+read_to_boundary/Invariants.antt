@@ -1,4 +1,0 @@
-use Rattle.bitfields.proofs.exact.+read_to_boundary.Given as goal
-
-abbrev pub decreases-read_to_boundary : goal.decreases-read_to_boundary
-decreases-read_to_boundary g l = l.most

@@ -1,7 +1,0 @@
-use Rattle.bitfields.specs.Repacking.{exact_read, with_alignment}
-use Rattle.bitfields.proofs.UnpackingLemmas.{Remaining}
-use Rattle.bitfields.proofs.exact.read_packed_from.Given as goal
-
-abbrev pub invariant-loop-index : goal.invariant-loop-index
-invariant-loop-index g l = Remaining exact_read g.R.BitRead.source (with_alignment l.fields) l.index l.initial.reader
-    l.values.items l.reader

@@ -1,7 +1,0 @@
-use Rattle.std.proofs.lemmas.List.Elements.{recursion_from_All}
-use Rattle.bitfields.specs.Layout.{IsField}
-use Rattle.bitfields.proofs.FieldCalls.{unpacked-written}
-use Rattle.bitfields.proofs.laws.packed_values_are_unpacked.Goals as goal
-
-pub returns : goal.returns
-returns c = λ o k fields vs at rest i h. unpacked-written o k fields vs at rest (recursion_from_All IsField fields i) h

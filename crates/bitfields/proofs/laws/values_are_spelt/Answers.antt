@@ -1,9 +1,0 @@
-use Rattle.bitfields.proofs.ValueLemmas.{values-Fit}
-use Rattle.bitfields.proofs.PrintedLines.{values-printed_lines}
-use Rattle.bitfields.proofs.laws.values_are_spelt.Goals as goal
-
-pub returns-clause-fit : goal.returns-clause-fit
-returns-clause-fit c = values-Fit
-
-pub returns-clause-spelt : goal.returns-clause-spelt
-returns-clause-spelt c = values-printed_lines

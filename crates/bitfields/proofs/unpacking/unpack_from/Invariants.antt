@@ -1,7 +1,0 @@
-use Rattle.std.proofs.Common.{string_bytes}
-use Rattle.bitfields.proofs.UnpackingLemmas.{Unpacking}
-use Rattle.bitfields.proofs.unpacking.unpack_from.Given as goal
-
-abbrev pub invariant-loop-index : goal.invariant-loop-index
-invariant-loop-index g l = Unpacking g.R.BitRead.source l.fields l.index l.initial.reader (string_bytes l.lines)
-    l.reader

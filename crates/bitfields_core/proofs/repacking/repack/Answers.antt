@@ -1,0 +1,48 @@
+use Rattle.std.proofs.Common.{refl}
+use Rattle.bitstream_io.specs.Refusal.{MayRefuse}
+use Rattle.bitfields_core.specs.Repacking.{no_end, ReadToLast}
+use Rattle.bitfields_core.proofs.PackingLemmas.{result_err}
+use Rattle.bitfields_core.proofs.RepackedBytes.{packed_again, was_ended}
+use Rattle.bitfields_core.proofs.repacking.repack.Goals as goal
+
+pub returns-in_err-expect_end-clause-repacks : goal.returns-in_err-expect_end-clause-repacks
+returns-in_err-expect_end-clause-repacks g c =
+    rw (result_err c.from_residual-in_err-expect_end.result c.from_residual-in_err-expect_end.ensures.1)
+    (no_end c.in_ok-values.values.items c.read_packed.new.input c.in_ok-values.ensures.reads c.in_err-expect_end.ensures
+    refl)
+
+pub returns-clause-repacks : goal.returns-clause-repacks
+returns-clause-repacks g c =
+    let known = g.R.Source.remaining in
+    let refuses = g.R.Source.refuses in
+    let o = g.E.Endianness.order in
+    let fields = c.args.layout.now in
+    let vs = c.in_ok-values.values.items in
+    let layout = c.in_ok-values.ensures.is_layout in
+    let read : ReadToLast known refuses o fields c.args.input.now vs c.expect_end.new.input =
+    record {
+      behind = c.read_packed.new.input;
+      reads = c.in_ok-values.ensures.reads;
+      ended = c.in_ok-expect_end.ensures;
+    }
+    in
+    packed_again known refuses g.W.Target.contents (MayRefuse g.W.Target.contents g.W.Target.refuses) o fields _ _ _ _
+    vs c.pack_values.result layout read (rw c.deref.ensures.value at c.pack_values.ensures)
+
+pub returns-clause-repacked : goal.returns-clause-repacked
+returns-clause-repacked g c =
+    let known = g.R.Source.remaining in
+    let refuses = g.R.Source.refuses in
+    let o = g.E.Endianness.order in
+    let fields = c.args.layout.now in
+    let vs = c.in_ok-values.values.items in
+    let read : ReadToLast known refuses o fields c.args.input.now vs c.expect_end.new.input =
+    record {
+      behind = c.read_packed.new.input;
+      reads = c.in_ok-values.ensures.reads;
+      ended = c.in_ok-expect_end.ensures;
+    }
+    in
+    λ ends xs told. was_ended ends o fields told g.W.Target.contents
+    (MayRefuse g.W.Target.contents g.W.Target.refuses) _ _ c.pack_values.result read
+    (rw c.deref.ensures.value at c.pack_values.ensures)

@@ -1,0 +1,171 @@
+-- Repacking: packed bytes, read and packed again.
+use Rattle.std.specs.Prelude.{◌≡◌, ◌≢◌, ◌⊎◌, ◌<◌, ◌*◌, ◌+◌, ◌==◌, All, Bool, true, false, if◌then◌else◌, ℕ, List, [], ◌∷◌, ◌++◌, length, Option, None, Result, Ok, Err}
+use Rattle.std.specs.Io.KnownBytes.{Consumes}
+use Rattle.std.specs.declared.io.ErrorKind.{ErrorKind}
+use Rattle.std.specs.declared.io.ErrorKind.TheVariants.{UnexpectedEof}
+use Rattle.bitstream_io.specs.Alignment.{to_boundary}
+use Rattle.bitstream_io.specs.Entry.{ReadEntry, call, chain, gives, takes, word_front}
+use Rattle.bitstream_io.specs.Reads.{BitSource}
+use Rattle.bitstream_io.specs.Refusal.{Refusal, MayRefuse}
+use Rattle.bitstream_io.specs.Word.{Order, bits}
+use Rattle.bitfields_core.specs.declared.fault.Reason.{Reason}
+use Rattle.bitfields_core.specs.declared.fault.Reason.TheVariants.{BytesLeftOver, OutOfMemory, PaddingNotZero, StreamFault}
+use Rattle.bitfields_core.specs.declared.fault.Fault.{Fault}
+use Rattle.bitfields_core.specs.declared.field.Field.{Field}
+use Rattle.bitfields_core.specs.declared.field.Field.TheVariants.{Align, Lenient, Padding}
+use Rattle.bitfields_core.specs.declared.field_value.FieldValue.{FieldValue}
+use Rattle.bitfields_core.specs.Fault.{fault, refusal_reason}
+use Rattle.bitfields_core.specs.Packing.{PackedBytes, PackingRefused}
+use Rattle.bitfields_core.specs.Unpacking.{FieldCalls, Unpacked, Unpacks, Stops, field_read, says_by, FieldsFault, ReadsFields}
+
+-- ---- what packed bits say
+
+-- whether all bits are 0
+abbrev pub are_zeros : List Bool → Bool
+are_zeros [] = true
+are_zeros (b ∷ bits) = if b then false else are_zeros bits
+
+-- n bits: whether all are 0
+unfoldable pub zeros_entry : ℕ → ReadEntry Bool
+zeros_entry n = takes n (λ w. Ok (are_zeros w))
+
+-- the bits up to the next byte boundary: whether all are 0
+unfoldable pub boundary_entry : ReadEntry Bool
+boundary_entry = call (λ p bits. word_front (to_boundary p) (λ w. Ok (are_zeros w)) bits)
+
+-- no value, or the reason why bits are not what is packed
+abbrev pub if_zeros : Bool → Result (Option FieldValue) Reason
+if_zeros zero = if zero then Ok None else Err PaddingNotZero
+
+-- the read call of a field whose padding has to be zero
+abbrev pub exact_read : FieldCalls
+exact_read o (Padding n) = chain (zeros_entry n) (λ zero. gives (if_zeros zero))
+exact_read o Align = chain boundary_entry (λ zero. gives (if_zeros zero))
+exact_read o field = field_read o field
+
+-- the fields, and the last alignment
+abbrev pub with_alignment : List Field → List Field
+with_alignment fields = fields ++ Align ∷ []
+
+-- a fault of the last alignment, which stands behind n fields, names no field
+abbrev pub unnamed : ℕ → Fault → Fault
+unnamed n f = if f.field == n + 1 then fault 0 f.reason else f
+
+-- the same of what bits say
+abbrev pub unnamed_last : ℕ → Unpacked → Unpacked
+unnamed_last n (Unpacks vs at) = Unpacks vs at
+unnamed_last n (Stops f) = Stops (unnamed n f)
+
+-- what bits say for packed fields and a last alignment: the values and the place behind the alignment, or the first
+-- fault
+abbrev pub repacked : Order → List Field → List Bool → Unpacked
+repacked o fields bits = unnamed_last (length fields) (says_by exact_read o 1 (with_alignment fields) 0 bits)
+
+-- each value of the field has one word
+abbrev pub HasOneWord : Field → Type 0
+HasOneWord (Lenient size) = ⊥
+HasOneWord field = Unit {0}
+
+-- ---- from a reader
+
+-- the same of values that were read, or the fault
+abbrev pub unnamed_result : ℕ → Result (List FieldValue) Fault → Result (List FieldValue) Fault
+unnamed_result n (Ok vs) = Ok vs
+unnamed_result n (Err f) = Err (unnamed n f)
+
+-- the read calls of packed fields and of a last alignment, and the values that they answer
+pub record ReadsPacked {R : Type 0} (K : BitSource R) (fields : List Field) (old : R)
+    (result : Result (List FieldValue) Fault) (new : R) : Type 0 where
+  pub answer : Result (List FieldValue) Fault
+  pub reads : ReadsFields exact_read K 1 (with_alignment fields) old answer new
+  pub names : result ≡ unnamed_result (length fields) answer
+
+-- ---- from a stream
+
+-- A stream lost whole bytes. These say the values, whatever follows them.
+pub record ReadPacked (o : Order) (fields : List Field) (old : Option (List ℕ)) (vs : List FieldValue)
+    (new : Option (List ℕ)) : Type 0 where
+  pub gone : List ℕ
+  pub loses : Consumes old new gone
+  pub says : (more : List Bool) → repacked o fields (bits o gone ++ more) ≡ Unpacks vs (8 * length gone)
+
+-- why packed fields are not read from a stream's bytes
+abbrev pub PackedFault : (Refusal → Type 0) → Order → List Field → Option (List ℕ) → Fault → Option (List ℕ) → Type 0
+PackedFault may o fields old f new = (g : Fault)
+    × FieldsFault exact_read may o (with_alignment fields) old g new × (f ≡ unnamed (length fields) g)
+
+-- packed fields, read from a stream's bytes: the values, or the fault
+abbrev pub ReadsPackedBytes : {R : Type 0} → (R → Option (List ℕ)) → (Refusal → Type 0) → Order → List Field → R
+    → Result (List FieldValue) Fault → R → Type 0
+ReadsPackedBytes known may o fields old (Ok vs) new = ReadPacked o fields (known old) vs (known new)
+ReadsPackedBytes known may o fields old (Err f) new = PackedFault may o fields (known old) f (known new)
+
+-- one byte more is there, or the request for it was refused, but not as an end
+abbrev pub IsNoEnd : {R : Type 0} → (R → Option (List ℕ)) → (R → ℕ → ErrorKind → R → Type 0) → R → Fault → R → Type 0
+IsNoEnd known refuses old f new =
+    ((byte : ℕ) × Consumes (known old) (known new) (byte ∷ []) × (f ≡ fault 0 BytesLeftOver))
+    ⊎ ((kind : ErrorKind) × refuses old 1 kind new × (kind ≢ UnexpectedEof) × (f ≡ fault 0 (refusal_reason kind)))
+
+-- a stream was asked for one byte, and refused it as its end
+abbrev pub Ends : {R : Type 0} → (R → Option (List ℕ)) → (R → ℕ → ErrorKind → R → Type 0) → R → Result (Unit {0}) Fault
+    → R → Type 0
+Ends known refuses old (Ok done) new = refuses old 1 UnexpectedEof new
+Ends known refuses old (Err f) new = IsNoEnd known refuses old f new
+
+-- the input ended behind the packed bytes: it refused one byte more as its end
+pub record ReadToLast {R : Type 0} (known : R → Option (List ℕ)) (refuses : R → ℕ → ErrorKind → R → Type 0)
+    (o : Order) (fields : List Field) (input : R) (vs : List FieldValue) (input_after : R) : Type 0 where
+  pub behind : R
+  pub reads : ReadPacked o fields (known input) vs (known behind)
+  pub ended : refuses behind 1 UnexpectedEof input_after
+
+-- All bytes of the input were read and their values packed. If each value has one word, the bits of the packed bytes
+-- are those that were read.
+pub record RepackedBytes {R W : Type 0} (known : R → Option (List ℕ)) (refuses : R → ℕ → ErrorKind → R → Type 0)
+    (contents : W → Option (List ℕ)) (o : Order) (fields : List Field) (input : R) (output : W) (input_after : R)
+    (output_after : W) : Type 0 where
+  pub vs : List FieldValue
+  pub read : ReadToLast known refuses o fields input vs input_after
+  pub packs : PackedBytes o fields vs (contents output) (contents output_after)
+  pub same : All HasOneWord fields → bits o packs.bytes ≡ bits o read.reads.gone
+
+-- Why an input was not repacked. Its bits have a fault, or it refused a request, or memory was refused, at a field; or
+-- its padding behind the last field is not zero. Or it has a byte more, or refused the request for that byte, but not
+-- as its end. The output is as it was then. Else all of it was read, and the output refused a request.
+pub data RepackingFault {R W : Type 0} (known : R → Option (List ℕ)) (refuses : R → ℕ → ErrorKind → R → Type 0)
+    (contents : W → Option (List ℕ)) (may : Refusal → Type 0) (o : Order) (fields : List Field) (input : R) (output : W)
+    (f : Fault) (input_after : R) (output_after : W) : Type 0 where
+  stopped_input : PackedFault (MayRefuse known refuses) o fields (known input) f (known input_after)
+      → output_after ≡ output
+      → RepackingFault known refuses contents may o fields input output f input_after output_after
+  no_end : (vs : List FieldValue) (behind : R) → ReadPacked o fields (known input) vs (known behind)
+      → IsNoEnd known refuses behind f input_after → output_after ≡ output
+      → RepackingFault known refuses contents may o fields input output f input_after output_after
+  refused_output : (vs : List FieldValue) → ReadToLast known refuses o fields input vs input_after
+      → PackingRefused may o fields vs (contents output) f (contents output_after)
+      → RepackingFault known refuses contents may o fields input output f input_after output_after
+
+-- repacking an input
+abbrev pub Repacks : {R W : Type 0} → (R → Option (List ℕ)) → (R → ℕ → ErrorKind → R → Type 0) → (W → Option (List ℕ))
+    → (Refusal → Type 0) → Order → List Field → R → W → Result (Unit {0}) Fault → R → W → Type 0
+Repacks known refuses contents may o fields input output (Ok done) input_after output_after =
+    RepackedBytes known refuses contents o fields input output input_after output_after
+Repacks known refuses contents may o fields input output (Err f) input_after output_after =
+    RepackingFault known refuses contents may o fields input output f input_after output_after
+
+-- all bytes of a stream say values, and no byte is left over
+abbrev pub AreRepacked : Order → List Field → List ℕ → Type 0
+AreRepacked o fields xs = (vs : List FieldValue) × (repacked o fields (bits o xs) ≡ Unpacks vs (8 * length xs))
+
+-- all bytes of a stream say the fault, or are more than those that say values
+abbrev pub AreNotRepacked : Order → List Field → List ℕ → Fault → Type 0
+AreNotRepacked o fields xs f =
+    (repacked o fields (bits o xs) ≡ Stops f)
+    ⊎ ((f ≡ fault 0 BytesLeftOver) × (vs : List FieldValue) × (n : ℕ) × (n < 8 * length xs)
+    × (repacked o fields (bits o xs) ≡ Unpacks vs n))
+
+-- The bytes of a stream are repacked exactly if they say values and none is left over, refused memory and the output's
+-- refusals aside.
+abbrev pub IsRepacked : Order → List Field → List ℕ → Result (Unit {0}) Fault → Type 0
+IsRepacked o fields xs (Ok done) = AreRepacked o fields xs
+IsRepacked o fields xs (Err f) = ((f.reason ≡ OutOfMemory) ⊎ (f.reason ≡ StreamFault)) ⊎ AreNotRepacked o fields xs f

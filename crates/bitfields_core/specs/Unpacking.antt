@@ -1,0 +1,267 @@
+-- Unpacking: the values that bits hold for fields.
+use Rattle.std.specs.Prelude.{◌≡◌, ◌⊎◌, ◌<◌, ◌≤◌, ◌*◌, ◌^◌, Result, Ok, Err, Option, Some, None, ℕ, ◌+◌, ◌==◌, if◌then◌else◌, Bool, true, false, List, [], ◌∷◌, ◌++◌, length, map}
+use Rattle.std.specs.Io.KnownBytes.{Consumes}
+use Rattle.bitstream_io.specs.Word.{Order, bits}
+use Rattle.bitstream_io.specs.Error.{Error}
+use Rattle.bitstream_io.specs.Error.TheVariants as errors
+use Rattle.bitstream_io.specs.Entry.{ReadEntry, chain, gives}
+use Rattle.bitstream_io.specs.ReadTable.{unsigned_entry, signed_entry, unary_entry, vbr_entry, any_vbr_entry, signed_vbr_entry, bytes_entry, skip_entry, align_entry}
+use Rattle.bitstream_io.specs.Run.{read_run}
+use Rattle.bitstream_io.specs.Fault.{read_refusal_of}
+use Rattle.bitstream_io.specs.Refusal.{Refusal, IsTrueEnd}
+use Rattle.bitstream_io.specs.Reads.{BitSource}
+use Rattle.bitstream_io.specs.Own.{ReadsOwn}
+use Rattle.bitfields_core.specs.declared.fault.Reason.{Reason}
+use Rattle.bitfields_core.specs.declared.fault.Reason.TheVariants.{BitsEnded, ConstantDiffers, LimitPassed, StreamFault, OutOfMemory}
+use Rattle.bitfields_core.specs.declared.fault.Fault.{Fault}
+use Rattle.bitfields_core.specs.declared.field.Field.{Field}
+use Rattle.bitfields_core.specs.declared.field.Field.TheVariants.{Unsigned, Signed, Unary, Variable, Lenient, SignedVariable, Bytes, Constant, Padding, Align}
+use Rattle.bitfields_core.specs.declared.field_value.FieldValue.{FieldValue}
+use Rattle.bitfields_core.specs.declared.field_value.FieldValue.TheVariants as Value
+use Rattle.bitfields_core.specs.Fault.{fault}
+use Rattle.bitfields_core.specs.Layout.{group_bits}
+use Rattle.bitfields_core.specs.Value.{value_list, printed_lines}
+
+-- what bits say for fields: the values of those that have one, and the place behind the last; or the first fault
+pub data Unpacked : Type 0 where
+  Unpacks : (vs : List FieldValue) (at : ℕ) → Unpacked
+  Stops : Fault → Unpacked
+
+-- values before those of the fields that follow
+abbrev pub values_and : List FieldValue → Unpacked → Unpacked
+values_and vs (Unpacks ws at) = Unpacks (vs ++ ws) at
+values_and vs (Stops f) = Stops f
+
+-- the reason for an error of a reader
+abbrev pub read_reason : Error → Reason
+read_reason errors.EndOfInput = BitsEnded
+read_reason errors.OutOfMemory = OutOfMemory
+read_reason errors.RunTooLong = LimitPassed
+read_reason errors.VariableWidthOverflow = LimitPassed
+read_reason errors.RedundantGroup = LimitPassed
+read_reason error = StreamFault
+
+-- an error of a reader, as the reason for it
+abbrev pub IsReadReason : Error → Reason → Type 0
+IsReadReason error why = why ≡ read_reason error
+
+-- the read call of a field, which answers the field's value, if it has one, or why its bits are wrong
+abbrev pub field_read : Order → Field → ReadEntry (Result (Option FieldValue) Reason)
+field_read o (Unsigned n) = chain (unsigned_entry o 128 n) (λ v. gives (Ok (Some (Value.Unsigned v))))
+field_read o (Signed n) = chain (signed_entry o 128 n) (λ x. gives (Ok (Some (Value.Signed x))))
+field_read o (Unary stop) = chain (unary_entry stop) (λ v. gives (Ok (Some (Value.Unsigned v))))
+field_read o (Variable size) = chain (vbr_entry o (group_bits size) 64 (2 ^ 64))
+    (λ v. gives (Ok (Some (Value.Unsigned v))))
+field_read o (Lenient size) = chain (any_vbr_entry o (group_bits size) 64 (2 ^ 64))
+    (λ v. gives (Ok (Some (Value.Unsigned v))))
+field_read o (SignedVariable size) = chain (signed_vbr_entry o (group_bits size) 64)
+    (λ x. gives (Ok (Some (Value.Signed x))))
+field_read o (Bytes n) = chain (bytes_entry o n) (λ bytes. gives (Ok (Some (Value.Bytes bytes))))
+field_read o (Constant n v) = chain (unsigned_entry o 32 n)
+    (λ u. gives (if u == v then Ok None else Err ConstantDiffers))
+field_read o (Padding n) = chain (skip_entry n) (λ _. gives (Ok None))
+field_read o Align = chain align_entry (λ _. gives (Ok None))
+
+-- the number of bytes that are read for a field, as bytes
+abbrev pub byte_count : Field → ℕ
+byte_count (Bytes n) = n
+byte_count field = 0
+
+-- whether memory is asked for before a field is read
+abbrev pub asks_memory : Field → Bool
+asks_memory (Bytes n) = true
+asks_memory field = false
+
+-- the read call of each field, in an order of bits
+abbrev pub FieldCalls : Type 0
+FieldCalls = Order → Field → ReadEntry (Result (Option FieldValue) Reason)
+
+-- what the answers of the fields' read calls come to; the fields are numbered from k on
+abbrev pub answered : ℕ → List Field → ℕ → List (Result (Result (Option FieldValue) Reason) Error × ℕ) → Unpacked
+answered k [] at answers = Unpacks [] at
+answered k (field ∷ fields) at [] = Stops (fault k BitsEnded)
+answered k (field ∷ fields) at ((Ok (Ok v), next) ∷ answers) =
+    values_and (value_list v) (answered (k + 1) fields next answers)
+answered k (field ∷ fields) at ((Ok (Err why), next) ∷ answers) = Stops (fault k why)
+answered k (field ∷ fields) at ((Err e, next) ∷ answers) = Stops (fault k (read_reason e))
+
+-- what the bits from a place on say for fields, which are numbered from k on, by the fields' read calls
+abbrev pub says_by : FieldCalls → Order → ℕ → List Field → ℕ → List Bool → Unpacked
+says_by calls o k fields at bits = answered k fields at (read_run (map (calls o) fields) at bits)
+
+-- what the bits from a place on say for fields, which are numbered from k on
+abbrev pub unpacked : Order → ℕ → List Field → ℕ → List Bool → Unpacked
+unpacked o k fields at bits = says_by field_read o k fields at bits
+
+-- ---- from a reader
+
+-- values before those that were read behind them, or the fault
+abbrev pub behind : List FieldValue → Result (List FieldValue) Fault → Result (List FieldValue) Fault
+behind vs (Ok ws) = Ok (vs ++ ws)
+behind vs (Err f) = Err f
+
+-- the read call of a field, which answers the field's value, if it has one, or the reason for an error
+abbrev pub ReadsField : {R : Type 0} → FieldCalls → BitSource R → Field → R → Result (Option FieldValue) Reason → R
+    → Type 0
+ReadsField calls K field old result new = ReadsOwn K IsReadReason (calls K.order field) old result new
+
+-- A field's value was read, and memory for it, or for its line, was refused.
+pub record LineRefused {R : Type 0} (calls : FieldCalls) (K : BitSource R) (k : ℕ) (field : Field) (old : R)
+    (result : Result (List FieldValue) Fault) (new : R) : Type 0 where
+  pub value : FieldValue
+  pub reads : ReadsField calls K field old (Ok (Some value)) new
+  pub answer : result ≡ Err (fault k OutOfMemory)
+
+-- Memory for a field's bytes was refused before they were read. The reader is as it was.
+pub record BufferRefused {R : Type 0} (k : ℕ) (field : Field) (old : R) (result : Result (List FieldValue) Fault)
+    (new : R) : Type 0 where
+  pub asks : asks_memory field ≡ true
+  pub same : new ≡ old
+  pub answer : result ≡ Err (fault k OutOfMemory)
+
+-- memory was refused for a field's value or line, or for its bytes
+abbrev pub MemoryRefused : {R : Type 0} → FieldCalls → BitSource R → ℕ → Field → R → Result (List FieldValue) Fault → R
+    → Type 0
+MemoryRefused calls K k field old result new =
+    LineRefused calls K k field old result new ⊎ BufferRefused k field old result new
+
+-- a field's read call answered a reason
+pub record AnswersReason {R : Type 0} (calls : FieldCalls) (K : BitSource R) (k : ℕ) (field : Field) (old : R)
+    (result : Result (List FieldValue) Fault) (new : R) : Type 0 where
+  pub why : Reason
+  pub reads : ReadsField calls K field old (Err why) new
+  pub answer : result ≡ Err (fault k why)
+
+-- The read calls of fields, which are numbered from k on, in order: the values that they answer, up to the first that
+-- answers a reason or for which memory was refused. Of no fields, nothing at all.
+unfoldable pub ReadsFields : {R : Type 0} → FieldCalls → BitSource R → ℕ → List Field → R
+    → Result (List FieldValue) Fault → R → Type 0
+ReadsFields calls K k [] old result new = (result ≡ Ok []) × (new ≡ old)
+ReadsFields {R} calls K k (field ∷ fields) old result new =
+    MemoryRefused calls K k field old result new ⊎ AnswersReason calls K k field old result new
+    ⊎ ((v : Option FieldValue) × (mid : R) × (rest : Result (List FieldValue) Fault)
+    × ReadsField calls K field old (Ok v) mid × ReadsFields calls K (k + 1) fields mid rest new
+    × (result ≡ behind (value_list v) rest))
+
+-- the lines of values, or the fault
+abbrev pub in_lines : Result (List FieldValue) Fault → Result (List ℕ) Fault
+in_lines (Ok vs) = Ok (printed_lines vs)
+in_lines (Err f) = Err f
+
+-- the read calls of fields, and the lines of their values
+pub record ReadsLines {R : Type 0} (K : BitSource R) (fields : List Field) (old : R)
+    (result : Result (List ℕ) Fault) (new : R) : Type 0 where
+  pub answer : Result (List FieldValue) Fault
+  pub reads : ReadsFields field_read K 1 fields old answer new
+  pub prints : result ≡ in_lines answer
+
+-- ---- from a stream
+
+-- these bytes were taken from a stream, of which a number of bits reaches into the last
+pub record TakesLeastBytes (known : Option (List ℕ)) (gone : List ℕ) (len : ℕ) (after : Option (List ℕ)) : Type 0 where
+  pub loses : Consumes known after gone
+  pub least : (8 * length gone < len + 8) × (len ≤ 8 * length gone)
+
+-- A stream lost as many bytes as the fields' bits reach into; these say the values, whatever follows them.
+pub record SaidValues (calls : FieldCalls) (o : Order) (fields : List Field) (old : Option (List ℕ))
+    (values : List FieldValue) (new : Option (List ℕ)) : Type 0 where
+  pub gone : List ℕ
+  pub len : ℕ
+  pub taken : TakesLeastBytes old gone len new
+  pub says : (more : List Bool) → says_by calls o 1 fields 0 (bits o gone ++ more) ≡ Unpacks values len
+
+-- A stream lost as many bytes as the fields' bits reach into; these say the values whose lines are printed, whatever
+-- follows them.
+pub record UnpackedBytes (o : Order) (fields : List Field) (old : Option (List ℕ)) (text : List ℕ)
+    (new : Option (List ℕ)) : Type 0 where
+  pub gone : List ℕ
+  pub len : ℕ
+  pub taken : TakesLeastBytes old gone len new
+  pub values : List FieldValue
+  pub says : (more : List Bool) → unpacked o 1 fields 0 (bits o gone ++ more) ≡ Unpacks values len
+  pub prints : text ≡ printed_lines values
+
+-- The bytes taken say the fault.
+pub record ToldBytes (calls : FieldCalls) (o : Order) (fields : List Field) (old : Option (List ℕ)) (f : Fault)
+    (new : Option (List ℕ)) : Type 0 where
+  pub gone : List ℕ
+  pub len : ℕ
+  pub taken : TakesLeastBytes old gone len new
+  pub says : (more : List Bool) → says_by calls o 1 fields 0 (bits o gone ++ more) ≡ Stops f
+
+-- Memory for the value of a field, or for its line, was refused. The bytes taken hold that field's bits and those of
+-- the fields before it, and no more.
+pub record LineRefusedBytes (calls : FieldCalls) (o : Order) (fields : List Field) (old : Option (List ℕ)) (f : Fault)
+    (new : Option (List ℕ)) : Type 0 where
+  pub front : List Field
+  pub here : Field
+  pub back : List Field
+  pub parts : fields ≡ front ++ here ∷ back
+  pub reason : f ≡ fault (1 + length front) OutOfMemory
+  pub gone : List ℕ
+  pub len : ℕ
+  pub taken : TakesLeastBytes old gone len new
+  pub values : List FieldValue
+  pub at : ℕ
+  pub before : says_by calls o 1 front 0 (bits o gone) ≡ Unpacks values at
+  pub value : FieldValue
+  pub says : says_by calls o 1 (front ++ here ∷ []) 0 (bits o gone) ≡ Unpacks (values ++ value ∷ []) len
+
+-- Memory for the bytes of a field was refused. The bytes taken hold the bits of the fields before it, and no more.
+pub record BufferRefusedBytes (calls : FieldCalls) (o : Order) (fields : List Field) (old : Option (List ℕ)) (f : Fault)
+    (new : Option (List ℕ)) : Type 0 where
+  pub front : List Field
+  pub here : Field
+  pub back : List Field
+  pub parts : fields ≡ front ++ here ∷ back
+  pub asks : asks_memory here ≡ true
+  pub reason : f ≡ fault (1 + length front) OutOfMemory
+  pub gone : List ℕ
+  pub len : ℕ
+  pub taken : TakesLeastBytes old gone len new
+  pub values : List FieldValue
+  pub before : says_by calls o 1 front 0 (bits o gone) ≡ Unpacks values len
+
+-- memory was refused for the value or the line of a field, or for its bytes
+abbrev pub MemoryRefusedBytes : FieldCalls → Order → List Field → Option (List ℕ) → Fault → Option (List ℕ) → Type 0
+MemoryRefusedBytes calls o fields old f new =
+    LineRefusedBytes calls o fields old f new ⊎ BufferRefusedBytes calls o fields old f new
+
+-- The stream refused a request for a field, as it may refuse. The bytes taken before end within that field, and the
+-- stream is as the refusal left it. If that was a true end, all bytes of the stream end within that field.
+pub record UnpackingRefused (calls : FieldCalls) (may : Refusal → Type 0) (o : Order) (fields : List Field)
+    (old : Option (List ℕ)) (f : Fault) (new : Option (List ℕ)) : Type 0 where
+  pub field : ℕ
+  pub refusal : Refusal
+  pub allowed : may refusal
+  pub reason : f ≡ fault field (read_reason (read_refusal_of refusal.kind))
+  pub gone : List ℕ
+  pub loses : Consumes old refusal.before gone
+  pub after : new ≡ refusal.after
+  pub stops : says_by calls o 1 fields 0 (bits o gone) ≡ Stops (fault field BitsEnded)
+  pub ended : IsTrueEnd refusal → (xs : List ℕ) → old ≡ Some xs → says_by calls o 1 fields 0 (bits o xs) ≡ Stops f
+
+-- why fields are not read from a stream's bytes: the bytes say it, or memory or a request was refused
+abbrev pub FieldsFault : FieldCalls → (Refusal → Type 0) → Order → List Field → Option (List ℕ) → Fault
+    → Option (List ℕ) → Type 0
+FieldsFault calls may o fields old f new =
+    ToldBytes calls o fields old f new ⊎ MemoryRefusedBytes calls o fields old f new
+    ⊎ UnpackingRefused calls may o fields old f new
+
+-- fields, read from a stream's bytes: the lines of their values, or the fault
+abbrev pub UnpacksBytes : {R : Type 0} → (R → Option (List ℕ)) → (Refusal → Type 0) → Order → List Field → R
+    → Result (List ℕ) Fault → R → Type 0
+UnpacksBytes known may o fields old (Ok text) new = UnpackedBytes o fields (known old) text (known new)
+UnpacksBytes known may o fields old (Err f) new = FieldsFault field_read may o fields (known old) f (known new)
+
+-- all bytes of a stream say the values whose lines are printed
+pub record SaidBytes (o : Order) (fields : List Field) (xs text : List ℕ) : Type 0 where
+  pub values : List FieldValue
+  pub len : ℕ
+  pub says : unpacked o 1 fields 0 (bits o xs) ≡ Unpacks values len
+  pub prints : text ≡ printed_lines values
+
+-- the lines or the fault that all bytes of a stream say, refused memory aside
+abbrev pub IsSaid : Order → List Field → List ℕ → Result (List ℕ) Fault → Type 0
+IsSaid o fields xs (Ok text) = SaidBytes o fields xs text
+IsSaid o fields xs (Err f) = (f.reason ≡ OutOfMemory) ⊎ (unpacked o 1 fields 0 (bits o xs) ≡ Stops f)

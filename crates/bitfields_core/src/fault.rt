@@ -1,0 +1,141 @@
+//! Why a call fails, and how that is printed.
+
+ghost use Rattle.std.specs.Prelude.{◌≡◌};
+ghost use Rattle.bitfields_core.specs.Fault.{fault, reason_status, reason_text};
+ghost use Rattle.bitfields_core.specs.declared.fault.Reason.TheVariants.{OutOfMemory};
+
+use std::alloc::{AllocError, AllocFailed};
+use std::io;
+use std::io::ErrorKind;
+
+/// Why a call fails.
+#[derive(Clone, Copy, Debug, PartialEq, Eq, Drop)]
+pub enum Reason {
+    /// There are not three arguments, or they do not name a command and an order of bits.
+    BadArguments,
+    /// A layout has more than 256 segments between commas.
+    TooManyFields,
+    /// A segment of a layout spells no field.
+    BadLayout,
+    /// The input has no line for a value.
+    ValueMissing,
+    /// A line spells no value of the field's kind.
+    ValueMisspelt,
+    /// A line spells a value that is out of the field's range.
+    ValueDoesNotFit,
+    /// Lines remain after the last value.
+    ValueLeftOver,
+    /// The bits end within a field.
+    BitsEnded,
+    /// A constant's bits have another value.
+    ConstantDiffers,
+    /// A variable-width word or a unary run passes its limit.
+    LimitPassed,
+    /// Bits of a padding or an alignment are not all 0. Only packed bytes that are repacked are
+    /// asked for that.
+    PaddingNotZero,
+    /// A byte stands behind the last field's. Only packed bytes that are repacked may not have one.
+    BytesLeftOver,
+    /// A stream refused a request.
+    StreamFault,
+    /// Memory was refused.
+    OutOfMemory,
+}
+
+/// How a call fails: the program's status, the field (counted from 1, or 0 if none is named), and
+/// the reason.
+#[derive(Clone, Copy, Debug, PartialEq, Eq, Drop)]
+pub struct Fault {
+    pub status: u8,
+    pub field: usize,
+    pub reason: Reason,
+}
+
+impl Fault {
+    /// Returns the fault of a field (0 if none is named), with the status of its reason.
+    pub fn new(field: usize, reason: Reason) -> Fault
+        ensures { result ≡ fault field reason }
+    {
+        Fault {
+            status: reason.status(),
+            field,
+            reason,
+        }
+    }
+}
+
+/// A stream's refusal, which names no field: `OutOfMemory` if that is its kind, else `StreamFault`.
+impl From<io::Error> for Fault {
+    ghost use Rattle.std.specs.IoError.{error_kind};
+    ghost use Rattle.bitfields_core.specs.Fault.{refusal_reason};
+
+    ghost from_gives = { λ e f. f ≡ fault 0 (refusal_reason (error_kind e)) };
+
+    fn from(error: io::Error) -> Fault {
+        match error.kind() {
+            ErrorKind::OutOfMemory => Fault::new(0, Reason::OutOfMemory),
+            _ => Fault::new(0, Reason::StreamFault),
+        }
+    }
+}
+
+/// Refused memory, which names no field: `OutOfMemory`.
+impl From<AllocError> for Fault {
+    ghost from_gives = { λ _ f. f ≡ fault 0 OutOfMemory };
+
+    fn from(_refused: AllocError) -> Fault {
+        Fault::new(0, Reason::OutOfMemory)
+    }
+}
+
+/// As for an [`AllocError`].
+impl<T: Drop> From<AllocFailed<T>> for Fault {
+    ghost from_gives = { λ _ f. f ≡ fault 0 OutOfMemory };
+
+    fn from(_refused: AllocFailed<T>) -> Fault {
+        Fault::new(0, Reason::OutOfMemory)
+    }
+}
+
+impl Reason {
+    /// Returns the status that a program ends with for this reason.
+    pub fn status(self) -> u8
+        ensures { result ≡ reason_status self }
+    {
+        match self {
+            Reason::BadArguments | Reason::TooManyFields | Reason::BadLayout => 2,
+            Reason::ValueMissing
+            | Reason::ValueMisspelt
+            | Reason::ValueDoesNotFit
+            | Reason::ValueLeftOver => 3,
+            Reason::BitsEnded
+            | Reason::ConstantDiffers
+            | Reason::LimitPassed
+            | Reason::PaddingNotZero
+            | Reason::BytesLeftOver => 4,
+            Reason::StreamFault | Reason::OutOfMemory => 5,
+        }
+    }
+
+    /// Returns the text that is printed for this reason.
+    pub fn text(self) -> &'static str
+        ensures { result.now ≡ reason_text self }
+    {
+        match self {
+            Reason::BadArguments => "bad arguments",
+            Reason::TooManyFields => "too many fields",
+            Reason::BadLayout => "bad layout",
+            Reason::ValueMissing => "value missing",
+            Reason::ValueMisspelt => "value misspelt",
+            Reason::ValueDoesNotFit => "value does not fit",
+            Reason::ValueLeftOver => "value left over",
+            Reason::BitsEnded => "bits ended",
+            Reason::ConstantDiffers => "constant differs",
+            Reason::LimitPassed => "limit passed",
+            Reason::PaddingNotZero => "padding not zero",
+            Reason::BytesLeftOver => "bytes left over",
+            Reason::StreamFault => "stream fault",
+            Reason::OutOfMemory => "out of memory",
+        }
+    }
+}

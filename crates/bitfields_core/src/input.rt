@@ -1,0 +1,37 @@
+//! Inputs that are read to their end.
+ghost use Rattle.std.specs.Prelude.{ℕ, IfErr, IfOk};
+ghost use Rattle.std.specs.IoError.{error_kind};
+ghost use Rattle.std.specs.declared.io.ErrorKind.{ErrorKind};
+ghost use Rattle.bitfields_core.specs.Streams.{ReadToEnd};
+
+use bitstream_io::Source;
+use std::alloc::Global;
+use std::io;
+use std::io::Read;
+
+/// An input that can be read to its end: any `Read`.
+pub trait Input: Source {
+    // How it may refuse to be read to its end, and with which kind. Of a `Read` std tells nothing.
+    ghost refuses_rest: { Self → ErrorKind → Self → Type 0 };
+
+    /// Reads all bytes that are left.
+    ///
+    /// # Errors
+    ///
+    /// The input's own, as [`Read::read_to_end`] has them: of kind `OutOfMemory` too if memory for
+    /// the bytes is refused. The bytes that came before are lost then.
+    fn read_rest(&mut self, alloc: Global) -> io::Result<Vec<u8>>
+        ensures bytes { IfOk result (λ bytes. ReadToEnd (Self.remaining self.old) bytes.items
+            (Self.remaining self.new)) }
+        ensures refused { IfErr result (λ e. refuses_rest self.old (error_kind e) self.new) };
+}
+
+impl<R: Read> Input for R {
+    ghost refuses_rest = { λ _ _ _. Unit {0} };
+
+    fn read_rest(&mut self, alloc: Global) -> io::Result<Vec<u8>> {
+        let mut bytes = Vec::new(alloc);
+        Read::read_to_end(self, &mut bytes)?;
+        Ok(bytes)
+    }
+}

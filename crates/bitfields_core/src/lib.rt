@@ -1,0 +1,35 @@
+//! Layouts of bit fields, and what they mean: packs decimal values into bit fields, counts their
+//! bits, unpacks bit fields into decimal values, and repacks them.
+//!
+//! [`parse_layout`] gives the [`Layout`] that a text spells. [`pack`], [`unpack`],
+//! [`size`](size::size) and [`repack`] do what a layout means, in either order of bits.
+//! [`run`](run::run) is a whole call of the program `bitfields`, over its words and its streams, and
+//! [`report`](run::report) prints why a call failed, which is a [`Fault`]. The [`laws`] are those of
+//! layouts and values, whatever parses or packs them.
+#![tactic(auto)]
+
+mod decimal;
+mod exact;
+mod fault;
+mod fault_line;
+mod field;
+mod field_value;
+mod input;
+pub mod laws;
+mod layout;
+mod lines;
+mod packing;
+mod repacking;
+pub mod run;
+pub mod size;
+mod unpacking;
+mod value;
+
+pub use fault::{Fault, Reason};
+pub use field::{Field, GroupSize};
+pub use field_value::FieldValue;
+pub use input::Input;
+pub use layout::{Layout, parse_layout};
+pub use packing::pack;
+pub use repacking::repack;
+pub use unpacking::unpack;

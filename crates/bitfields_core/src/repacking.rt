@@ -1,0 +1,82 @@
+//! Repacking: packed bytes, read and packed again.
+
+ghost use Rattle.std.specs.Prelude.{◌≡◌, ℕ, List, Some, IfOk};
+ghost use Rattle.bitstream_io.specs.Gather.{seen};
+ghost use Rattle.bitstream_io.specs.Refusal.{MayRefuse, TrueEnds};
+ghost use Rattle.bitfields_core.specs.Layout.{IsLayout};
+ghost use Rattle.bitfields_core.specs.Repacking.{Ends, IsRepacked, ReadsPackedBytes, Repacks};
+ghost use Rattle.bitfields_core.specs.Value.{Fit};
+
+use crate::exact::read_packed_from;
+use crate::fault::{Fault, Reason};
+use crate::field_value::FieldValue;
+use crate::layout::Layout;
+use crate::packing::pack_values;
+use bitstream_io::{BitReader, Endianness, Lent, Source, Target};
+use std::alloc::Global;
+use std::io::ErrorKind;
+
+/// Reads packed bytes to their end and packs their values again. If no field is `l4` or `l8`, the
+/// same bytes are written, and they are bytes that [`pack`](crate::packing::pack) writes. Nothing is
+/// written before all checks have passed.
+///
+/// # Errors
+///
+/// Those of [`unpack`](crate::unpacking::unpack), and `PaddingNotZero` at the first field `pN` or
+/// `a` whose bits are not all 0 (field 0 for those behind the last field). Then `BytesLeftOver` (field
+/// 0) if there is a byte behind the last field's, or `StreamFault` or `OutOfMemory` (field 0) as the
+/// input refuses the request for that byte. The output is as it was then. Else `StreamFault` or
+/// `OutOfMemory` (field 0), as the output refuses.
+pub fn repack<E: Endianness, R: Source, W: Target>(
+    alloc: Global,
+    layout: &Layout,
+    input: &mut R,
+    output: &mut W,
+) -> Result<(), Fault>
+    ensures repacks { Repacks R.remaining R.refuses W.contents (MayRefuse W.contents W.refuses)
+        E.order layout.now input.old output.old result input.new output.new }
+    ensures repacked { TrueEnds (MayRefuse R.remaining R.refuses) → (xs : List ℕ)
+        → R.remaining input.old ≡ Some xs → IsRepacked E.order layout.now xs result }
+{
+    let values = read_packed::<E, R>(alloc, layout, input)?;
+    expect_end(input)?;
+    pack_values::<E, W>(layout, &values, output)
+}
+
+/// Reads packed fields and a last alignment from the first byte of a stream on. Returns the values.
+///
+/// # Errors
+///
+/// As [`repack`] has them, up to the last alignment.
+fn read_packed<E: Endianness, R: Source>(
+    alloc: Global,
+    layout: &Layout,
+    input: &mut R,
+) -> Result<Vec<FieldValue>, Fault>
+    ensures reads { ReadsPackedBytes R.remaining (MayRefuse R.remaining R.refuses) E.order layout.now
+        input.old (seen (λ v. v.items) result) input.new }
+    ensures fit { IfOk result (λ v. Fit layout.now v.items) }
+    ensures is_layout { IsLayout layout.now }
+{
+    let mut reader = BitReader::<Lent<R>, E>::new(Lent::new(input));
+    read_packed_from(alloc, layout.fields(), &mut reader)
+}
+
+/// Asks for one byte more, which must not be there.
+///
+/// # Errors
+///
+/// `BytesLeftOver` (field 0) if there is one. `StreamFault` or `OutOfMemory` (field 0), as the stream
+/// refuses the request, unless it refuses it as its end.
+fn expect_end<R: Source>(input: &mut R) -> Result<(), Fault>
+    ensures { Ends R.remaining R.refuses input.old result input.new }
+{
+    let mut byte = [0];
+    match input.read_exact(&mut byte) {
+        Ok(()) => Err(Fault::new(0, Reason::BytesLeftOver)),
+        Err(error) => match error.kind() {
+            ErrorKind::UnexpectedEof => Ok(()),
+            _ => Err(Fault::from(error)),
+        },
+    }
+}

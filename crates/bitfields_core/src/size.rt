@@ -1,0 +1,28 @@
+//! Sizes: how many bits the values of an input take.
+
+ghost use Rattle.bitfields_core.specs.Size.{Sizes};
+ghost use Rattle.bitfields_core.specs.Value.{lines as lines_of, values as values_of};
+
+use crate::fault::Fault;
+use crate::layout::Layout;
+use crate::packing::append_fields;
+use crate::value::values;
+use bitstream_io::BitsWritten;
+use std::alloc::Global;
+
+/// Returns the number of bits of the values that an input spells for a layout: those of the fields'
+/// words, without the last alignment. It is the same in both orders of bits. Nothing is written.
+///
+/// # Errors
+///
+/// Those of [`values`].
+pub fn size(alloc: Global, layout: &Layout, input: &[u8]) -> Result<u64, Fault>
+    ensures { Sizes layout.now (values_of 1 layout.now (lines_of input.now)) result }
+{
+    let values = values(alloc, layout, input)?;
+    let mut counter = BitsWritten::<u64>::new();
+    match append_fields(layout.fields(), &values, &mut counter) {
+        Ok(()) => Ok(counter.into_written()),
+        Err(_past) => unreachable!(),
+    }
+}
