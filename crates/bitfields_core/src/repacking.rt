@@ -17,12 +17,12 @@ use std::alloc::Global;
 use std::io::ErrorKind;
 
 /// Reads packed bytes to their end and packs their values again. If no field is `l4` or `l8`, the
-/// same bytes are written, and they are bytes that [`pack`](crate::packing::pack) writes. Nothing is
+/// same bytes are written, and they are bytes that [`pack`](crate::pack) writes. Nothing is
 /// written before all checks have passed.
 ///
 /// # Errors
 ///
-/// Those of [`unpack`](crate::unpacking::unpack), and `PaddingNotZero` at the first field `pN` or
+/// Those of [`unpack`](crate::unpack), and `PaddingNotZero` at the first field `pN` or
 /// `a` whose bits are not all 0 (field 0 for those behind the last field). Then `BytesLeftOver` (field
 /// 0) if there is a byte behind the last field's, or `StreamFault` or `OutOfMemory` (field 0) as the
 /// input refuses the request for that byte. The output is as it was then. Else `StreamFault` or

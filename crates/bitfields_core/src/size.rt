@@ -15,7 +15,7 @@ use std::alloc::Global;
 ///
 /// # Errors
 ///
-/// Those of [`values`].
+/// Those of [`pack`](crate::pack), before it writes.
 pub fn size(alloc: Global, layout: &Layout, input: &[u8]) -> Result<u64, Fault>
     ensures { Sizes layout.now (values_of 1 layout.now (lines_of input.now)) result }
 {

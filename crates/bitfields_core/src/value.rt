@@ -18,9 +18,7 @@ use std::alloc::Global;
 ///
 /// # Errors
 ///
-/// At the first value field with a fault: `ValueMissing` if its line is missing, `ValueMisspelt` if
-/// the line spells no value of the field's kind, `ValueDoesNotFit` if the number needs more bits. Else `ValueLeftOver`
-/// (field 0) if lines remain, or `OutOfMemory` (field 0).
+/// Those of [`pack`](crate::pack), before it writes.
 pub fn values(alloc: Global, layout: &Layout, input: &[u8]) -> Result<Vec<FieldValue>, Fault>
     ensures values { IsUnlessMemory (values_of 1 layout.now (lines_of input.now))
         (seen (λ v. v.items) result) }
