@@ -1,11 +1,6 @@
 -- The header of an ADTS frame.
 use Rattle.std.specs.Prelude.{◌≡◌, ◌^◌, ◌<◌, ℕ, Bool, List, [], ◌∷◌, Result, Ok, Err, if◌then◌else◌, take, drop}
-use Rattle.bitstream_io.specs.Entry.{ReadEntry, WriteEntry, gives}
-use Rattle.bitstream_io.specs.Error.{Error}
-use Rattle.bitstream_io.specs.ReadTable.{bit_entry, const_entry, first_bit, unsigned_entry}
-use Rattle.bitstream_io.specs.Steps.{◌>>=◌}
-use Rattle.bitstream_io.specs.Word.{Order, word}
-use Rattle.bitstream_io.specs.WriteTable.{bit, plain, unsigned}
+use Rattle.bitstream_io.specs.Callers.{ReadEntry, WriteEntry, gives, Error, bit_entry, const_entry, first_bit, unsigned_entry, ◌>>=◌, Order, word, bit, plain, unsigned}
 use Rattle.bitstream_callers.specs.StreamInfo.{number_at}
 use Rattle.bitstream_callers.specs.declared.adts.AdtsError.{AdtsError}
 use Rattle.bitstream_callers.specs.declared.adts.AdtsError.TheVariants.{Reader, NoSync, UnknownLayer}

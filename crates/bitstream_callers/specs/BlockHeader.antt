@@ -1,10 +1,6 @@
 -- The header of a FLAC file's block.
 use Rattle.std.specs.Prelude.{List, [], ◌∷◌}
-use Rattle.bitstream_io.specs.Entry.{ReadEntry, WriteEntry, gives}
-use Rattle.bitstream_io.specs.ReadTable.{bit_entry, unsigned_entry}
-use Rattle.bitstream_io.specs.Steps.{◌>>=◌}
-use Rattle.bitstream_io.specs.Word.{Order}
-use Rattle.bitstream_io.specs.WriteTable.{bit, unsigned}
+use Rattle.bitstream_io.specs.Callers.{ReadEntry, WriteEntry, gives, bit_entry, unsigned_entry, ◌>>=◌, Order, bit, unsigned}
 use Rattle.bitstream_callers.specs.declared.block_header.BlockHeader.{BlockHeader}
 
 -- the reads of a header, in order

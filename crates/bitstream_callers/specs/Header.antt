@@ -1,10 +1,6 @@
 -- The header of a protocol's packets.
 use Rattle.std.specs.Prelude.{◌^◌, ◌<◌, List, [], ◌∷◌}
-use Rattle.bitstream_io.specs.Entry.{ReadEntry, WriteEntry, gives}
-use Rattle.bitstream_io.specs.ReadTable.{bit_entry, signed_entry, unsigned_entry}
-use Rattle.bitstream_io.specs.Steps.{◌>>=◌}
-use Rattle.bitstream_io.specs.Word.{Order, FitsSignedBits}
-use Rattle.bitstream_io.specs.WriteTable.{bit, signed, unsigned}
+use Rattle.bitstream_io.specs.Callers.{ReadEntry, WriteEntry, gives, bit_entry, signed_entry, unsigned_entry, ◌>>=◌, Order, FitsSignedBits, bit, signed, unsigned}
 use Rattle.bitstream_callers.specs.declared.header.Header.{Header}
 
 -- the reads of a header, in order

@@ -3,9 +3,8 @@ use Rattle.std.specs.Prelude.{◌≡◌, ℕ, ◌==◌, if◌then◌else◌, Lis
 use Rattle.bitstream_io.specs.ByteReads.{ByteReadEntry}
 use Rattle.bitstream_io.specs.ByteSteps.{◌>>=◌, number_bytes}
 use Rattle.bitstream_io.specs.ByteTypes.{byte_gives}
-use Rattle.bitstream_io.specs.Error.{Error}
+use Rattle.bitstream_io.specs.Callers.{Error, Order, High, Low, bytes}
 use Rattle.bitstream_io.specs.Parts.{value_bytes}
-use Rattle.bitstream_io.specs.Word.{Order, High, Low, bytes}
 use Rattle.bitstream_callers.specs.declared.packet_header.PacketError.{PacketError}
 use Rattle.bitstream_callers.specs.declared.packet_header.PacketError.TheVariants.{Stream, UnsupportedVersion}
 use Rattle.bitstream_callers.specs.declared.packet_header.PacketHeader.{PacketHeader}

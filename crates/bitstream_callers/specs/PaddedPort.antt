@@ -3,9 +3,8 @@ use Rattle.std.specs.Prelude.{ℕ, List, [], ◌∷◌, replicate, Result, Ok}
 use Rattle.bitstream_io.specs.ByteReads.{ByteReadEntry, skipped_bytes}
 use Rattle.bitstream_io.specs.ByteSteps.{◌>>=◌, number_bytes}
 use Rattle.bitstream_io.specs.ByteTypes.{byte_gives}
-use Rattle.bitstream_io.specs.Error.{Error}
+use Rattle.bitstream_io.specs.Callers.{Error, Order, High, Low, bytes}
 use Rattle.bitstream_io.specs.Parts.{value_bytes}
-use Rattle.bitstream_io.specs.Word.{Order, High, Low, bytes}
 use Rattle.bitstream_callers.specs.declared.padded_port.PaddedPort.{PaddedPort}
 
 -- the bytes of the port's number in the order of bytes, and then zeros

@@ -1,11 +1,6 @@
 -- A sensor's reading, in a width that the context says.
 use Rattle.std.specs.Prelude.{◌≡◌, ℕ, true, if◌then◌else◌, List, [], ◌∷◌, Result, Ok, Err}
-use Rattle.bitstream_io.specs.Entry.{ReadEntry, WriteEntry, gives}
-use Rattle.bitstream_io.specs.Error.{Error}
-use Rattle.bitstream_io.specs.ReadTable.{bit_entry, unsigned_entry}
-use Rattle.bitstream_io.specs.Steps.{◌>>=◌}
-use Rattle.bitstream_io.specs.Word.{Order}
-use Rattle.bitstream_io.specs.WriteTable.{bit, unsigned}
+use Rattle.bitstream_io.specs.Callers.{ReadEntry, WriteEntry, gives, Error, bit_entry, unsigned_entry, ◌>>=◌, Order, bit, unsigned}
 use Rattle.bitstream_callers.specs.declared.reading.Reading.{Reading}
 use Rattle.bitstream_callers.specs.declared.reading.ReadingError.{ReadingError}
 use Rattle.bitstream_callers.specs.declared.reading.ReadingError.TheVariants.{Reader, Missing}

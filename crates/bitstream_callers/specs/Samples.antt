@@ -1,12 +1,7 @@
 -- Samples of 12 bits.
 use Rattle.std.specs.Prelude.{◌≤◌, ℕ, Bool, List, [], ◌∷◌, Ok, map}
 use Rattle.std.specs.List.{flat_map}
-use Rattle.bitstream_io.specs.Array.{items_entry, words}
-use Rattle.bitstream_io.specs.Entry.{ReadEntry, WriteEntry}
-use Rattle.bitstream_io.specs.ReadTable.{unsigned_entry}
-use Rattle.bitstream_io.specs.Reads.{BitSource, Reads}
-use Rattle.bitstream_io.specs.Word.{Order, High, number}
-use Rattle.bitstream_io.specs.WriteTable.{unsigned}
+use Rattle.bitstream_io.specs.Callers.{items_entry, words, ReadEntry, WriteEntry, unsigned_entry, BitSource, Reads, Order, High, number, unsigned}
 
 -- the given number of samples, one after another
 abbrev pub samples_entry : Order → ℕ → ReadEntry (List ℕ)

@@ -1,11 +1,6 @@
 -- A measurement of a wheel's sensor.
 use Rattle.std.specs.Prelude.{◌^◌, ◌<◌, ◌++◌, Bool, true, false, List, [], ◌∷◌}
-use Rattle.bitstream_io.specs.Entry.{ReadEntry, WriteEntry, gives}
-use Rattle.bitstream_io.specs.ReadTable.{signed_vbr_entry, unary_entry, vbr_entry}
-use Rattle.bitstream_io.specs.Steps.{◌>>=◌}
-use Rattle.bitstream_io.specs.Tree.{Tree, leaf, node, bit_by_bit, path_entry}
-use Rattle.bitstream_io.specs.Word.{Order, FitsSignedBits}
-use Rattle.bitstream_io.specs.WriteTable.{signed_vbr, unary_word, vbr}
+use Rattle.bitstream_io.specs.Callers.{ReadEntry, WriteEntry, gives, signed_vbr_entry, unary_entry, vbr_entry, ◌>>=◌, Tree, bit_by_bit, path_entry, Order, FitsSignedBits, signed_vbr, unary_word, vbr, leaf, node}
 use Rattle.bitstream_callers.specs.declared.sensor.Measurement.{Measurement}
 use Rattle.bitstream_callers.specs.declared.sensor.State.{State}
 use Rattle.bitstream_callers.specs.declared.sensor.State.TheVariants.{Idle, Forward, Backward, Braking}

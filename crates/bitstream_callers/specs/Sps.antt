@@ -1,10 +1,6 @@
 -- The beginning of a sequence parameter set.
 use Rattle.std.specs.Prelude.{◌≡◌, ℕ, ◌+◌, ◌==◌, Result, Ok, Err, if◌then◌else◌}
-use Rattle.bitstream_io.specs.Entry.{ReadEntry, gives}
-use Rattle.bitstream_io.specs.Error.{Error}
-use Rattle.bitstream_io.specs.ReadTable.{bit_entry, const_entry, unsigned_entry}
-use Rattle.bitstream_io.specs.Steps.{◌>>=◌}
-use Rattle.bitstream_io.specs.Word.{Order}
+use Rattle.bitstream_io.specs.Callers.{ReadEntry, gives, Error, bit_entry, const_entry, unsigned_entry, ◌>>=◌, Order}
 use Rattle.bitstream_callers.specs.Golomb.{ue_entry}
 use Rattle.bitstream_callers.specs.declared.sps.Sps.{Sps}
 use Rattle.bitstream_callers.specs.declared.sps.SpsError.{SpsError}

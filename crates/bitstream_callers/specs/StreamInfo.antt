@@ -1,14 +1,8 @@
 -- The STREAMINFO block of a FLAC file.
 use Rattle.std.specs.Int.NonZero.{non_zero_u8_get}
 use Rattle.std.specs.Prelude.{ℕ, Bool, List, [], ◌∷◌, ◌++◌, take, drop}
-use Rattle.bitstream_io.specs.Entry.{ReadEntry, WriteEntry, gives}
-use Rattle.bitstream_io.specs.NonZero.{non_zero}
-use Rattle.bitstream_io.specs.NonZeroTypes.{non_zero_u8, non_zero_u8_entry}
+use Rattle.bitstream_io.specs.Callers.{ReadEntry, WriteEntry, gives, non_zero, non_zero_u8, non_zero_u8_entry, bytes_entry, unsigned_entry, ◌>>=◌, Order, High, Low, number, buffer, unsigned, bytes}
 use Rattle.bitstream_io.specs.Parts.{value_bytes}
-use Rattle.bitstream_io.specs.ReadTable.{bytes_entry, unsigned_entry}
-use Rattle.bitstream_io.specs.Steps.{◌>>=◌}
-use Rattle.bitstream_io.specs.Word.{Order, High, Low, bytes, number}
-use Rattle.bitstream_io.specs.WriteTable.{buffer, unsigned}
 use Rattle.bitstream_callers.specs.declared.stream_info.StreamInfo.{StreamInfo}
 use Rattle.bitstream_callers.specs.declared.stream_info.StreamInfoBlock.{StreamInfoBlock}
 

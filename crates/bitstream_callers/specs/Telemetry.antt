@@ -1,9 +1,6 @@
 -- One packed sample of a vehicle's telemetry.
 use Rattle.std.specs.Prelude.{Bool, List, [], ◌∷◌, ◌++◌, length}
-use Rattle.bitstream_io.specs.Entry.{WriteEntry}
-use Rattle.bitstream_io.specs.Run.{write_run}
-use Rattle.bitstream_io.specs.Word.{Order, High}
-use Rattle.bitstream_io.specs.WriteTable.{align, bit, signed, unsigned}
+use Rattle.bitstream_io.specs.Callers.{WriteEntry, write_run, Order, High, align, bit, signed, unsigned}
 use Rattle.bitstream_callers.specs.declared.telemetry.Sample.{Sample}
 
 -- the writes of a sample, in order

@@ -1,15 +1,10 @@
 //! The header of an ADTS frame of AAC, both ways, with errors of its own.
 ghost use Rattle.std.specs.Prelude.{◌≡◌, ◌≢◌, ◌<◌, ◌≤◌, ◌++◌, ℕ, Bool, List, length, Ok, Err};
-ghost use Rattle.bitstream_io.specs.Entry.{Takes};
-ghost use Rattle.bitstream_io.specs.Error.TheVariants.{EndOfInput};
-ghost use Rattle.bitstream_io.specs.Own.{ReadsOwn};
-ghost use Rattle.bitstream_io.specs.Run.{write_run};
-ghost use Rattle.bitstream_io.specs.Sink.{WritesAll};
-ghost use Rattle.bitstream_io.specs.Word.{Order, High, bits};
+ghost use Rattle.bitstream_io.specs.Callers.{Takes, EndOfInput, ReadsOwn, write_run, WritesAll, Order, High, bits};
 ghost use Rattle.bitstream_callers.specs.declared.adts.AdtsHeader.{AdtsHeader};
 ghost use Rattle.bitstream_callers.specs.Adts.{becomes_adts, adts_entry, adts_header, adts_writes, Fits, layer, syncword};
 
-use bitstream_io::{BE, BitRead, BitReadExt, BitReader, BitWrite, BitWriteExt, Bits, Error, Slice};
+use bitstream_io::{BE, BitRead, BitReadExt, BitReader, BitWrite, BitWriteExt, Bits, Error};
 
 /// What stands before a frame, behind the syncword and without the layer, which is 0.
 #[derive(Clone, Copy, Debug, PartialEq)]
@@ -110,7 +105,7 @@ impl AdtsHeader {
         ensures shorter { length frame.now < 2
             → result ≡ Err (AdtsError.Reader EndOfInput) }
     {
-        AdtsHeader::read(&mut BitReader::<_, BE>::new(Slice::new(frame)))
+        AdtsHeader::read(&mut BitReader::<_, BE>::over(frame))
     }
 
     /// Writes a header.

@@ -1,6 +1,6 @@
 //! The header of a FLAC file's block, as a type that says how it is read and written.
 ghost use Rattle.std.specs.Prelude.{◌≡◌, ◌+◌, ◌%◌, IfOk};
-ghost use Rattle.bitstream_io.specs.Own.{plain_reads, same_error};
+ghost use Rattle.bitstream_io.specs.Callers.{plain_reads, same_error};
 ghost use Rattle.bitstream_callers.specs.BlockHeader.{block_header_entry, block_header_writes};
 
 use bitstream_io::{

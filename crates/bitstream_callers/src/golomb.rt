@@ -1,10 +1,6 @@
 //! Exponential Golomb numbers, as the parameter sets of H.264 and H.265 have them.
 ghost use Rattle.std.specs.Prelude.{◌≡◌, ◌++◌, ◌^◌, ◌<◌, ◌-◌, ℕ, ℤ, Bool, List, Ok, IfOk, length, unsigned_abs};
-ghost use Rattle.bitstream_io.specs.Entry.{Takes};
-ghost use Rattle.bitstream_io.specs.Reads.{Reads};
-ghost use Rattle.bitstream_io.specs.Run.{write_run};
-ghost use Rattle.bitstream_io.specs.Sink.{WritesAll};
-ghost use Rattle.bitstream_io.specs.Word.{Order};
+ghost use Rattle.bitstream_io.specs.Callers.{Takes, Reads, write_run, WritesAll, Order};
 ghost use Rattle.bitstream_callers.specs.Golomb.{se_entry, se_writes, ue_entry, ue_writes};
 
 use bitstream_io::{BitRead, BitReadExt, BitWrite, BitWriteExt, Bits, Error};

@@ -1,10 +1,6 @@
 //! The header of a protocol's packets, both ways.
 ghost use Rattle.std.specs.Prelude.{◌≡◌, ◌++◌, ℕ, Bool, List, length, Ok};
-ghost use Rattle.bitstream_io.specs.Entry.{Takes};
-ghost use Rattle.bitstream_io.specs.Reads.{Reads};
-ghost use Rattle.bitstream_io.specs.Run.{write_run};
-ghost use Rattle.bitstream_io.specs.Sink.{WritesAll};
-ghost use Rattle.bitstream_io.specs.Word.{Order};
+ghost use Rattle.bitstream_io.specs.Callers.{Takes, Reads, write_run, WritesAll, Order};
 ghost use Rattle.bitstream_callers.specs.declared.header.Header.{Header};
 ghost use Rattle.bitstream_callers.specs.Header.{header_entry, header_writes, Fits};
 

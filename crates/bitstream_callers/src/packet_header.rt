@@ -1,5 +1,5 @@
 //! The header of a packet of whole bytes, as a type that says how it is read and written.
-ghost use Rattle.bitstream_io.specs.Own.{same_error};
+ghost use Rattle.bitstream_io.specs.Callers.{same_error};
 ghost use Rattle.bitstream_callers.specs.PacketHeader.{becomes_stream, packet_reads, packet_writes};
 
 use bitstream_io::{ByteRead, ByteWrite, Error, FromByteStream, ToByteStream};

@@ -1,5 +1,5 @@
 //! A port with bytes of padding behind it, as a type that says how it is read and written as whole bytes.
-ghost use Rattle.bitstream_io.specs.Own.{same_error};
+ghost use Rattle.bitstream_io.specs.Callers.{same_error};
 ghost use Rattle.bitstream_callers.specs.PaddedPort.{port_reads, port_writes};
 
 use bitstream_io::{

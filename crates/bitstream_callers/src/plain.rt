@@ -41,7 +41,8 @@ pub fn picture_size(header: &[u8]) -> Result<(u16, u16), Error> {
     Ok((width, height))
 }
 
-/// Returns a temperature in tenths of a degree, of 12 bits, and how far it is from one of 8 bits in whole degrees.
+/// Returns a temperature in tenths of a degree, and how far it is above the one that is set. The first has 12 bits, the
+/// one that is set 8, in whole degrees.
 ///
 /// # Errors
 ///

@@ -1,5 +1,5 @@
 //! A sensor's reading, as a type that says how it is read and written in a width that its context says.
-ghost use Rattle.bitstream_io.specs.Own.{same_error};
+ghost use Rattle.bitstream_io.specs.Callers.{same_error};
 ghost use Rattle.bitstream_callers.specs.Reading.{becomes_reader, reading_reads, reading_writes};
 
 use bitstream_io::{

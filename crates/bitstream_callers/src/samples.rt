@@ -1,16 +1,10 @@
 //! Samples of 12 bits, in a vector.
 ghost use Rattle.std.specs.Prelude.{◌≡◌, ◌⊎◌, ◌++◌, ◌*◌, ◌^◌, ◌<◌, ◌≤◌, ℕ, Bool, List, Ok, Err, length};
 ghost use Rattle.std.specs.List.{All};
-ghost use Rattle.bitstream_io.specs.Entry.{Takes};
-ghost use Rattle.bitstream_io.specs.Error.TheVariants.{EndOfInput, OutOfMemory};
-ghost use Rattle.bitstream_io.specs.Gather.{seen};
-ghost use Rattle.bitstream_io.specs.Reads.{Reads};
-ghost use Rattle.bitstream_io.specs.Run.{write_run};
-ghost use Rattle.bitstream_io.specs.Sink.{WritesAll};
-ghost use Rattle.bitstream_io.specs.Word.{Order, High, bits};
+ghost use Rattle.bitstream_io.specs.Callers.{Takes, EndOfInput, OutOfMemory, seen, Reads, write_run, WritesAll, Order, High, bits};
 ghost use Rattle.bitstream_callers.specs.Samples.{ReadSome, samples_entry, samples_in, samples_writes};
 
-use bitstream_io::{BE, BitRead, BitReadExt, BitReader, BitWrite, BitWriteExt, Bits, Error, Slice};
+use bitstream_io::{BE, BitRead, BitReadExt, BitReader, BitWrite, BitWriteExt, Bits, Error};
 use std::alloc::Global;
 
 /// Reads the given number of samples.
@@ -47,11 +41,7 @@ pub fn parse_samples(alloc: Global, bytes: &[u8], count: usize) -> Result<Vec<u1
     ensures short { 8 * length bytes.now < count * 12
         → (result ≡ Err OutOfMemory) ⊎ (result ≡ Err EndOfInput) }
 {
-    read_samples(
-        alloc,
-        &mut BitReader::<_, BE>::new(Slice::new(bytes)),
-        count,
-    )
+    read_samples(alloc, &mut BitReader::<_, BE>::over(bytes), count)
 }
 
 /// Writes samples.

@@ -1,16 +1,12 @@
 //! A measurement of a wheel's sensor: a unary number, numbers of variable width, and a prefix code.
 ghost use Rattle.std.specs.Prelude.{◌≡◌, ◌++◌, ℕ, Bool, List, Ok, IfOk, length};
-ghost use Rattle.bitstream_io.specs.Entry.{Takes};
+ghost use Rattle.bitstream_io.specs.Callers.{Takes, Reads, sure_answer, write_run, WritesAll, Order, High, bits};
 ghost use Rattle.bitstream_io.specs.HuffmanTree.{tree_of};
-ghost use Rattle.bitstream_io.specs.Reads.{Reads, sure_answer};
-ghost use Rattle.bitstream_io.specs.Run.{write_run};
-ghost use Rattle.bitstream_io.specs.Sink.{WritesAll};
-ghost use Rattle.bitstream_io.specs.Word.{Order, High, bits};
 ghost use Rattle.bitstream_callers.specs.declared.sensor.Measurement.{Measurement};
 ghost use Rattle.bitstream_callers.specs.Sensor.{Fits, measurement_entry, measurement_writes, state_tree};
 
 use bitstream_io::huffman::HuffmanTree;
-use bitstream_io::{BE, BitRead, BitReadExt, BitReader, BitWrite, BitWriteExt, Bits, Error, Slice};
+use bitstream_io::{BE, BitRead, BitReadExt, BitReader, BitWrite, BitWriteExt, Bits, Error};
 use std::alloc::{AllocError, Global};
 
 /// How a wheel turns.
@@ -91,7 +87,7 @@ impl Measurement {
             → result ≡ Ok measurement }
     {
         measurements_go_back();
-        Measurement::read(code, &mut BitReader::<_, BE>::new(Slice::new(packet)))
+        Measurement::read(code, &mut BitReader::<_, BE>::over(packet))
     }
 
     /// Writes a measurement.

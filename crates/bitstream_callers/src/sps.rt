@@ -1,11 +1,9 @@
 //! The beginning of a sequence parameter set of H.264, with errors of its own.
-ghost use Rattle.bitstream_io.specs.Own.{OwnAnswer, ReadsOwn};
-ghost use Rattle.bitstream_io.specs.Reads.{sure_answer};
-ghost use Rattle.bitstream_io.specs.Word.{High, bits};
+ghost use Rattle.bitstream_io.specs.Callers.{OwnAnswer, ReadsOwn, sure_answer, High, bits};
 ghost use Rattle.bitstream_callers.specs.Sps.{becomes_sps, sps_entry};
 
 use crate::golomb::read_ue;
-use bitstream_io::{BE, BitRead, BitReadExt, BitReader, Bits, Error, Slice};
+use bitstream_io::{BE, BitRead, BitReadExt, BitReader, Bits, Error};
 
 /// What a parameter set says of the frames, up to their size.
 #[derive(Clone, Copy, Debug, PartialEq)]
@@ -91,6 +89,6 @@ impl Sps {
         ensures { OwnAnswer becomes_sps (λ answer. answer)
             (sure_answer ((sps_entry High).reads 0 (bits High unit.now))) result }
     {
-        Sps::read(&mut BitReader::<_, BE>::new(Slice::new(unit)))
+        Sps::read(&mut BitReader::<_, BE>::over(unit))
     }
 }

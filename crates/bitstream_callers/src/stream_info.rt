@@ -1,13 +1,10 @@
 //! The STREAMINFO block of a FLAC file, as types that say how they are read and written.
 ghost use Rattle.std.specs.Prelude.{◌≡◌, ◌<◌, ◌≤◌, length, Err, Ok};
-ghost use Rattle.bitstream_io.specs.Error.TheVariants.{EndOfInput};
-ghost use Rattle.bitstream_io.specs.Own.{plain_reads, same_error};
-ghost use Rattle.bitstream_io.specs.Reads.{Reads};
-ghost use Rattle.bitstream_io.specs.Word.{High, bits};
+ghost use Rattle.bitstream_io.specs.Callers.{EndOfInput, plain_reads, same_error, Reads, High, bits};
 ghost use Rattle.bitstream_callers.specs.StreamInfo.{stream_info, stream_info_entry, stream_info_writes, block_entry, block_writes};
 
 use bitstream_io::{
-    BE, BitRead, BitReadExt, BitReader, BitWrite, BitWriteExt, Bits, Error, FromBitStream, Slice,
+    BE, BitRead, BitReadExt, BitReader, BitWrite, BitWriteExt, Bits, Error, FromBitStream,
     ToBitStream,
 };
 use std::num::NonZero;
@@ -74,7 +71,7 @@ impl StreamInfo {
         ensures there { 18 ≤ length block.now → result ≡ Ok (stream_info (bits High block.now)) }
         ensures short { length block.now < 18 → result ≡ Err EndOfInput }
     {
-        StreamInfo::read(&mut BitReader::<_, BE>::new(Slice::new(block)))
+        StreamInfo::read(&mut BitReader::<_, BE>::over(block))
     }
 }
 

@@ -1,9 +1,7 @@
 //! One packed sample of a vehicle's telemetry.
 ghost use Rattle.std.specs.Prelude.{◌≡◌, IfOk, length};
-ghost use Rattle.bitstream_io.specs.Run.{write_run};
-ghost use Rattle.bitstream_io.specs.Sink.{WritesAll};
+ghost use Rattle.bitstream_io.specs.Callers.{write_run, WritesAll, High, bits};
 ghost use Rattle.bitstream_io.specs.SliceMut.{written_bytes};
-ghost use Rattle.bitstream_io.specs.Word.{High, bits};
 ghost use Rattle.bitstream_callers.specs.Telemetry.{framed_bits, packed_bits, sample_writes};
 
 use bitstream_io::{

@@ -1,44 +1,67 @@
--- What callers' proofs need beside the lemmas of single calls: what an answer tells, constants, branches and errors of
--- a caller's own among reads, items that are read in a loop, and what goes back by parts.
-use Rattle.std.proofs.Common.{◌≡◌, ℕ, ℤ, suc, Continue, Break, get_or, ◌+◌, ◌-◌, ◌*◌, ◌^◌, ◌<◌, ◌≤◌, ◌==◌, Bool, true, false, List, [], ◌∷◌, ◌++◌, length, take, drop, Option, Some, Result, Ok, Err, refl, ap, ◌∙◌, subst, arith, add-one}
-use Rattle.std.specs.Prelude.{nat_le, nat_lt, flat_map, if◌then◌else◌}
+-- What callers' proofs need. The usual lemmas and words of std are passed on, so that one line imports them. What is
+-- stated here is what an answer tells, and what goes with constants, branches, errors of a caller's own, items in a loop,
+-- numbers that are computed, and what goes back by parts.
+use borrow.Author.Rules.{sfits_of}
+use Rattle.std.proofs.Common.{ℤ, SFits, to_z, of_z, suc, Continue, Break, get_or, ◌*◌, ◌%◌, ◌≤◌, ◌==◌, Bool, true, false, length, take, drop, Option, Result, Err, subst, add-one, pow-suc}
+use Rattle.std.specs.Prelude.{All, IfOk, nat_le, nat_lt, flat_map, if◌then◌else◌}
+use Rattle.std.specs.Int.{Width}
+use Rattle.std.specs.Int.Count.{count_leading_zeros}
 use Rattle.std.proofs.lemmas.Bool.{le-leb, lt-leb, eq-eqb, ne_eqb}
 use Rattle.std.proofs.lemmas.Bool.Decides.{nat_tests}
 use Rattle.std.specs.Borrow.{GName}
+use Rattle.std.proofs.Math.Pow.{pow_mono}
+use Rattle.std.proofs.lemmas.List.Elements.{All-weaker}
+use Rattle.std.proofs.lemmas.Nat.{leading_top}
 use Rattle.std.specs.Result.{IsErrAnd, result_from_control_flow}
 use Rattle.std.specs.declared.ops.ControlFlow.{ControlFlow}
 use Rattle.bitstream_count.specs.declared.error.Error.{Error}
 use Rattle.bitstream_count.specs.declared.error.Error.TheVariants.{EndOfInput, Failed}
 use Rattle.bitstream_count.specs.Entry.{ReadEntry, WriteEntry, Takes, chain, gives, refuses}
-use Rattle.bitstream_number.specs.Word.{Order, FitsSignedBits, bits, number, word}
+use Rattle.bitstream_number.specs.Word.{FitsSignedBits, word}
 use Rattle.bitstream_number.proofs.WordLemmas.{length-bits}
 use Rattle.bitstream_order.specs.Gather.{seen}
 use Rattle.bitstream_order.specs.Refusal.{TrueEnds}
-use Rattle.bitstream_stream.specs.ReadTable.{signed_entry, const_entry, unary_entry, skip_entry}
+use Rattle.bitstream_stream.specs.ReadTable.{const_entry, unary_entry, skip_entry}
 use Rattle.bitstream_stream.specs.Reader.{new_reader_state}
-use Rattle.bitstream_stream.specs.Reads.{BitSource, Reads, ReadOutcome, ReadsConst, ConstAnswer, is_run_too_long, sure_answer}
-use Rattle.bitstream_stream.specs.Sink.{Sink, WritesAll}
-use Rattle.bitstream_stream.specs.WriteTable.{plain}
-use Rattle.bitstream_stream.proofs.ReadsLemmas.{Reads-chain-ok, Reads-chain-err, Reads-gives, Reads-nothing, exit, ok_front}
+use Rattle.bitstream_stream.specs.Reads.{BitSource, ReaderState, Reads, ReadOutcome, ReadsConst, ConstAnswer, is_run_too_long, sure_answer}
+use Rattle.bitstream_stream.specs.Sink.{Sink, Writes, WritesAll}
+use Rattle.bitstream_stream.specs.WriteTable.{plain, signed, unsigned}
+use Rattle.bitstream_stream.proofs.ReadsLemmas.{Reads-chain-err, Reads-nothing, ok_front, seen_err}
 use Rattle.bitstream_stream.proofs.SliceLemmas.{new_answer}
 use Rattle.bitstream_stream.proofs.TableLemmas.{unsigned-on_failed}
-use Rattle.bitstream_stream.proofs.WriteParts.{all_none, all_append, all_one, all_stop, flat_map-take, flat_map-split}
+use Rattle.bitstream_stream.proofs.WriteParts.{all_none, all_append, all_err, all_one, all_stop, one_of_all, flat_map-take, flat_map-split}
 use Rattle.bitstream_value.specs.Array.{items_entry}
-use Rattle.bitstream_value.specs.Own.{OwnAnswer, ReadsOwn, same_error}
-use Rattle.bitstream_value.proofs.ArrayLemmas.{items-start}
-use Rattle.bitstream_value.proofs.BackLemmas.{GoesBack, gives-back}
+use Rattle.bitstream_value.specs.Own.{OwnAnswer, ReadsOwn, WritesOwn, same_error}
+use Rattle.bitstream_value.proofs.ArrayLemmas.{items-start, items-stop as items-ended}
+use Rattle.bitstream_value.proofs.BackLemmas.{gives-back, unsigned-back}
 use Rattle.bitstream_value.proofs.CheckedLemmas.{signed-holds, signed-on_failed}
-use Rattle.bitstream_value.proofs.OwnLemmas.{is_error}
-use Rattle.bitstream_value.proofs.OwnSteps.{own_end, if_own, else_own}
-use Rattle.bitstream_value.proofs.ReadSteps.{Finds, next-finds}
-use Rattle.bitstream_value.proofs.SureLemmas.{IsWord, items-word, word_short}
-use Rattle.bitstream_value.proofs.WriteSteps.{next_call, next_write, stop_call, stop_write}
+use Rattle.bitstream_value.proofs.OwnSteps.{then_own_signed, then_own_call, then_own_write, then_own_signed_call, then_own_signed_write, own_written}
+use Rattle.bitstream_value.proofs.ReadSteps.{next-finds, width_of}
+use Rattle.bitstream_value.proofs.SureLemmas.{items-word, word_short}
+use Rattle.bitstream_value.proofs.WriteSteps.{next_call, next_write, stop_call, stop_write, signed_call, signed_value}
 use Rattle.bitstream_io.specs.ReadBack.{IsReadAs}
-use Rattle.bitstream_io.proofs.CallsBack.{then-read, mapped-read, const-back}
--- one that meets a fault, or is rejected
-pub use Rattle.bitstream_value.proofs.ArrayLemmas.{items-stop}
+use Rattle.bitstream_io.proofs.CallsBack.{then-read, mapped-read, value_in-fits, const-back}
+-- words of std
+pub use Rattle.std.proofs.Common.{◌≡◌, ◌∙◌, ℕ, ◌+◌, ◌-◌, ◌^◌, ◌<◌, List, [], ◌∷◌, ◌++◌, Some, Ok, ap, arith, inl, inr, refl, rules, ⊎_elim}
+-- a one that is shifted left: 1 * 2 ^ n % 2 ^ size ≡ 2 ^ n
+pub use Rattle.std.proofs.lemmas.Nat.{one_shl}
+pub use Rattle.bitstream_number.specs.Word.{Order, High, Low, bits, number}
+pub use Rattle.bitstream_order.proofs.SliceLemmas.{slice_ends}
+pub use Rattle.bitstream_stream.specs.ReadTable.{unsigned_entry, signed_entry}
+pub use Rattle.bitstream_stream.proofs.ReadsLemmas.{Reads-chain-ok, Reads-gives, exit}
 -- a number that a read of n bits answered is below 2^n
 pub use Rattle.bitstream_stream.proofs.SignedLemmas.{unsigned-below as below}
+pub use Rattle.bitstream_value.proofs.BackLemmas.{GoesBack, goes_back}
+pub use Rattle.bitstream_value.proofs.LengthSteps.{in_both_orders, lengths}
+pub use Rattle.bitstream_value.proofs.OwnLemmas.{is_error, plainly_read, plainly_written, read_plainly, written_plainly}
+pub use Rattle.bitstream_value.proofs.OwnSteps.{few_own_reads, few_own_writes, own_end, if_own, else_own}
+pub use Rattle.bitstream_value.proofs.ReadSteps.{few_reads, reads, Finds, finds, fields_there, fields_short}
+pub use Rattle.bitstream_value.proofs.SureLemmas.{IsWord, items_there, unsigned-word, word_there}
+pub use Rattle.bitstream_value.proofs.WriteSteps.{few_writes, writes, packed_stream}
+pub use Rattle.bitstream_io.proofs.CallsBack.{calls_go_back, unary-back, items-read, path-read, unsigned-read}
+pub use Rattle.bitstream_io.proofs.NonZeroBack.{non_zero_u8-again, non_zero_u16-again, non_zero_u32-again, non_zero_u64-again, non_zero_u128-again}
+pub use Rattle.bitstream_io.proofs.RunLemmas.{counted}
+pub use Rattle.bitstream_io.specs.Loop.{ItemsRead, ItemsWritten}
 
 -- ---- what an answer tells
 
@@ -56,6 +79,11 @@ in_range o size n x read = (signed-holds o size n read).1
 pub seen_is_err : {A B : Type 0} {x : Error} (view : A → B) (r : Result A Error) → seen view r ≡ Err x → r ≡ Err x
 seen_is_err view (Ok a) is = cc
 seen_is_err view (Err y) is = cc
+
+-- and a value
+pub seen_if : {A B E : Type 0} (view : A → B) (r : Result A E) {y : B} → seen view r ≡ Ok y → IfOk r (λ a. view a ≡ y)
+seen_if view (Ok a) is = cc
+seen_if view (Err e) is = tt
 
 -- ---- constants, branches and errors of one's own among reads
 
@@ -142,6 +170,13 @@ module _ {R A B E : Type 0} {K : BitSource R} {becomes : Error → E → Type 0}
       → ReadsOwn K becomes (chain e f) s r t
   exit_own_read {x = x} k h = record { plain = Err x; called = Reads-chain-err e f h; answer = k }
 
+-- a number of a signed type, which stands behind the read as what its bits say
+pub next_own_signed_read : {R B E : Type 0} {K : BitSource R} {becomes : Error → E → Type 0} (o : Order) (size n : ℕ)
+    (f : ℤ → ReadEntry (Result B E)) {r : Result B E} {s t z : R} {x : ℤ} → Reads K (signed_entry o size n) s (Ok x) t
+    → SFits (width_of size) x → ReadsOwn K becomes (f (to_z (width_of size) (of_z (width_of size) x))) t r z
+    → ReadsOwn K becomes (chain (signed_entry o size n) f) s r z
+next_own_signed_read o size n f h fits k = then_own_signed o size n f h refl refl fits k
+
 module _ {R B E : Type 0} {K : BitSource R} {becomes : Error → E → Type 0} {e : ReadEntry Bool}
     (f : Bool → ReadEntry (Result B E)) (err : E) {r : Result B E} {s t : R} where
   own_const_goes : {z : R} (plain : Result Bool Error) → Reads K e s plain t → ConstAnswer becomes err plain (Ok tt)
@@ -177,6 +212,51 @@ module _ {R B E : Type 0} {K : BitSource R} {becomes : Error → E → Type 0} {
     end_own_const h p q k other =
         exit_own_const k (subst (λ y. ReadsConst K becomes e err s y t) (p ∙ ap result_from_control_flow q) h) other
 
+-- writes in a function with errors of its own, listed: a call or a value that was written, and one whose error a `?`
+-- returned
+module _ {S E : Type 0} (K : Sink S) (becomes : Error → E → Type 0) (es : List WriteEntry)
+    (own r : Result (Unit {0}) E) (s t : S) where
+  pub next_own_call : (e : WriteEntry) (z : S) → Writes {T = Unit {0}} K e s (Ok tt) t
+      → WritesOwn K becomes es own t r z → WritesOwn K becomes (e ∷ es) own s r z
+  next_own_call e z h k = then_own_call K becomes e es own r s t (Ok tt) (Continue tt) z h refl refl k
+
+  pub next_own_write : (e : WriteEntry) (z : S) → WritesAll K (e ∷ []) s (Ok tt) t → WritesOwn K becomes es own t r z
+      → WritesOwn K becomes (e ∷ es) own s r z
+  next_own_write e z h k = then_own_write K becomes e es own r s t (Ok tt) (Continue tt) z h refl refl k
+
+  -- a number of a signed type, which a call has as what its bits say
+  pub next_own_signed_call : (o : Order) (size n : ℕ) (w : Width) (x : ℤ) (z : S)
+      → Writes {T = Unit {0}} K (signed o size n (to_z w (of_z w x))) s (Ok tt) t → SFits w x
+      → WritesOwn K becomes es own t r z → WritesOwn K becomes (signed o size n x ∷ es) own s r z
+  next_own_signed_call o size n w x z h fits k =
+      then_own_signed_call K becomes o size n w x es own r s t (Ok tt) (Continue tt) z h fits refl refl k
+
+  pub next_own_signed : (o : Order) (size n : ℕ) (w : Width) (x : ℤ) (z : S)
+      → WritesAll K (signed o size n (to_z w (of_z w x)) ∷ []) s (Ok tt) t → SFits w x
+      → WritesOwn K becomes es own t r z → WritesOwn K becomes (signed o size n x ∷ es) own s r z
+  next_own_signed o size n w x z h fits k =
+      then_own_signed_write K becomes o size n w x es own r s t (Ok tt) (Continue tt) z h fits refl refl k
+
+  pub exit_own_call : (e : WriteEntry) (x : Error) → IsErrAnd r (becomes x) → Writes {T = Unit {0}} K e s (Err x) t
+      → WritesOwn K becomes (e ∷ es) own s r t
+  exit_own_call e x k h = record { plain = Err x; called = all_err K e es s (Err x) x t refl h; answer = k }
+
+  pub exit_own_write : (e : WriteEntry) (x : Error) → IsErrAnd r (becomes x) → WritesAll K (e ∷ []) s (Err x) t
+      → WritesOwn K becomes (e ∷ es) own s r t
+  exit_own_write e x k h = exit_own_call e x k (one_of_all K e s (Err x) t h)
+
+  pub exit_own_signed_call : (o : Order) (size n : ℕ) (w : Width) (x : ℤ) (error : Error) → IsErrAnd r (becomes error)
+      → Writes {T = Unit {0}} K (signed o size n (to_z w (of_z w x))) s (Err error) t → SFits w x
+      → WritesOwn K becomes (signed o size n x ∷ es) own s r t
+  exit_own_signed_call o size n w x error k h fits =
+      exit_own_call (signed o size n x) error k (signed_call K o size n w x s t (Err error) h fits)
+
+  pub exit_own_signed : (o : Order) (size n : ℕ) (w : Width) (x : ℤ) (error : Error) → IsErrAnd r (becomes error)
+      → WritesAll K (signed o size n (to_z w (of_z w x)) ∷ []) s (Err error) t → SFits w x
+      → WritesOwn K becomes (signed o size n x ∷ es) own s r t
+  exit_own_signed o size n w x error k h fits =
+      exit_own_write (signed o size n x) error k (signed_value K o size n w x s t (Err error) h fits)
+
 -- constants and branches, to be named beside `reads`, `few_reads`, `own_reads` or `few_own_reads`
 pub ruleset constants = (
   next_const,
@@ -202,10 +282,24 @@ pub ruleset branches = (
 )
 
 -- the reads of a function with errors of its own, by the clauses of its calls, which are listed
-pub ruleset own_reads = (next_own_read, exit_own_read, own_end, if_own, else_own)
+pub ruleset own_reads = (next_own_signed_read, next_own_read, exit_own_read, own_end, if_own, else_own, sfits_of)
 
--- the same for many calls in a row: the fewest lemmas, since each one that fits is counted; with `fits 4000`, and the
--- clauses listed by their field (`c.in_ok-x.ensures.reads`)
+-- and the writes
+pub ruleset own_writes = (
+  next_own_call,
+  next_own_write,
+  next_own_signed_call,
+  next_own_signed,
+  exit_own_call,
+  exit_own_write,
+  exit_own_signed_call,
+  exit_own_signed,
+  own_written,
+  sfits_of,
+)
+
+-- the same for up to twenty calls in a row: the fewest lemmas, since each one that fits is counted; with `fits 10000`,
+-- and the clauses listed by their field (`c.in_ok-x.ensures.reads`)
 pub ruleset many_reads = (Reads-chain-ok, exit, Reads-gives)
 
 pub ruleset many_own_reads = (next_own_read, exit_own_read, next_own_const, exit_own_const, own_end)
@@ -221,37 +315,69 @@ items-suc e n = refl
 
 module _ {R A : Type 0} {K : BitSource R} (e : ReadEntry A) where
   -- none yet
-  pub items-begin : (xs : List A) {s : R} → xs ≡ [] → Reads K (items_entry e 0) s (Ok xs) s
-  items-begin xs {s = s} none = rw none (items-start e s)
+  pub items-begin : {xs : List A} {s : R} → xs ≡ [] → ItemsRead K e 0 s xs s
+  items-begin {s = s} none = rw none (items-start e s)
 
-  -- one more, pushed behind the others
-  pub items-push : (n : ℕ) (xs ys : List A) (x : A) {s t z : R} → ys ≡ xs ++ x ∷ []
-      → Reads K (items_entry e n) s (Ok xs) t → Reads K e t (Ok x) z → Reads K (items_entry e (n + 1)) s (Ok ys) z
-  items-push n xs ys x is h k =
-      rw (add-one n, items-suc e n, is) (Reads-chain-ok _ _ h (Reads-chain-ok _ _ k (Reads-gives _ _)))
+  module _ (n : ℕ) where
+    -- one more, pushed behind the others
+    pub items-push : {xs ys : List A} {x : A} {s t z : R} → ys ≡ xs ++ x ∷ [] → ItemsRead K e n s xs t
+        → Reads K e t (Ok x) z → ItemsRead K e (n + 1) s ys z
+    items-push is h k =
+        rw (add-one n, items-suc e n, is) (Reads-chain-ok _ _ h (Reads-chain-ok _ _ k (Reads-gives _ _)))
+
+    -- one whose error a `?` returned
+    pub items-stop : (all : ℕ) {B : Type 0} (view : B → List A) (r : Result B Error) {xs : List A} {x : Error}
+        {s t z : R} → n < all → ItemsRead K e n s xs t → Reads K e t (Err x) z → IsErrAnd r (λ y. y ≡ x)
+        → Reads K (items_entry e all) s (seen view r) z
+    items-stop all view r {xs = xs} more h k is = rw (seen_err view r is) (items-ended e n all xs more h k)
 
 -- ---- items that are written in a loop
 
 module _ {S A : Type 0} (K : Sink S) (f : A → List WriteEntry) (xs : List A) where
   -- none yet
-  pub written-begin : (s : S) → WritesAll K (flat_map f (take 0 xs)) s (Ok tt) s
+  pub written-begin : (s : S) → ItemsWritten K f xs 0 s s
   written-begin s = all_none K s
 
   module _ (k : ℕ) (x d : A) (s t z : S) where
     -- one more
-    pub written-more : k < length xs → x ≡ get_or xs k d → WritesAll K (flat_map f (take k xs)) s (Ok tt) t
-        → WritesAll K (f x) t (Ok tt) z → WritesAll K (flat_map f (take (k + 1) xs)) s (Ok tt) z
+    pub written-more : k < length xs → x ≡ get_or xs k d → ItemsWritten K f xs k s t → WritesAll K (f x) t (Ok tt) z
+        → ItemsWritten K f xs (k + 1) s z
     written-more less is h one =
         rw (flat_map-take f xs k d less, ← is) (all_append K (flat_map f (take k xs)) (f x) s t (Ok tt) z h one)
 
-    -- one that is rejected, or meets a fault
-    pub written-stop : (e : Error) (r : Result (Unit {0}) Error) → k < length xs → x ≡ get_or xs k d → r ≡ Err e
-        → WritesAll K (flat_map f (take k xs)) s (Ok tt) t → WritesAll K (f x) t (Err e) z
+    -- one whose error a `?` returned
+    pub written-stop : (e : Error) (r : Result (Unit {0}) Error) → k < length xs → x ≡ get_or xs k d
+        → ItemsWritten K f xs k s t → WritesAll K (f x) t (Err e) z → IsErrAnd r (λ y. y ≡ e)
         → WritesAll K (flat_map f xs) s r z
-    written-stop e r less is err h one =
+    written-stop e r less is h one err =
         rw (flat_map-split f xs k d less, ← is)
         (all_append K (flat_map f (take k xs)) (f x ++ flat_map f (drop (k + 1) xs)) s t r z h
-        (all_stop K (f x) (flat_map f (drop (k + 1) xs)) t e r z err one))
+        (all_stop K (f x) (flat_map f (drop (k + 1) xs)) t e r z (is_error r e err) one))
+
+-- ---- numbers that are computed
+
+-- the sum of 2^n - 1 and a number of n bits is not the greatest of a wider type
+pub sum_below : (size n rest : ℕ) → n < size → rest < 2 ^ n → 1 * 2 ^ n % 2 ^ size - 1 + rest < 2 ^ size - 1
+sum_below size n rest wider small =
+    let most : 2 ^ suc n ≤ 2 ^ size = pow_mono (omega arith) in
+    let twice : 2 ^ suc n ≡ 2 ^ n * 2 = pow-suc 2 n in
+    rw (one_shl n size wider) (omega arith)
+
+-- the highest bit of m, among `size` bits, stands before so many others
+pub record Top (size m behind : ℕ) : Type 0 where
+  pub within : behind < size
+  pub low : 2 ^ behind ≤ m
+  pub rest : m - 2 ^ behind < 2 ^ behind
+
+pub top : (size m : ℕ) → 0 < m → m < 2 ^ size → Top size m (size - 1 - count_leading_zeros size m)
+top size m some small =
+    let t = leading_top size m some small in
+    let n = size - 1 - count_leading_zeros size m in
+    let is : t.0 ≡ n = let e = t.1 in omega arith in
+    let low : 2 ^ n ≤ m = subst (λ (j : ℕ). 2 ^ j ≤ m) is t.2 in
+    let high : m < 2 ^ suc n = subst (λ (j : ℕ). m < 2 ^ suc j) is t.3 in
+    let twice : 2 ^ suc n ≡ 2 ^ n * 2 = pow-suc 2 n in
+    record { within = let e = t.1 in omega arith; low = low; rest = omega arith }
 
 -- ---- known bits
 
@@ -284,6 +410,12 @@ module _ {B : Type 0} (b : List Bool) (k n l : ℕ) (r : Result B Error) where
   skip-finds f le found = next-finds b k n l (skip_entry n) f (λ w. tt) r (skip-word n) le found
 
 -- ---- what a new reader answers, over a stream that refuses at true ends alone
+
+-- what `new` and `Slice::new` state, as one; `over` states it itself
+pub told : {state : ReaderState} {xs known : List ℕ} {reference_names : List GName}
+    → state ≡ new_reader_state (Some known) reference_names → known ≡ xs
+    → state ≡ new_reader_state (Some xs) reference_names
+told {reference_names = reference_names} new is = new ∙ ap (λ xs. new_reader_state (Some xs) reference_names) is
 
 -- whatever the front is, with errors of one's own
 pub own_answered : {R A E : Type 0} {K : BitSource R} {becomes : Error → E → Type 0} {e : ReadEntry (Result A E)}
@@ -348,6 +480,16 @@ pub last-back : {A B : Type 0} (e : ReadEntry A) (make : A → B) (ws : List Wri
     → GoesBack (chain e (λ v. gives (make v))) ws (make a)
 last-back e make ws a part = record { back = mapped-read make ws e a part }
 
+-- numbers of n bits that were written one by one
+pub numbers-read : (o : Order) (size n : ℕ) (xs : List ℕ) → n ≤ size → All (λ x. x < 2 ^ n) xs
+    → IsReadAs (flat_map (λ x. unsigned o size n x ∷ []) xs) (items_entry (unsigned_entry o size n) (length xs)) xs
+numbers-read o size n xs within fit =
+    let writes = λ (x : ℕ). unsigned o size n x ∷ [] in
+    let e = unsigned_entry o size n in
+    let one = λ (x : ℕ) (small : x < 2 ^ n).
+    subst (IsReadAs (writes x) e) (value_in-fits n x small) (unsigned-read o size n x within (inl small)) in
+    items-read e writes xs (All-weaker (λ x. x < 2 ^ n) (λ x. IsReadAs (writes x) e x) one xs fit)
+
 -- a constant whose width and value are literals
 pub literal-back : {B : Type 0} (es : List WriteEntry) (b : B) (o : Order) (n v : ℕ) (f : Bool → ReadEntry B)
     → nat_lt v (2 ^ n) ≡ true → GoesBack (f true) es b
@@ -356,11 +498,20 @@ literal-back es b o n v f fits behind =
     let small : v < 2 ^ n = grind (arith, nat_tests) in
     const-back es b o n v f small behind
 
+-- a number whose width is known only as the program runs
+pub var-back : {B : Type 0} (o : Order) (n : ℕ) (es : List WriteEntry) (b : B) (size v : ℕ) (f : ℕ → ReadEntry B)
+    → n ≤ size → v < 2 ^ n → GoesBack (f v) es b
+    → GoesBack (chain (unsigned_entry o size n) f) (unsigned o size n v ∷ es) b
+var-back o n es b size v f within fits behind = unsigned-back o n es b size v f (le-leb n size within) fits behind
+
 -- what goes back if a condition holds, and if not
 module _ {B : Type 0} (x y : ReadEntry B) (es : List WriteEntry) (b : B) where
   pub if-back : (c : Bool) → c ≡ true → GoesBack x es b → GoesBack (if c then x else y) es b
   if-back true is h = h
   if-back false is h = cc
+
+  pub at_most-back : (k most : ℕ) → k ≤ most → GoesBack x es b → GoesBack (if nat_le k most then x else y) es b
+  at_most-back k most le h = if-back (nat_le k most) (le-leb k most le) h
 
   pub else-back : (c : Bool) → c ≡ false → GoesBack y es b → GoesBack (if c then x else y) es b
   else-back true is h = cc

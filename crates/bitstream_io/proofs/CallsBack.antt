@@ -114,7 +114,7 @@ signed_groups-read strict o field size x wide some fits =
 -- ---- the types of values
 
 -- a number that fits is what its bits answer
-value_in-fits : (n v : ℕ) → v < 2 ^ n → value_in n v ≡ v
+pub value_in-fits : (n v : ℕ) → v < 2 ^ n → value_in n v ≡ v
 value_in-fits zero v fits = omega arith
 value_in-fits (suc n) v fits = rw (ne_eqb (suc n) 0 (λ e. omega arith)) refl
 

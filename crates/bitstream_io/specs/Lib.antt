@@ -1,3 +1,5 @@
+pub mod Callers
+pub mod Loop
 pub mod NonZeroTypes
 pub mod ReadBack
 pub mod ReadScript

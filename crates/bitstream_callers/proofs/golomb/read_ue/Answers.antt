@@ -1,7 +1,4 @@
-use Rattle.std.proofs.Common.{rules}
-use Rattle.bitstream_io.proofs.CallerLemmas.{branches}
-use Rattle.bitstream_io.proofs.ReadSteps.{few_reads, reads}
-use Rattle.bitstream_callers.proofs.GolombLemmas.{shifted, sum_below}
+use Rattle.bitstream_io.proofs.CallerLemmas.{Reads-chain-ok, arith, branches, exit, few_reads, if_at_most, one_shl, reads, rules, sum_below}
 use Rattle.bitstream_callers.proofs.golomb.read_ue.Goals as goal
 
 pub returns-in_err-zeros-clause-reads : goal.returns-in_err-zeros-clause-reads
@@ -11,22 +8,18 @@ pub returns-then-zeros-gt31-clause-reads : goal.returns-then-zeros-gt31-clause-r
 returns-then-zeros-gt31-clause-reads g c = search (reads, branches, c.in_ok-zeros.ensures.reads) depth 12
 
 pub returns-in_err-rest-clause-reads : goal.returns-in_err-rest-clause-reads
-returns-in_err-rest-clause-reads g c = search (
-  reads,
-  branches,
-  c.in_ok-zeros.ensures.reads,
-  c.in_err-rest.ensures.reads,
-  c.from_residual-in_err-rest.ensures.1,
-) depth 12
+returns-in_err-rest-clause-reads g c =
+    Reads-chain-ok _ _ c.in_ok-zeros.ensures.reads (if_at_most _ _ _ 31 c.if-zeros-gt31.false
+    (exit _ _ c.from_residual-in_err-rest.ensures.1 c.in_err-rest.ensures.reads))
 
 pub overflow_add-result : goal.overflow_add-result
 overflow_add-result g c =
-    let small = sum_below _ _ c.if-zeros-gt31.false c.in_ok-rest.ensures.fits in search (rules, small)
+    let small = sum_below 32 c.in_ok-zeros.zeros _ (omega arith) c.in_ok-rest.ensures.fits in search (rules, small)
 
 pub returns-clause-reads : goal.returns-clause-reads
 returns-clause-reads g c =
-    rw (shifted c.in_ok-zeros.zeros c.if-zeros-gt31.false)
+    rw (one_shl c.in_ok-zeros.zeros 32 (omega arith))
     (search (reads, branches, c.in_ok-zeros.ensures.reads, c.in_ok-rest.ensures.reads) depth 12)
 
 pub returns-clause-below : goal.returns-clause-below
-returns-clause-below g c = sum_below _ _ c.if-zeros-gt31.false c.in_ok-rest.ensures.fits
+returns-clause-below g c = sum_below 32 c.in_ok-zeros.zeros _ (omega arith) c.in_ok-rest.ensures.fits

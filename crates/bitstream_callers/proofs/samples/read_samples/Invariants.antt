@@ -1,10 +1,8 @@
-use Rattle.std.proofs.Common.{Ok}
-use Rattle.bitstream_io.specs.Reads.{Reads}
-use Rattle.bitstream_callers.specs.Samples.{samples_entry}
+use Rattle.bitstream_io.proofs.CallerLemmas.{ItemsRead, unsigned_entry}
 use Rattle.bitstream_callers.proofs.samples.read_samples.Given as goal
 
 -- the samples so far were read
 abbrev pub invariant-loop : goal.invariant-loop
 invariant-loop g l =
     let K = g.R.BitRead.source in
-    Reads K (samples_entry K.order l.counter) l.initial.reader (Ok l.samples.items) l.reader
+    ItemsRead K (unsigned_entry K.order 16 12) l.counter l.initial.reader l.samples.items l.reader

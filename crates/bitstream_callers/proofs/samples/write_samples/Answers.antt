@@ -1,6 +1,4 @@
-use Rattle.std.proofs.Common.{refl}
-use Rattle.bitstream_io.proofs.CallerLemmas.{written-begin, written-more, written-stop}
-use Rattle.bitstream_io.proofs.OwnLemmas.{is_error}
+use Rattle.bitstream_io.proofs.CallerLemmas.{refl, written-begin, written-more, written-stop}
 use Rattle.bitstream_callers.specs.Samples.{sample_writes}
 use Rattle.bitstream_callers.proofs.samples.write_samples.Goals as goal
 
@@ -11,7 +9,7 @@ pub returns-in_err-write : goal.returns-in_err-write
 returns-in_err-write g c =
     let K = g.W.BitWrite.sink in
     written-stop K (sample_writes K.order) c.args.samples.now _ _ 0 _ _ _ _ _ c.loop-sample-test.true refl
-    (is_error _ _ c.from_residual.ensures.1) c.loop-sample.invariant c.in_err-write.ensures.writes
+    c.loop-sample.invariant c.in_err-write.ensures.writes c.from_residual.ensures.1
 
 pub loop-sample-preserved : goal.loop-sample-preserved
 loop-sample-preserved g c =

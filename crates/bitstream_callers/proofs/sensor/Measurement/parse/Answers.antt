@@ -1,11 +1,8 @@
-use Rattle.std.proofs.Common.{◌∙◌, Some, ap}
-use Rattle.bitstream_io.specs.Word.{High}
-use Rattle.bitstream_io.proofs.CallerLemmas.{front_answered}
-use Rattle.bitstream_io.proofs.SliceEnds.{slice_ends}
+use Rattle.bitstream_io.proofs.CallerLemmas.{◌∙◌, High, ap, front_answered, refl, slice_ends}
 use Rattle.bitstream_callers.specs.Sensor.{measurement_entry}
 use Rattle.bitstream_callers.proofs.sensor.Measurement.parse.Goals as goal
 
 pub returns-clause-back : goal.returns-clause-back
 returns-clause-back c = λ measurement more fits is.
-    front_answered slice_ends c.new-2.ensures.state (ap Some c.new.ensures.bytes) c.read.ensures
+    front_answered slice_ends c.over.ensures.state refl c.read.ensures
     (ap ((measurement_entry High).reads 0) is ∙ c.measurements_go_back.ensures High measurement 0 0 more fits)

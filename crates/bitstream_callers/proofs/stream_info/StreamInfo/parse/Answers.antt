@@ -1,7 +1,4 @@
-use Rattle.std.proofs.Common.{ℕ, List, Ok, Some, ap, arith}
-use Rattle.bitstream_io.specs.Word.{High, bits}
-use Rattle.bitstream_io.proofs.ReadSteps.{Finds, finds, fields_there, fields_short}
-use Rattle.bitstream_io.proofs.SliceEnds.{slice_ends}
+use Rattle.bitstream_io.proofs.CallerLemmas.{ℕ, List, Ok, Finds, High, arith, bits, fields_there, fields_short, finds, refl, slice_ends}
 use Rattle.bitstream_callers.specs.StreamInfo.{stream_info, stream_info_entry}
 use Rattle.bitstream_callers.proofs.stream_info.StreamInfo.parse.Goals as goal
 
@@ -9,9 +6,9 @@ found : (block : List ℕ) → Finds (bits High block) 0 (stream_info_entry High
 found block = search finds depth 12
 
 pub returns-clause-there : goal.returns-clause-there
-returns-clause-there c = λ enough. fields_there slice_ends c.new-2.ensures.state (ap Some c.new.ensures.bytes)
-    c.read.ensures (found _) (omega arith)
+returns-clause-there c = λ enough. fields_there slice_ends c.over.ensures.state refl c.read.ensures (found _)
+    (omega arith)
 
 pub returns-clause-short : goal.returns-clause-short
-returns-clause-short c = λ few. fields_short slice_ends c.new-2.ensures.state (ap Some c.new.ensures.bytes)
-    c.read.ensures (found _) (omega arith)
+returns-clause-short c = λ few. fields_short slice_ends c.over.ensures.state refl c.read.ensures (found _)
+    (omega arith)

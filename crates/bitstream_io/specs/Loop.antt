@@ -1,0 +1,14 @@
+-- Items that a loop reads or writes: what its invariant says.
+use Rattle.std.specs.Prelude.{ℕ, List, take, flat_map, Ok}
+use Rattle.bitstream_count.specs.Entry.{ReadEntry, WriteEntry}
+use Rattle.bitstream_stream.specs.Reads.{BitSource, Reads}
+use Rattle.bitstream_stream.specs.Sink.{Sink, WritesAll}
+use Rattle.bitstream_value.specs.Array.{items_entry}
+
+-- so many items were read, and these are they
+abbrev pub ItemsRead : {R A : Type 0} → BitSource R → ReadEntry A → ℕ → R → List A → R → Type 0
+ItemsRead K entry n old items new = Reads K (items_entry entry n) old (Ok items) new
+
+-- of these items the first n were written, each by its calls
+abbrev pub ItemsWritten : {S A : Type 0} → Sink S → (A → List WriteEntry) → List A → ℕ → S → S → Type 0
+ItemsWritten K calls items n old new = WritesAll K (flat_map calls (take n items)) old (Ok tt) new
