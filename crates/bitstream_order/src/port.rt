@@ -1,5 +1,5 @@
 //! A stream, with counts of its requests that only contracts see.
-ghost use Rattle.std.specs.Prelude.{◌≡◌, ◌*◌, [], ◌∷◌, IfSome, Ok, OnOk, pos};
+ghost use Rattle.std.specs.Prelude.{◌≡◌, ◌≤◌, ◌*◌, [], ◌∷◌, IfSome, Ok, OnOk, length, pos, take};
 ghost use Rattle.std.specs.Io.KnownBytes.{Keeps};
 ghost use Rattle.std.specs.Io.Seek.{StaysAt, SeekMoves};
 ghost use Rattle.std.specs.IoError.{error_kind};
@@ -170,21 +170,33 @@ impl<S: Source> Port<S> {
             (port_state S.remaining S.reference_names self.old) buf.new result
             (port_state S.remaining S.reference_names self.new) }
     {
+        let count = buf.len();
+        self.fetch_front(buf, count)
+    }
+
+    /// Fills the first `count` bytes of the buffer by one request, for these bytes alone. What stands
+    /// behind them in the buffer is then not told.
+    ///
+    /// # Errors
+    ///
+    /// As [`fetch`](Port::fetch).
+    #[inline(always)]
+    pub fn fetch_front(&mut self, buf: &mut [u8], count: usize) -> Result<(), Error>
+        requires { count ≤ length buf.old }
+        ensures fetches { Fetches (MayRefuse S.remaining S.refuses)
+            (port_state S.remaining S.reference_names self.old) (take count buf.new) result
+            (port_state S.remaining S.reference_names self.new) }
+        ensures len { length buf.new ≡ length buf.old }
+    {
         let before = Snapshot::of(&self.stream);
         self.requests.add(1);
-        match self.stream.read_exact(buf) {
+        match self.stream.read_front(buf, count) {
             Ok(()) => {
-                self.fetched.add(buf.len() as u64);
+                self.fetched.add(count as u64);
                 Ok(())
             }
             Err(refused) => {
-                note_read(
-                    &mut self.refusals,
-                    &before,
-                    &self.stream,
-                    buf.len(),
-                    &refused,
-                );
+                note_read(&mut self.refusals, &before, &self.stream, count, &refused);
                 Err(read_refusal(refused))
             }
         }

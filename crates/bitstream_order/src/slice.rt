@@ -107,6 +107,18 @@ impl<'a> Source for Slice<'a> {
         self.bytes = back;
         Ok(())
     }
+
+    /// Copies as many bytes as the buffer holds, if there are so many, and takes the first `count`.
+    #[inline(always)]
+    fn read_front(&mut self, buf: &mut [u8], count: usize) -> io::Result<()> {
+        let bytes = self.bytes;
+        if bytes.len() < buf.len() {
+            return self.read_exact(&mut buf[..count]);
+        }
+        copy(buf, &bytes[..buf.len()]);
+        self.bytes = &bytes[count..];
+        Ok(())
+    }
 }
 
 impl<'a> SeekSource for Slice<'a> {

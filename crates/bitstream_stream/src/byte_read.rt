@@ -61,6 +61,7 @@ pub trait ByteRead {
     }
 
     /// Reads the bytes of a V: `read_to_bytes::<[u8; 4]>()` gives an array of four.
+    #[inline(always)]
     fn read_to_bytes<V: Primitive>(&mut self) -> Result<V::Bytes, Error>
         ensures reads { ByteReads source (given_bytes V.BYTES) self.old
             (seen V.Bytes.items result) self.new }

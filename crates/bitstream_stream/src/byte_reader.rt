@@ -69,10 +69,12 @@ impl<R: Source, E: Endianness> ByteRead for ByteReader<R, E> {
 
     ghost source = { byte_reader_source R.remaining R.refuses R.reference_names E.order };
 
+    #[inline(always)]
     fn read<V: Primitive>(&mut self) -> Result<V, Error> {
         self.read_as::<E, V>()
     }
 
+    #[inline(always)]
     fn read_as<F: Endianness, V: Primitive>(&mut self) -> Result<V, Error> {
         let bytes = self.read_to_bytes::<V>()?;
         Ok(F::value_of_bytes(bytes))
@@ -89,6 +91,7 @@ impl<R: Source, E: Endianness> ByteRead for ByteReader<R, E> {
         Ok(())
     }
 
+    #[inline(always)]
     fn read_bytes(&mut self, buf: &mut [u8]) -> Result<(), Error> {
         if buf.is_empty() {
             return Ok(());

@@ -29,6 +29,7 @@ pub trait NextBit {
 impl<R: BitRead> NextBit for R {
     ghost source = { R.source };
 
+    #[inline(always)]
     fn next_bit(&mut self) -> Result<bool, Error> {
         self.read_bit()
     }
@@ -47,6 +48,7 @@ pub trait PutBit {
 impl<W: BitWrite> PutBit for W {
     ghost sink = { W.sink };
 
+    #[inline(always)]
     fn put_bit(&mut self, one: bool) -> Result<(), Error> {
         self.write_bit(one)
     }
