@@ -1,0 +1,58 @@
+//! Assertions as functions, and what a call answers as a truth. A test that is a list of calls with no
+//! branch takes a third of the time to prove that it takes with the macros and `?`.
+use bitstream_io::Error;
+use std::fmt::Debug;
+use std::process::Abort;
+
+/// Asserts that a value is the wanted one.
+pub(crate) fn same<T: PartialEq + Debug + Drop>(rt: &impl Abort, value: T, wanted: T) {
+    assert_eq!(rt; value, wanted);
+}
+
+/// Asserts that bytes are the wanted ones.
+pub(crate) fn are(rt: &impl Abort, bytes: &[u8], wanted: &[u8]) {
+    assert_eq!(rt; bytes, wanted);
+}
+
+/// Asserts that something holds.
+pub(crate) fn holds(rt: &impl Abort, what: bool) {
+    assert!(rt; what);
+}
+
+/// Asserts that something holds, and else tells of what.
+pub(crate) fn holds_of(rt: &impl Abort, what: bool, text: &str) {
+    assert!(rt; what, "{text}");
+}
+
+/// Whether each of these holds.
+fn all_hold(what: &[bool]) -> bool {
+    for holds in what {
+        if !*holds {
+            return false;
+        }
+    }
+    true
+}
+
+/// Asserts that each of these holds, and else prints them.
+pub(crate) fn each_holds(rt: &impl Abort, what: &[bool]) {
+    assert!(rt; all_hold(what), "{what:?}");
+}
+
+/// Whether a call answers the wanted value.
+pub(crate) fn gives<T: PartialEq + Drop, E: Drop>(answer: Result<T, E>, wanted: T) -> bool {
+    match answer {
+        Ok(value) => value == wanted,
+        Err(_) => false,
+    }
+}
+
+/// Whether a call answers that the input has ended.
+pub(crate) fn ended<T: Drop>(answer: Result<T, Error>) -> bool {
+    matches!(answer, Err(Error::EndOfInput))
+}
+
+/// Whether a call answers that its reader or writer has failed before.
+pub(crate) fn failed<T: Drop>(answer: Result<T, Error>) -> bool {
+    matches!(answer, Err(Error::Failed))
+}

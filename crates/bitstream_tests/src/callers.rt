@@ -1,0 +1,241 @@
+//! The callers, each once on its happy path.
+use crate::asserts::{are, each_holds, ended, gives, holds, same};
+use bitstream_callers::block_header::{BlockHeader, append};
+use bitstream_callers::header::{Header, version};
+use bitstream_callers::packet_header::{PacketError, PacketHeader};
+use bitstream_callers::padded_port::PaddedPort;
+use bitstream_callers::plain::{chunk, direction, drift, first_block, parse_turn, picture_size};
+use bitstream_callers::reading::{Reading, ReadingError};
+use bitstream_callers::stream_info::{StreamInfo, StreamInfoBlock, sample_rate};
+use bitstream_callers::telemetry::{Sample, heartbeat};
+use bitstream_io::{
+    BE, BitReadExt, BitReader, BitWrite, BitWriteExt, BitWriter, BitsWritten, ByteReadExt,
+    ByteReader, ByteWriteExt, ByteWriter, Error, LE, Slice, SliceMut, ToBitStream, ToBitStreamWith,
+    ToByteStream, ToByteStreamUsing, ToByteStreamWith,
+};
+use std::alloc::Global;
+
+/// The first 18 bytes of a STREAMINFO block.
+const BLOCK: [u8; 18] = [
+    0x10, 0x00, 0x10, 0x00, 0x00, 0x06, 0x06, 0x00, 0x21, 0x62, 0x0a, 0xc4, 0x42, 0xf0, 0x00, 0x04,
+    0xa6, 0xcc,
+];
+
+/// The fields of a block, in their order.
+fn fields(info: &StreamInfo) -> [u64; 8] {
+    [
+        u64::from(info.minimum_block_size),
+        u64::from(info.maximum_block_size),
+        u64::from(info.minimum_frame_size),
+        u64::from(info.maximum_frame_size),
+        u64::from(info.sample_rate),
+        u64::from(info.channels.get()),
+        u64::from(info.bits_per_sample.get()),
+        info.total_samples,
+    ]
+}
+
+const FIELDS: [u64; 8] = [4096, 4096, 1542, 8546, 44100, 2, 16, 304844];
+
+#[test]
+fn parses_a_stream_info(rt: HostRuntime) {
+    let info = StreamInfo::parse(&BLOCK).expect(&rt, "a block");
+    same(&rt, fields(&info), FIELDS);
+    holds(&rt, gives(sample_rate(&BLOCK), 44100));
+    holds(&rt, ended(StreamInfo::parse(&BLOCK[..17])));
+}
+
+/// A whole block: those bytes, and the checksum behind them.
+const WHOLE_BLOCK: [u8; 34] = [
+    0x10, 0x00, 0x10, 0x00, 0x00, 0x06, 0x06, 0x00, 0x21, 0x62, 0x0a, 0xc4, 0x42, 0xf0, 0x00, 0x04,
+    0xa6, 0xcc, 0xfa, 0xf2, 0x69, 0x2f, 0xfd, 0xec, 0x2d, 0x5b, 0x30, 0x01, 0x76, 0xb4, 0x62, 0x88,
+    0x7d, 0x92,
+];
+
+/// Whether a block goes back to the bytes.
+fn goes_back(block: &StreamInfoBlock) -> bool {
+    let mut built = [0; 34];
+    let mut writer = BitWriter::<_, BE>::new(SliceMut::new(&mut built));
+    writer.build(block).is_ok() & (built == WHOLE_BLOCK)
+}
+
+/// Whether a block has 272 bits, which a `u8` does not hold.
+fn has_272_bits(block: &StreamInfoBlock) -> bool {
+    gives(block.bits::<u32>(), 272)
+        & gives(block.bits_len::<u32, LE>(), 272)
+        & matches!(block.bits::<u8>(), Err(Error::CounterOverflow))
+}
+
+#[test]
+fn parses_and_builds_a_stream_info(rt: HostRuntime) {
+    let mut reader = BitReader::<_, BE>::new(Slice::new(&WHOLE_BLOCK));
+    let block: StreamInfoBlock = reader.parse().expect(&rt, "a block");
+    same(&rt, fields(&block.info), FIELDS);
+    are(&rt, &block.md5, &WHOLE_BLOCK[18..]);
+    holds(&rt, goes_back(&block) & has_272_bits(&block));
+}
+
+/// Whether a turn of a wheel is this byte.
+fn turns(turn: &[u8]) -> bool {
+    match parse_turn(turn) {
+        Ok(turned) => (turned.lost == 2) & (turned.angle == -3),
+        Err(_) => false,
+    }
+}
+
+/// Whether the data of a chunk are these bytes.
+fn has_data(alloc: Global, bytes: &[u8], wanted: &[u8]) -> bool {
+    matches!(chunk(alloc, bytes), Ok(data) if data.as_slice() == wanted)
+}
+
+#[test]
+fn parses_plain_packets(rt: HostRuntime) {
+    let chunk = [0, 0, 0, 3, 0x64, 0x61, 0x74, 0x61, 7, 8, 9];
+    let file = [0x66, 0x4c, 0x61, 0x43, 0x00, 0x00, 0x00, 0x22];
+    let parsed = [
+        turns(&[0x2b]),
+        gives(direction(rt.alloc(), &[0x80]), '+'),
+        has_data(rt.alloc(), &chunk, &[7, 8, 9]),
+        matches!(first_block(file.as_slice()), Ok(34)),
+        gives(picture_size(&[0x2f, 0x91, 0x01, 0x4b, 0x00]), (402, 301)),
+        gives(drift(&[0xf2, 0x9e, 0xc0]), (-215, -15)),
+    ];
+    each_holds(&rt, &parsed);
+}
+
+/// Whether a vector was made that has these bytes.
+fn has_bytes(made: Result<Vec<u8>, Error>, wanted: &[u8]) -> bool {
+    matches!(made, Ok(bytes) if bytes.as_slice() == wanted)
+}
+
+#[test]
+fn packs_a_sample(rt: HostRuntime) {
+    let sample = Sample {
+        seconds: 0x12345,
+        running: true,
+        temperature: -20,
+        pressure: 101325,
+    };
+    let packed = sample.pack(rt.alloc());
+    holds(
+        &rt,
+        has_bytes(packed, &[0x12, 0x34, 0x5f, 0xb1, 0x8b, 0xcd]),
+    );
+    holds(&rt, has_bytes(heartbeat(rt.alloc(), 5, true), &[0x0b]));
+}
+
+#[test]
+fn packs_a_header(rt: HostRuntime) {
+    let header = Header {
+        version: 5,
+        acknowledge: true,
+        priority: -2,
+        length: 0x0203,
+    };
+    let bytes = [0xbe, 0x02, 0x03];
+    let mut written = [0; 3];
+    let mut writer = BitWriter::<_, BE>::new(SliceMut::new(&mut written));
+    holds(&rt, header.write(&mut writer).is_ok() & (written == bytes));
+    let mut reader = BitReader::<_, BE>::new(Slice::new(&bytes));
+    holds(
+        &rt,
+        gives(Header::read(&mut reader), header) & gives(version(&bytes), 5),
+    );
+}
+
+#[test]
+fn builds_and_parses_a_block_header(rt: HostRuntime) {
+    let header = BlockHeader {
+        last: false,
+        kind: 0,
+        size: 34,
+    };
+    let bytes = [0, 0, 0, 0x22];
+    let mut built = [0xee; 4];
+    let mut writer = BitWriter::<_, BE>::new(SliceMut::new(&mut built));
+    holds(&rt, writer.build(&header).is_ok() & (built == bytes));
+    let mut reader = BitReader::<_, BE>::new(Slice::new(&bytes));
+    holds(&rt, gives(reader.parse::<BlockHeader>(), header));
+    let mut counter = BitsWritten::<u8>::new();
+    let lengths = [
+        gives(header.bits::<u8>(), 32),
+        gives(header.bits_len::<u8, LE>(), 32),
+        gives(append(&mut counter, &header), 32),
+        counter.written() == 32,
+    ];
+    each_holds(&rt, &lengths);
+}
+
+#[test]
+fn builds_and_parses_a_padded_port(rt: HostRuntime) {
+    let port = PaddedPort { number: 1 };
+    let mut written = [0xee; 4];
+    let mut writer = ByteWriter::<_, BE>::new(SliceMut::new(&mut written));
+    holds(
+        &rt,
+        writer.build_with(&port, &2).is_ok() & (written == [0, 1, 0, 0]),
+    );
+    holds(&rt, gives(ToByteStreamWith::bytes::<u8>(&port, &2), 4));
+    holds(&rt, gives(ToByteStreamUsing::bytes::<u8>(&port, 2), 4));
+    let mut reader = ByteReader::<_, LE>::new(Slice::new(&[0x34, 0x12, 9, 9, 9]));
+    let first: Result<PaddedPort, Error> = reader.parse_with(&1);
+    let second: Result<PaddedPort, Error> = reader.parse_using(1);
+    holds(
+        &rt,
+        matches!(first, Ok(port) if port.number == 0x1234) & ended(second),
+    );
+}
+
+/// Whether a reading is written in as many bits as its context says.
+fn writes_reading(reading: Reading, bits: u32, bytes: &[u8]) -> bool {
+    let mut built = [0; 4];
+    let mut writer = BitWriter::<_, BE>::new(SliceMut::new(&mut built));
+    let written = writer.build_with(&reading, &bits).is_ok()
+        & writer.build_using(&reading, bits).is_ok()
+        & writer.byte_align().is_ok();
+    written & (built.as_slice() == bytes)
+}
+
+/// Whether it comes back from them.
+fn reads_reading(reading: Reading, bits: u32, bytes: &[u8]) -> bool {
+    let mut reader = BitReader::<_, BE>::new(Slice::new(bytes));
+    gives(reader.parse_with::<Reading>(&bits), reading)
+        & gives(reader.parse_using::<Reading>(bits), reading)
+}
+
+/// Whether no reading is told as that, and a width that a value does not have as the reader's error.
+fn misses_a_reading() -> bool {
+    let mut reader = BitReader::<_, BE>::new(Slice::new(&[0x40]));
+    let missing: Result<Reading, ReadingError> = reader.parse_using(5);
+    let wide: Result<Reading, ReadingError> = reader.parse_using(33);
+    matches!(missing, Err(ReadingError::Missing))
+        & matches!(wide, Err(ReadingError::Reader(Error::ReadBits)))
+}
+
+#[test]
+fn reads_types_with_a_context(rt: HostRuntime) {
+    let reading = Reading { value: 0xabc };
+    let bytes = [0xd5, 0xe6, 0xaf, 0x00];
+    let same = [
+        writes_reading(reading, 12, &bytes),
+        reads_reading(reading, 12, &bytes),
+        misses_a_reading(),
+        gives(ToBitStreamWith::bits::<u8>(&reading, &12), 13),
+    ];
+    each_holds(&rt, &same);
+}
+
+#[test]
+fn reads_types_of_whole_bytes(rt: HostRuntime) {
+    let header = PacketHeader { length: 0x1234 };
+    let bytes = [1, 0x12, 0x34];
+    let mut built = [0; 3];
+    let mut writer = ByteWriter::<_, BE>::new(SliceMut::new(&mut built));
+    holds(&rt, writer.build(&header).is_ok() & (built == bytes));
+    holds(&rt, gives(header.bytes::<u8>(), 3));
+    let mut reader = ByteReader::<_, BE>::new(Slice::new(&bytes));
+    holds(&rt, gives(reader.parse::<PacketHeader>(), header));
+    let mut reader = ByteReader::<_, BE>::new(Slice::new(&[2, 0x12, 0x34]));
+    let other: Result<PacketHeader, PacketError> = reader.parse();
+    holds(&rt, matches!(other, Err(PacketError::UnsupportedVersion)));
+}

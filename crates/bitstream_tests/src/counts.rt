@@ -1,0 +1,227 @@
+//! Counts of bits and checked values: each call once at each type, through the bound that it is proved
+//! from, and tables of their answers.
+ghost use Rattle.std.specs.Prelude.{◌≡◌, pos, negsuc, ◌≤◌};
+
+use crate::asserts::{each_holds, holds};
+use bitstream_io::{
+    BitCount, Checked, CheckedError, CheckedSigned, CheckedSignedFixed, CheckedUnsigned,
+    CheckedUnsignedFixed, SignedBitCount, SignedInteger, UnsignedInteger,
+};
+use std::alloc::Global;
+
+/// Whether counts give of 5 what they should.
+fn counts<U: UnsignedInteger>(five: U) -> bool
+    requires five { U.value five ≡ 5 }
+    requires size { 8 ≤ U.BITS_SIZE }
+{
+    let three = BitCount::<8>::new::<3>();
+    let range = three.range::<U>();
+    let (high, low) = BitCount::<8>::new::<2>().mask_lsb::<U>().split(five);
+    (three.none::<U>().into_value() == U::ZERO)
+        & (three.all::<U>().into_value() == U::from_u8(7))
+        & (*range.start() == U::ZERO)
+        & (*range.end() == U::from_u8(7))
+        & (high == U::ONE)
+        & (*low.as_ref() == U::ONE)
+}
+
+/// Whether the constructors take 5, and what they keep of it in no bits.
+fn checks<U: UnsignedInteger>(five: U) -> bool
+    requires five { U.value five ≡ 5 }
+    requires size { 8 ≤ U.BITS_SIZE }
+{
+    let nothing = CheckedUnsigned::<8, U>::new_fixed::<0>(five);
+    CheckedUnsigned::new(BitCount::<8>::new::<3>(), five).is_ok()
+        & CheckedUnsigned::<8, U>::new_fixed::<3>(five).is_ok()
+        & CheckedUnsigned::<8, U>::new_fixed::<2>(five).is_err()
+        & (nothing.map(Checked::into_value).ok() == Some(U::ZERO))
+        & CheckedUnsignedFixed::<3, U>::new_fixed(five).is_ok()
+        & CheckedUnsignedFixed::<2, U>::new_fixed(five).is_err()
+}
+
+/// Whether all of that holds of 5.
+fn unsigned<U: UnsignedInteger>(five: U) -> bool
+    requires five { U.value five ≡ 5 }
+    requires size { 8 ≤ U.BITS_SIZE }
+{
+    counts(five) & checks(five)
+}
+
+/// Whether the constructors take 5 and -3, and the range of three bits is between these.
+fn signed<S: SignedInteger>(five: S, less: S) -> bool
+    requires five { S.integer five ≡ pos 5 }
+    requires less { S.integer less ≡ negsuc 2 }
+    requires size { 8 ≤ S.BITS_SIZE }
+{
+    let three = SignedBitCount::<8>::new::<3>();
+    let range = three.range::<S>();
+    CheckedSigned::new(three, less).is_ok()
+        & CheckedSigned::new(three, five).is_err()
+        & CheckedSigned::<8, S>::new_fixed::<4>(five).is_ok()
+        & CheckedSignedFixed::<4, S>::new_fixed(five).is_ok()
+        & CheckedSignedFixed::<2, S>::new_fixed(less).is_err()
+        & (*range.start() < less)
+        & (*range.end() < five)
+}
+
+#[test]
+fn each_type(rt: HostRuntime) {
+    let right = [
+        unsigned::<u8>(5),
+        unsigned::<u16>(5),
+        unsigned::<u32>(5),
+        unsigned::<u64>(5),
+        unsigned::<u128>(5),
+        signed::<i8>(5, -3),
+        signed::<i16>(5, -3),
+        signed::<i32>(5, -3),
+        signed::<i64>(5, -3),
+        signed::<i128>(5, -3),
+    ];
+    each_holds(&rt, &right);
+}
+
+/// The sum and the difference of 5 bits and the given number, of at most 16 and 8 bits.
+fn sums(number: u32) -> (Option<u32>, Option<u32>, Option<u32>) {
+    let five = BitCount::<8>::new::<5>();
+    let signed = SignedBitCount::<8>::new::<5>();
+    (
+        five.checked_add::<16>(number).map(u32::from),
+        five.checked_sub::<3>(number).map(u32::from),
+        signed.checked_sub::<8>(number).map(u32::from),
+    )
+}
+
+fn sums_of_counts() -> bool {
+    let mut right = true;
+    for (number, want) in [
+        (0, (Some(5), None, Some(5))),
+        (1, (Some(6), None, Some(4))),
+        (2, (Some(7), Some(3), Some(3))),
+        (4, (Some(9), Some(1), Some(1))),
+        (5, (Some(10), Some(0), None)),
+        (6, (Some(11), None, None)),
+        (11, (Some(16), None, None)),
+        (12, (None, None, None)),
+        (4294967295, (None, None, None)),
+    ] {
+        right &= sums(number) == want;
+    }
+    right
+}
+
+/// The numbers of a signed `i8` and of a `u8` in the given number of bits.
+fn ranges(bits: u32) -> Option<(i8, i8, u8, u8)> {
+    let signed = SignedBitCount::<128>::try_from(bits).ok()?.range::<i8>();
+    let unsigned = BitCount::<128>::try_from(bits).ok()?.range::<u8>();
+    Some((
+        *signed.start(),
+        *signed.end(),
+        *unsigned.start(),
+        *unsigned.end(),
+    ))
+}
+
+fn ranges_of_counts() -> bool {
+    let mut right = true;
+    for (bits, want) in [
+        (0, None),
+        (1, Some((-1, 0, 0, 1))),
+        (4, Some((-8, 7, 0, 15))),
+        (8, Some((-128, 127, 0, 255))),
+        (9, Some((-128, 127, 0, 255))),
+        (12, Some((-128, 127, 0, 255))),
+        (129, None),
+    ] {
+        right &= ranges(bits) == want;
+    }
+    right
+}
+
+/// The parts of 222 at the given number of bits, with the count of the lower.
+fn split(bits: u32) -> Option<(u8, u32, u8)> {
+    let mask = BitCount::<16>::try_from(bits).ok()?.mask_lsb::<u8>();
+    let (high, low) = mask.split(222);
+    let (count, low) = low.into_count_value();
+    Some((high, u32::from(count), low))
+}
+
+fn parts_of_numbers() -> bool {
+    let mut right = true;
+    for (bits, want) in [
+        (0, Some((222, 0, 0))),
+        (3, Some((27, 3, 6))),
+        (8, Some((0, 8, 222))),
+        (12, Some((0, 8, 222))),
+        (17, None),
+    ] {
+        right &= split(bits) == want;
+    }
+    right
+}
+
+/// What a signed value of the given number of bits is refused for.
+fn refused(bits: u32, value: i8) -> Option<CheckedError> {
+    let count = SignedBitCount::<16>::try_from(bits).ok()?;
+    CheckedSigned::new(count, value).err()
+}
+
+/// Whether a signed value of the given number of bits is refused as too great or too small.
+fn is_excessive(bits: u32, value: i8) -> bool {
+    refused(bits, value) == Some(CheckedError::ExcessiveValue)
+}
+
+fn ends_of_signed_widths() -> bool {
+    let mut right = true;
+    for (bits, least, greatest) in [
+        (1, -1, 0),
+        (2, -2, 1),
+        (3, -4, 3),
+        (4, -8, 7),
+        (5, -16, 15),
+        (6, -32, 31),
+        (7, -64, 63),
+    ] {
+        right &= refused(bits, least).is_none()
+            & refused(bits, greatest).is_none()
+            & is_excessive(bits, least - 1)
+            & is_excessive(bits, greatest + 1);
+    }
+    right
+}
+
+/// What the widths of all bits of the type and of one more are refused for; and that in four bits 5
+/// behind a sign bit of 1 is -3.
+fn whole_widths_and_signs() -> bool {
+    refused(8, -128).is_none()
+        & (refused(9, 0) == Some(CheckedError::ExcessiveBits))
+        & (UnsignedInteger::as_negative(5u8, 4) == -3)
+        & (SignedInteger::as_negative(-3i8, 4) == 5)
+}
+
+#[test]
+fn r02_numbers_counts(rt: HostRuntime) {
+    let right = [
+        whole_widths_and_signs(),
+        sums_of_counts(),
+        ranges_of_counts(),
+        parts_of_numbers(),
+        ends_of_signed_widths(),
+    ];
+    each_holds(&rt, &right);
+}
+
+/// Whether counts are printed as their numbers.
+fn prints(alloc: Global) -> bool {
+    let count = BitCount::<16>::new::<12>();
+    let signed = SignedBitCount::<16>::new::<7>();
+    match format!(in alloc; "{count} {signed}") {
+        Ok(text) => text.as_str() == "12 7",
+        Err(_) => false,
+    }
+}
+
+#[test]
+fn counts_print_as_numbers(rt: HostRuntime) {
+    holds(&rt, prints(rt.alloc()));
+}

@@ -1,0 +1,49 @@
+//! All tests: of the library's crates, with the examples of the doc comments, of its callers, and of
+//! `bitfields_core`; and what they need of a user's own: a prefix code, and functions over bytes in memory
+//! whose contracts tell all that they answer. The crate has nothing else, so that nothing is proved twice.
+#![tactic(auto)]
+
+#[cfg(test)]
+mod asserts;
+#[cfg(test)]
+mod bytes;
+#[cfg(test)]
+mod callers;
+#[cfg(test)]
+mod checked;
+#[cfg(test)]
+mod codes;
+#[cfg(test)]
+mod counts;
+#[cfg(test)]
+mod errors;
+#[cfg(test)]
+mod examples;
+#[cfg(test)]
+mod faults;
+#[cfg(test)]
+mod formats;
+#[cfg(test)]
+mod numbers;
+#[cfg(test)]
+mod older;
+#[cfg(test)]
+mod own;
+#[cfg(test)]
+mod program;
+#[cfg(test)]
+mod program_rows;
+#[cfg(test)]
+mod room;
+#[cfg(test)]
+mod script;
+#[cfg(test)]
+mod sign_code;
+#[cfg(test)]
+mod sinks;
+#[cfg(test)]
+mod sure;
+#[cfg(test)]
+mod whole_bytes;
+#[cfg(test)]
+mod words;

@@ -1,0 +1,149 @@
+//! Bytes in memory as a target: where a request is refused, and what was written until then.
+ghost use Rattle.std.specs.Prelude.{◌≤◌};
+
+use crate::asserts::{each_holds, failed, holds, same};
+use bitstream_io::{
+    BE, BitWrite, BitWriter, ByteWrite, ByteWriter, Endianness, Error, LE, SliceMut,
+};
+use std::io::ErrorKind;
+
+/// Whether a request was refused as there was no room for it.
+fn lacks_room(answer: Result<(), Error>) -> bool {
+    matches!(answer, Err(Error::Stream(ErrorKind::WriteZero)))
+}
+
+/// An answer, or the one before it if that is an error.
+fn first_error(before: Result<(), Error>, answer: Result<(), Error>) -> Result<(), Error> {
+    match before {
+        Ok(()) => answer,
+        Err(error) => Err(error),
+    }
+}
+
+/// Writes 12 bits, 4 bits, two bytes and 4 bits, and aligns, whatever is refused.
+fn write_packet<W: BitWrite>(writer: &mut W) -> Result<(), Error> {
+    let answer = writer.write_unsigned_var(12, 0xb1e_u16);
+    let answer = first_error(answer, writer.write_unsigned_var(4, 0xd_u8));
+    let answer = first_error(answer, writer.write_bytes(&[0x12, 0x34]));
+    let answer = first_error(answer, writer.write_unsigned_var(4, 5u8));
+    first_error(answer, writer.byte_align())
+}
+
+/// A packet that is written where there is room for a number of bytes: how many of it are written,
+/// and what then stands in memory that was filled with `ee`, in either order.
+struct Row {
+    room: usize,
+    written: usize,
+    big_endian: [u8; 6],
+    little_endian: [u8; 6],
+}
+
+const ROWS: [Row; 7] = [
+    Row {
+        room: 0,
+        written: 0,
+        big_endian: [0xee; 6],
+        little_endian: [0xee; 6],
+    },
+    Row {
+        room: 1,
+        written: 1,
+        big_endian: [0xb1, 0xee, 0xee, 0xee, 0xee, 0xee],
+        little_endian: [0x1e, 0xee, 0xee, 0xee, 0xee, 0xee],
+    },
+    Row {
+        room: 2,
+        written: 2,
+        big_endian: [0xb1, 0xed, 0xee, 0xee, 0xee, 0xee],
+        little_endian: [0x1e, 0xdb, 0xee, 0xee, 0xee, 0xee],
+    },
+    // The two bytes are one request, of which none is written.
+    Row {
+        room: 3,
+        written: 2,
+        big_endian: [0xb1, 0xed, 0xee, 0xee, 0xee, 0xee],
+        little_endian: [0x1e, 0xdb, 0xee, 0xee, 0xee, 0xee],
+    },
+    Row {
+        room: 4,
+        written: 4,
+        big_endian: [0xb1, 0xed, 0x12, 0x34, 0xee, 0xee],
+        little_endian: [0x1e, 0xdb, 0x12, 0x34, 0xee, 0xee],
+    },
+    Row {
+        room: 5,
+        written: 5,
+        big_endian: [0xb1, 0xed, 0x12, 0x34, 0x50, 0xee],
+        little_endian: [0x1e, 0xdb, 0x12, 0x34, 0x05, 0xee],
+    },
+    Row {
+        room: 6,
+        written: 5,
+        big_endian: [0xb1, 0xed, 0x12, 0x34, 0x50, 0xee],
+        little_endian: [0x1e, 0xdb, 0x12, 0x34, 0x05, 0xee],
+    },
+];
+
+/// Whether a packet in this much room is written if there is room for it, and else is refused for want
+/// of it and fails its writer, and leaves this memory, of which it tells.
+fn leaves<E: Endianness>(room: usize, written: usize, wanted: [u8; 6]) -> bool {
+    let room = room.min(6);
+    let mut memory = [0xee_u8; 6];
+    let mut writer = BitWriter::<_, E>::over(&mut memory[..room]);
+    let answer = write_packet(&mut writer);
+    let next = writer.write_bit(true);
+    let fine = if answer.is_ok() {
+        next.is_ok()
+    } else {
+        lacks_room(answer) & failed(next)
+    };
+    let target = writer.into_writer();
+    let told = (target.as_slice().len() == written)
+        & (target.free() == room.saturating_sub(written));
+    fine & told & (memory == wanted)
+}
+
+#[test]
+fn writes_while_there_is_room(rt: HostRuntime) {
+    for row in &ROWS {
+        let high = leaves::<BE>(row.room, row.written, row.big_endian);
+        let low = leaves::<LE>(row.room, row.written, row.little_endian);
+        same(&rt, (row.room, high, low), (row.room, true, true));
+    }
+}
+
+/// Whether a buffer of this length goes into as much room by one request, and one byte more does not.
+fn fills(length: usize) -> bool
+    requires { length ≤ 20 }
+{
+    let bytes = [0x5a_u8; 20];
+    let mut memory = [0u8; 20];
+    let mut writer = BitWriter::<_, BE>::new(SliceMut::new(&mut memory[..length]));
+    let written = writer.write_bytes(&bytes[..length]).is_ok() & writer.flush().is_ok();
+    let full = lacks_room(writer.write_bytes(&[1]));
+    written & full & (writer.into_writer().as_slice() == &bytes[..length])
+}
+
+#[test]
+fn fills_the_room_there_is(rt: HostRuntime) {
+    for length in 0..21 {
+        same(&rt, (length, fills(length)), (length, true));
+    }
+}
+
+/// Numbers of two bytes are written, and one byte where one of two bytes has no room. Of a long buffer
+/// within a byte the first piece alone is written, if there is room for it alone.
+#[test]
+fn refuses_the_request_that_has_no_room(rt: HostRuntime) {
+    let mut memory = [0u8; 3];
+    let mut writer = ByteWriter::<_, LE>::over(&mut memory);
+    let first = writer.write(0x0201_u16).is_ok();
+    let refused = lacks_room(writer.write(0x0403_u16));
+    let last = writer.write(3u8).is_ok();
+    each_holds(&rt, &[first, refused, last, memory == [1, 2, 3]]);
+    let mut memory = [0xee_u8; 2000];
+    let mut writer = BitWriter::<_, BE>::over(&mut memory);
+    holds(&rt, writer.write_bit(true).is_ok());
+    holds(&rt, lacks_room(writer.write_bytes(&[0; 2048])));
+    same(&rt, writer.into_writer().as_slice().len(), 1024);
+}

@@ -1,0 +1,219 @@
+//! Words of each width and type behind each length of a queue, against the same words a bit at a time.
+use crate::asserts::{gives, same};
+use bitstream_io::{
+    BE, BitRead, BitReadExt, BitReader, BitWrite, BitWriteExt, BitWriter, Endianness, Integer, LE,
+    Numeric, Slice,
+};
+use std::alloc::Global;
+
+/// The number whose lowest digits the words have, each of them turned once.
+const NUMBER: u128 = 0xd1b5_4a32_d192_ed03_9e37_79b9_7f4a_7c15;
+
+/// The number whose lowest digits stand in front of each word.
+const FRONT: u8 = 0x5b;
+
+/// How words stand in their bytes: each behind the digits in front of it, and zeros behind it up to
+/// the next byte.
+#[derive(Clone, Copy, Drop)]
+struct Shape {
+    /// Whether the highest digit of a word comes first.
+    high_first: bool,
+    /// How many digits stand in front.
+    queued: u32,
+    /// How many bits the word has.
+    width: u32,
+}
+
+impl Shape {
+    /// Returns the lowest digits of a number.
+    fn lowest(number: u128, digits: u32) -> u128 {
+        number
+            & u128::MAX
+                .checked_shr(128u32.saturating_sub(digits))
+                .unwrap_or(0)
+    }
+
+    /// Returns the digits in front of the word.
+    fn front(self) -> u128 {
+        Shape::lowest(u128::from(FRONT), self.queued)
+    }
+
+    /// Returns the word with one of its digits turned, where it has the digit.
+    fn turned(self, digit: u32) -> u128 {
+        Shape::lowest(NUMBER ^ 1u128.checked_shl(digit).unwrap_or(0), self.width)
+    }
+
+    /// Returns that word with its highest digit, a sign, in each place above it too.
+    fn extended(self, digit: u32) -> u128 {
+        let word = self.turned(digit);
+        if word > Shape::lowest(u128::MAX, self.width.saturating_sub(1)) {
+            word | !Shape::lowest(u128::MAX, self.width)
+        } else {
+            word
+        }
+    }
+
+    /// Returns that word as a value of a type.
+    fn value<N: Numeric>(self, digit: u32) -> N {
+        if has_sign::<N>() {
+            number(self.extended(digit))
+        } else {
+            number(self.turned(digit))
+        }
+    }
+
+    /// Returns whether a type has values of the width.
+    fn fits<N: Numeric>(self) -> bool {
+        let least = if has_sign::<N>() { 1 } else { 0 };
+        least <= self.width && self.width <= N::BITS_SIZE
+    }
+
+    /// Returns the bit at a place among the given number of bits of a number.
+    fn bit(self, number: u128, bits: u32, at: u32) -> bool {
+        let digit = if self.high_first {
+            bits.saturating_sub(at).saturating_sub(1)
+        } else {
+            at
+        };
+        number.checked_shr(digit).unwrap_or(0) % 2 == 1
+    }
+}
+
+/// Returns whether a type has numbers below 0.
+fn has_sign<N: Numeric>() -> bool {
+    !N::ZERO < N::ZERO
+}
+
+/// Returns the value that has the lowest digits of a number.
+fn number<N: Numeric>(digits: u128) -> N {
+    let mut buffer = N::buffer();
+    let bytes = N::as_bytes_mut(&mut buffer);
+    for (byte, digit) in bytes.iter_mut().zip(digits.to_le_bytes()) {
+        *byte = digit;
+    }
+    N::from_le_bytes(buffer)
+}
+
+/// Writes the words of a shape as values of a type, each by one call.
+fn write_words<N: Numeric + Integer, W: BitWrite>(writer: &mut W, shape: Shape) -> bool {
+    let mut written = true;
+    for digit in 0..shape.width.saturating_add(1) {
+        written &= writer
+            .write_unsigned_var(shape.queued, shape.front())
+            .is_ok()
+            & writer
+                .write_var(shape.width, shape.value::<N>(digit))
+                .is_ok()
+            & writer.byte_align().is_ok();
+    }
+    written
+}
+
+/// Writes the lowest digits of a number, each by one call.
+fn write_bits<W: BitWrite>(writer: &mut W, shape: Shape, number: u128, bits: u32) -> bool {
+    let mut written = true;
+    for at in 0..bits {
+        written &= writer.write_bit(shape.bit(number, bits, at)).is_ok();
+    }
+    written
+}
+
+/// Writes the words of a shape a bit at a time.
+fn write_singly<W: BitWrite>(writer: &mut W, shape: Shape) -> bool {
+    let mut written = true;
+    for digit in 0..shape.width.saturating_add(1) {
+        written &= write_bits(writer, shape, shape.front(), shape.queued)
+            & write_bits(writer, shape, shape.turned(digit), shape.width)
+            & writer.byte_align().is_ok();
+    }
+    written
+}
+
+/// Reads the given number of bits a bit at a time, and tells whether they are those of a number.
+fn has_bits<R: BitRead>(reader: &mut R, shape: Shape, number: u128, bits: u32) -> bool {
+    let mut same = true;
+    for at in 0..bits {
+        same &= gives(reader.read_bit(), shape.bit(number, bits, at));
+    }
+    same
+}
+
+/// Reads the words of a shape a bit at a time, and tells whether they are those that were written.
+fn reads_singly<R: BitRead>(reader: &mut R, shape: Shape) -> bool {
+    let mut same = true;
+    for digit in 0..shape.width.saturating_add(1) {
+        same &= has_bits(reader, shape, shape.front(), shape.queued)
+            & has_bits(reader, shape, shape.turned(digit), shape.width);
+        reader.byte_align();
+    }
+    same
+}
+
+/// Reads the words of a shape as values of a type, each by one call, and tells whether they are those
+/// that were written.
+fn reads_words<N: Numeric + Integer, R: BitRead>(reader: &mut R, shape: Shape) -> bool {
+    let mut same = true;
+    for digit in 0..shape.width.saturating_add(1) {
+        same &= gives(reader.read_unsigned_var(shape.queued), shape.front())
+            & gives(reader.read_var(shape.width), shape.value::<N>(digit));
+        reader.byte_align();
+    }
+    same
+}
+
+/// Whether the words of a shape, as values of a type, are these bytes, if the type has values of the
+/// width. Else nothing is asked of them.
+fn agrees<E: Endianness + Drop, N: Numeric + Integer>(
+    alloc: Global,
+    shape: Shape,
+    singly: &[u8],
+) -> bool {
+    if !shape.fits::<N>() {
+        return true;
+    }
+    let mut writer = BitWriter::<_, E>::new(Vec::new(alloc));
+    let written = write_words::<N, _>(&mut writer, shape);
+    let mut reader = BitReader::<_, E>::new(Slice::new(singly));
+    written & reads_words::<N, _>(&mut reader, shape) & (writer.into_writer().as_slice() == singly)
+}
+
+/// Whether the words of a shape are, a bit at a time, the same bytes and the same numbers: the bits that
+/// are read, and the values of each type.
+fn each_agrees<E: Endianness + Drop>(alloc: Global, shape: Shape) -> bool {
+    let mut writer = BitWriter::<_, E>::new(Vec::new(alloc));
+    let written = write_singly(&mut writer, shape);
+    let bytes = writer.into_writer();
+    let read = reads_singly(&mut BitReader::<_, E>::new(Slice::new(&bytes)), shape);
+    written
+        & read
+        & agrees::<E, u8>(alloc, shape, &bytes)
+        & agrees::<E, u16>(alloc, shape, &bytes)
+        & agrees::<E, u32>(alloc, shape, &bytes)
+        & agrees::<E, u64>(alloc, shape, &bytes)
+        & agrees::<E, u128>(alloc, shape, &bytes)
+        & agrees::<E, i8>(alloc, shape, &bytes)
+        & agrees::<E, i16>(alloc, shape, &bytes)
+        & agrees::<E, i32>(alloc, shape, &bytes)
+        & agrees::<E, i64>(alloc, shape, &bytes)
+        & agrees::<E, i128>(alloc, shape, &bytes)
+}
+
+#[test]
+fn words_are_single_bits(rt: HostRuntime) {
+    for width in 0..129 {
+        for queued in 0..8 {
+            let high_first = Shape {
+                high_first: true,
+                queued,
+                width,
+            };
+            let low_first = Shape {
+                high_first: false,
+                ..high_first
+            };
+            let high = each_agrees::<BE>(rt.alloc(), high_first);
+            let low = each_agrees::<LE>(rt.alloc(), low_first);
+            same(&rt, (width, queued, high, low), (width, queued, true, true));
+        }
+    }
+}
