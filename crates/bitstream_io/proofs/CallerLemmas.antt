@@ -40,7 +40,7 @@ use Rattle.bitstream_value.proofs.ReadSteps.{next-finds, width_of}
 use Rattle.bitstream_value.proofs.SureLemmas.{items-word, word_short}
 use Rattle.bitstream_value.proofs.WriteSteps.{next_call, next_write, stop_call, stop_write, signed_call, signed_value}
 use Rattle.bitstream_io.specs.ReadBack.{IsReadAs}
-use Rattle.bitstream_io.proofs.CallsBack.{then-read, mapped-read, value_in-fits, const-back}
+use Rattle.bitstream_io.proofs.CallsBack.{then-read, mapped-read, value_in-fits, const-read, const-back}
 -- words of std
 pub use Rattle.std.proofs.Common.{◌≡◌, ◌∙◌, ℕ, ◌+◌, ◌-◌, ◌^◌, ◌<◌, List, [], ◌∷◌, ◌++◌, Some, Ok, ap, arith, inl, inr, refl, rules, ⊎_elim}
 -- a one that is shifted left: 1 * 2 ^ n % 2 ^ size ≡ 2 ^ n
@@ -158,6 +158,14 @@ module _ {R B : Type 0} {K : BitSource R} (o : Order) (n v : ℕ) (f : Bool → 
     end_const h p q k other short =
         exit_const k (subst (λ y. ReadsConst K same_error (const_entry o n v) err s y t)
         (p ∙ ap result_from_control_flow q) h) other short
+
+-- a constant as a read by itself, which gives nothing, and refuses any other number
+pub const_alone : {R : Type 0} {K : BitSource R} (o : Order) (n v : ℕ) (f : Bool → ReadEntry (Unit {0})) (err : Error)
+    (r : Result (Unit {0}) Error) {s t : R} → ReadsConst K same_error (const_entry o n v) err s r t
+    → f true ≡ gives tt → f false ≡ refuses err → is_run_too_long {A = Unit {0}} (Err err) ≡ false
+    → Reads K (chain (const_entry o n v) f) s r t
+const_alone o n v f err (Ok u) h right other short = next_const o n v f err h (rw right (Reads-gives u _))
+const_alone o n v f err (Err x) h right other short = exit_const o n v f err refl h other short
 
 -- the same in a function with errors of its own, where the reads are listed
 module _ {R A B E : Type 0} {K : BitSource R} {becomes : Error → E → Type 0} {e : ReadEntry A}
@@ -497,6 +505,17 @@ pub literal-back : {B : Type 0} (es : List WriteEntry) (b : B) (o : Order) (n v 
 literal-back es b o n v f fits behind =
     let small : v < 2 ^ n = grind (arith, nat_tests) in
     const-back es b o n v f small behind
+
+-- the same as a read by itself, which gives nothing
+pub alone-back : {B : Type 0} (es : List WriteEntry) (b : B) (o : Order) (n v : ℕ) (f : Bool → ReadEntry (Unit {0}))
+    (g : Unit {0} → ReadEntry B) → nat_lt v (2 ^ n) ≡ true → f true ≡ gives tt → GoesBack (g tt) es b
+    → GoesBack (chain (chain (const_entry o n v) f) g) (plain (word o n v) ∷ es) b
+alone-back es b o n v f g fits right behind =
+    let small : v < 2 ^ n = grind (arith, nat_tests) in
+    let nothing : IsReadAs [] (f true) tt = rw right (λ len p more. refl) in
+    let word_read : IsReadAs (plain (word o n v) ∷ []) (chain (const_entry o n v) f) tt =
+    then-read (const_entry o n v) f (plain (word o n v) ∷ []) [] true tt (const-read o n v small) nothing in
+    part-back (chain (const_entry o n v) f) g (plain (word o n v) ∷ []) es tt b word_read behind
 
 -- a number whose width is known only as the program runs
 pub var-back : {B : Type 0} (o : Order) (n : ℕ) (es : List WriteEntry) (b : B) (size v : ℕ) (f : ℕ → ReadEntry B)

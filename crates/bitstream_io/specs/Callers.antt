@@ -10,7 +10,8 @@ pub use Rattle.bitstream_stream.specs.Reads.{BitSource, Reads, sure_answer}
 pub use Rattle.bitstream_stream.specs.Sink.{Sink, WritesAll}
 pub use Rattle.bitstream_stream.specs.Run.{write_run}
 pub use Rattle.bitstream_value.specs.Array.{items_entry, words}
-pub use Rattle.bitstream_value.specs.NonZero.{non_zero}
+pub use Rattle.bitstream_value.specs.Boolean.{truth_entry, truth}
+pub use Rattle.bitstream_value.specs.NonZero.{non_zero, option_entry}
 pub use Rattle.bitstream_value.specs.Own.{OwnAnswer, ReadsOwn, WritesOwn, same_error, plain_reads}
 pub use Rattle.bitstream_value.specs.Tree.{Tree, leaf, node, IsPath, path_entry, bit_by_bit}
 pub use Rattle.bitstream_io.specs.Loop.{ItemsRead, ItemsWritten}
