@@ -48,3 +48,17 @@ returns-in-Err-clause-asks g c =
       queue = ap (λ r. word o r.queued (first_part o r.queue 8 r.queued)) same ∙ word-none o _;
       failed = refl;
     })
+
+pub returns-then-self-clause-asks : goal.returns-then-self-clause-asks
+returns-then-self-clause-asks g c = AsksPlace.had_failed (record {
+  from_here = c.requires;
+  failed = c.if-self.true;
+  answer = refl;
+  same = refl;
+})
+
+pub returns-in-Some-clause-requests : goal.returns-in-Some-clause-requests
+returns-in-Some-clause-requests g c = λ _. c.in-Ok.ensures.places.requests
+
+pub returns-in-None-clause-requests : goal.returns-in-None-clause-requests
+returns-in-None-clause-requests g c = λ _. c.in-Ok.ensures.places.requests

@@ -28,3 +28,9 @@ invariant_of-self-clause-back g c = λ fine.
 
 pub returns-clause-asks : goal.returns-clause-asks
 returns-clause-asks g c = (omega arith, λ _. refl)
+
+pub returns-then-bits-queued-clause-reads : goal.returns-then-bits-queued-clause-reads
+returns-then-bits-queued-clause-reads g c = c.fetch_word.ensures.reads
+
+pub returns-then-bits-queued-clause-asks : goal.returns-then-bits-queued-clause-asks
+returns-then-bits-queued-clause-asks g c = c.fetch_word.ensures.asks

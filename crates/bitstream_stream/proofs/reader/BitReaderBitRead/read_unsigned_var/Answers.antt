@@ -10,3 +10,9 @@ returns-then-bits-BITS_SIZE-clause-reads g c = unsigned-refused _ _ _ _ c.if-sel
 
 pub returns-then-bits-BITS_SIZE-clause-asks : goal.returns-then-bits-BITS_SIZE-clause-asks
 returns-then-bits-BITS_SIZE-clause-asks g c = (omega arith, λ _. refl)
+
+pub returns-clause-reads : goal.returns-clause-reads
+returns-clause-reads g c = c.take_word.ensures.reads
+
+pub returns-clause-asks : goal.returns-clause-asks
+returns-clause-asks g c = c.take_word.ensures.asks

@@ -22,3 +22,6 @@ returns-clause-writes g c =
     (queue_sink (MayRefuse g.W.Target.contents g.W.Target.refuses) o) _ _ _ _
     (pushes_writes _ o _ _ _ _ _ c.if-self.false (rw c.complement.ensures (c.in_ok-check_signed.ensures.word _ _))
     c.push.ensures.pushes)
+
+pub returns-clause-asks : goal.returns-clause-asks
+returns-clause-asks g c = c.push.ensures.asks

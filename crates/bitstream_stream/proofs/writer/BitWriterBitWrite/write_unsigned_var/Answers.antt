@@ -20,3 +20,6 @@ returns-clause-writes g c =
     inner (writer_state g.W.Target.contents g.W.Target.reference_names)
     (queue_sink (MayRefuse g.W.Target.contents g.W.Target.refuses) o) _ _ _ _
     (pushes_writes _ o _ _ _ _ _ c.if-self.false (c.in_ok-check.ensures.word _ _) c.push.ensures.pushes)
+
+pub returns-clause-asks : goal.returns-clause-asks
+returns-clause-asks g c = c.push.ensures.asks
