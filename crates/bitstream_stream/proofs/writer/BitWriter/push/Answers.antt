@@ -2,6 +2,9 @@ use Rattle.std.proofs.Common.{refl, arith}
 use Rattle.bitstream_stream.proofs.WriterLemmas.{queue_small, pushed_queue, pushed_bytes, pushed_fault, pushes_lost}
 use Rattle.bitstream_stream.proofs.writer.BitWriter.push.Goals as goal
 
+pub invariant_of-self-clause-few : goal.invariant_of-self-clause-few
+invariant_of-self-clause-few g c = omega arith
+
 pub invariant_of-self-clause-small : goal.invariant_of-self-clause-small
 invariant_of-self-clause-small g c =
     queue_small g.E.Endianness.order c.args.self.now.queued c.args.self.now.queue c.args.n
