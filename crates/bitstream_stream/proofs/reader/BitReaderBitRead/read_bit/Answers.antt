@@ -16,3 +16,9 @@ returns-clause-reads g c =
     let same : c.in_ok-bit.bit % 2 ≡ c.in_ok-bit.bit = omega arith in
     rw same (Reads-same (bit-unsigned g.E.Endianness.order 8 (omega arith))
     (Reads-chain-ok _ (λ n. gives (nat_eq n 1)) c.in_ok-bit.ensures.reads (Reads-gives _ _)))
+
+pub returns-in_err-bit-clause-asks : goal.returns-in_err-bit-clause-asks
+returns-in_err-bit-clause-asks g c = c.in_err-bit.ensures.asks
+
+pub returns-clause-asks : goal.returns-clause-asks
+returns-clause-asks g c = c.in_ok-bit.ensures.asks

@@ -34,6 +34,16 @@ invariant_of-self-in-Ok-None g c =
       empty = λ failed. refl;
     }
 
+pub invariant_of-self-in-Err : goal.invariant_of-self-in-Err
+invariant_of-self-in-Err g c =
+    let taken = c.fetched_bits-self.ensures in
+    record {
+      few = omega arith;
+      whole = omega arith;
+      back = λ fine. cc;
+      empty = λ failed. refl;
+    }
+
 pub returns-in-Ok-Some-clause-reads : goal.returns-in-Ok-Some-clause-reads
 returns-in-Ok-Some-clause-reads g c =
     let stop = c.BITS-stop.result == 1 in
