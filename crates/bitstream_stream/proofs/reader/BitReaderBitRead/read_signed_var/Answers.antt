@@ -1,4 +1,4 @@
-use Rattle.std.proofs.Common.{arith}
+use Rattle.std.proofs.Common.{arith, refl}
 use Rattle.bitstream_stream.proofs.SignedLemmas.{signed-failed, signed-bare, signed-stops, signed-was_done, unsigned-below, unsigned-within, seen_is}
 use Rattle.bitstream_stream.proofs.reader.BitReaderBitRead.read_signed_var.Goals as goal
 
@@ -7,6 +7,9 @@ returns-then-self-clause-reads g c = signed-failed _ _ _ _ c.if-self.true
 
 pub returns-then-bits-eq0-clause-reads : goal.returns-then-bits-eq0-clause-reads
 returns-then-bits-eq0-clause-reads g c = signed-bare _ _ _ _ (omega arith) c.if-self.false
+
+pub returns-then-bits-eq0-clause-asks : goal.returns-then-bits-eq0-clause-asks
+returns-then-bits-eq0-clause-asks g c = (omega arith, λ _. refl)
 
 pub returns-in_err-word-clause-reads : goal.returns-in_err-word-clause-reads
 returns-in_err-word-clause-reads g c =
