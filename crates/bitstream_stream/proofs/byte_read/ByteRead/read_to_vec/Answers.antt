@@ -54,3 +54,9 @@ loop-at-preserved g c =
       reads = bytes_then at _ end items part _ c.args.self.now c.loop-at.self c.read_bytes.new.self
           (omega (arith, size, fits, c.read_bytes.auto.buf)) made inv.reads c.in_ok-read_bytes.ensures.reads;
     }
+
+pub returns : goal.returns
+returns g c =
+    let inv = c.loop-at.invariant in
+    let all : c.loop-at.at ≡ c.args.bytes = omega (arith, c.loop-at-test.false, inv.within) in
+    record { reads = rw all at inv.reads }
