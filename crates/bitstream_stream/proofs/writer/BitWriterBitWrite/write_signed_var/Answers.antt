@@ -1,5 +1,6 @@
 use Rattle.bitstream_order.specs.Refusal.{MayRefuse}
-use Rattle.std.proofs.Common.{refl}
+use Rattle.std.proofs.Common.{Ok, refl, ap, sym, ◌∙◌}
+use Rattle.bitstream_number.specs.Word.{word}
 use Rattle.bitstream_stream.specs.Writer.{writer_state, queue_sink, writer_sink}
 use Rattle.bitstream_stream.proofs.SinkLemmas.{inner, fails, refuses, exit_is}
 use Rattle.bitstream_stream.proofs.WriterLemmas.{pushes_writes}
@@ -20,7 +21,8 @@ returns-clause-writes g c =
     let o = g.E.Endianness.order in
     inner (writer_state g.W.Target.contents g.W.Target.reference_names)
     (queue_sink (MayRefuse g.W.Target.contents g.W.Target.refuses) o) _ _ _ _
-    (pushes_writes _ o _ _ _ _ _ c.if-self.false (rw c.complement.ensures (c.in_ok-check_signed.ensures.word _ _))
+    (pushes_writes _ o _ _ _ _ _ c.if-self.false (c.in_ok-check_signed.ensures.word _ _
+    ∙ ap (λ n. Ok (word o c.args.bits n)) (sym c.complement.ensures))
     c.push.ensures.pushes)
 
 pub returns-clause-asks : goal.returns-clause-asks
