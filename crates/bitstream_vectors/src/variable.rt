@@ -44,6 +44,66 @@ where
     })
 }
 
+/// Reads a value of a type of 8 bits, as [`read_in`].
+fn read_8<F: Width, R: BitRead>(
+    reader: &mut R,
+    value: Grouped,
+    want: &str,
+) -> Result<bool, Objection>
+    requires some { 2 ≤ F.BITS }
+    requires within { F.BITS < 8 }
+{
+    read_in::<F, u8, i8, NonZero<u8>, R>(reader, value, want)
+}
+
+/// Reads a value of a type of 16 bits, as [`read_in`].
+fn read_16<F: Width, R: BitRead>(
+    reader: &mut R,
+    value: Grouped,
+    want: &str,
+) -> Result<bool, Objection>
+    requires some { 2 ≤ F.BITS }
+    requires within { F.BITS < 16 }
+{
+    read_in::<F, u16, i16, NonZero<u16>, R>(reader, value, want)
+}
+
+/// Reads a value of a type of 32 bits, as [`read_in`].
+fn read_32<F: Width, R: BitRead>(
+    reader: &mut R,
+    value: Grouped,
+    want: &str,
+) -> Result<bool, Objection>
+    requires some { 2 ≤ F.BITS }
+    requires within { F.BITS < 32 }
+{
+    read_in::<F, u32, i32, NonZero<u32>, R>(reader, value, want)
+}
+
+/// Reads a value of a type of 64 bits, as [`read_in`].
+fn read_64<F: Width, R: BitRead>(
+    reader: &mut R,
+    value: Grouped,
+    want: &str,
+) -> Result<bool, Objection>
+    requires some { 2 ≤ F.BITS }
+    requires within { F.BITS < 64 }
+{
+    read_in::<F, u64, i64, NonZero<u64>, R>(reader, value, want)
+}
+
+/// Reads a value of a type of 128 bits, as [`read_in`].
+fn read_128<F: Width, R: BitRead>(
+    reader: &mut R,
+    value: Grouped,
+    want: &str,
+) -> Result<bool, Objection>
+    requires some { 2 ≤ F.BITS }
+    requires within { F.BITS < 128 }
+{
+    read_in::<F, u128, i128, NonZero<u128>, R>(reader, value, want)
+}
+
 /// The value that a text spells, or none where it spells 0.
 fn optional<N: FromStr<Err = ParseIntError>>(text: &str) -> Result<Option<N>, Objection> {
     if text == "0" {
@@ -77,25 +137,52 @@ where
     })
 }
 
-/// A call at one of these sizes of groups.
-macro_rules! at_field {
-    ($field:ident, $call:ident, $unsigned:ty, $signed:ty, $arguments:tt, $($width:literal)+) => {
-        match $field {
-            $($width => $call::<Bits<$width>, $unsigned, $signed, NonZero<$unsigned>, _>$arguments,)+
-            _ => Err(Objection::UNLISTED),
-        }
-    };
+/// Writes a value of a type of 8 bits, as [`write_in`].
+fn write_8<F: Width, W: BitWrite>(writer: &mut W, kind: Grouped, value: &str) -> Answer
+    requires some { 2 ≤ F.BITS }
+    requires within { F.BITS < 8 }
+{
+    write_in::<F, u8, i8, NonZero<u8>, W>(writer, kind, value)
 }
 
-/// A call for types of a size, in groups of a size that the rows have of it.
-macro_rules! in_fields {
-    ($size:ident, $field:ident, $call:ident, $arguments:tt) => {
-        match $size {
-            Size::Bits8 => at_field!($field, $call, u8, i8, $arguments, 2 3 4 5 6 7),
-            Size::Bits16 => at_field!($field, $call, u16, i16, $arguments, 2 3 4 5 8 9 15),
-            Size::Bits32 => at_field!($field, $call, u32, i32, $arguments, 2 3 4 7 8 9 16 31),
-            Size::Bits64 => at_field!($field, $call, u64, i64, $arguments, 2 3 4 5 8 16 33 63),
-            Size::Bits128 => at_field!($field, $call, u128, i128, $arguments, 2 3 4 8 9 64 65 127),
+/// Writes a value of a type of 16 bits, as [`write_in`].
+fn write_16<F: Width, W: BitWrite>(writer: &mut W, kind: Grouped, value: &str) -> Answer
+    requires some { 2 ≤ F.BITS }
+    requires within { F.BITS < 16 }
+{
+    write_in::<F, u16, i16, NonZero<u16>, W>(writer, kind, value)
+}
+
+/// Writes a value of a type of 32 bits, as [`write_in`].
+fn write_32<F: Width, W: BitWrite>(writer: &mut W, kind: Grouped, value: &str) -> Answer
+    requires some { 2 ≤ F.BITS }
+    requires within { F.BITS < 32 }
+{
+    write_in::<F, u32, i32, NonZero<u32>, W>(writer, kind, value)
+}
+
+/// Writes a value of a type of 64 bits, as [`write_in`].
+fn write_64<F: Width, W: BitWrite>(writer: &mut W, kind: Grouped, value: &str) -> Answer
+    requires some { 2 ≤ F.BITS }
+    requires within { F.BITS < 64 }
+{
+    write_in::<F, u64, i64, NonZero<u64>, W>(writer, kind, value)
+}
+
+/// Writes a value of a type of 128 bits, as [`write_in`].
+fn write_128<F: Width, W: BitWrite>(writer: &mut W, kind: Grouped, value: &str) -> Answer
+    requires some { 2 ≤ F.BITS }
+    requires within { F.BITS < 128 }
+{
+    write_in::<F, u128, i128, NonZero<u128>, W>(writer, kind, value)
+}
+
+/// A call at one of these sizes of groups.
+macro_rules! at_field {
+    ($field:ident, $call:ident, $arguments:tt, $($width:literal)+) => {
+        match $field {
+            $($width => $call::<Bits<$width>, _>$arguments,)+
+            _ => Err(Objection::UNLISTED),
         }
     };
 }
@@ -108,7 +195,13 @@ pub fn read_variable<R: BitRead>(
     field: u32,
     want: &str,
 ) -> Result<bool, Objection> {
-    in_fields!(size, field, read_in, (reader, value, want))
+    match size {
+        Size::Bits8 => at_field!(field, read_8, (reader, value, want), 2 3 4 5 6 7),
+        Size::Bits16 => at_field!(field, read_16, (reader, value, want), 2 3 4 5 8 9 15),
+        Size::Bits32 => at_field!(field, read_32, (reader, value, want), 2 3 4 7 8 9 16 31),
+        Size::Bits64 => at_field!(field, read_64, (reader, value, want), 2 3 4 5 8 16 33 63),
+        Size::Bits128 => at_field!(field, read_128, (reader, value, want), 2 3 4 8 9 64 65 127),
+    }
 }
 
 /// Writes the value that a text spells in groups of the given number of bits.
@@ -119,7 +212,13 @@ pub fn write_variable<W: BitWrite>(
     field: u32,
     value: &str,
 ) -> Answer {
-    in_fields!(size, field, write_in, (writer, kind, value))
+    match size {
+        Size::Bits8 => at_field!(field, write_8, (writer, kind, value), 2 3 4 5 6 7),
+        Size::Bits16 => at_field!(field, write_16, (writer, kind, value), 2 3 4 5 8 9 15),
+        Size::Bits32 => at_field!(field, write_32, (writer, kind, value), 2 3 4 7 8 9 16 31),
+        Size::Bits64 => at_field!(field, write_64, (writer, kind, value), 2 3 4 5 8 16 33 63),
+        Size::Bits128 => at_field!(field, write_128, (writer, kind, value), 2 3 4 8 9 64 65 127),
+    }
 }
 
 /// Reads two of `u8` in groups of the given number of bits, and tells whether it answers so.
