@@ -109,9 +109,7 @@ impl<'a> Call<'a> {
                 Ok(run) => run < most,
                 Err(_) => most > 0,
             },
-            Form::Prefix(Tree::OneSided) => matches!(self.value, "0" | "1" | "2" | "5"),
-            Form::Prefix(Tree::TwoSided) => matches!(self.value, "0" | "1" | "2" | "3" | "4"),
-            Form::Prefix(Tree::TwoSevens) => matches!(self.value, "7" | "8"),
+            Form::Prefix(tree) => has_symbol(tree, self.value),
             _ => false,
         }
     }
@@ -154,6 +152,24 @@ impl<'a> Call<'a> {
             _ => "Failed",
         }
     }
+}
+
+/// Whether a text spells a symbol of a tree that has a bit.
+fn has_symbol(tree: Tree, text: &str) -> bool {
+    match tree {
+        Tree::OneSided => is_among(&["0", "1", "2", "5"], text),
+        Tree::TwoSided => is_among(&["0", "1", "2", "3", "4"], text),
+        Tree::TwoSevens => is_among(&["7", "8"], text),
+        Tree::Leaf => false,
+    }
+}
+
+fn is_among(symbols: &[&'static str], text: &str) -> bool {
+    let mut found = false;
+    for symbol in symbols {
+        found = found || *symbol == text;
+    }
+    found
 }
 
 /// A word of a call, or none.

@@ -152,7 +152,7 @@ impl Form {
 ///
 /// That the name spells none.
 pub fn form_of(name: &str, next: &str) -> Result<Form, Objection> {
-    let named = plain_form(name).or_else(|| whole_form(name, next));
+    let named = named(&PLAIN, name).or_else(|| whole_form(name, next));
     let named = named.or_else(|| variable_form(name, next));
     let named = named.or_else(|| symbol_form(name, next));
     named
@@ -160,32 +160,41 @@ pub fn form_of(name: &str, next: &str) -> Result<Form, Objection> {
         .ok_or(Objection::BAD_FORM)
 }
 
-fn plain_form(name: &str) -> Option<Form> {
-    match name {
-        "align" => Some(Form::Align),
-        "aligned" => Some(Form::Aligned),
-        "array0" => Some(Form::Array(Items::None)),
-        "array4" => Some(Form::Array(Items::Bytes)),
-        "array4-bool" => Some(Form::Array(Items::Truths)),
-        "array2-i8" => Some(Form::Array(Items::Signed)),
-        "bit" => Some(Form::Bit),
-        "bool" => Some(Form::Bool),
-        "bytes" => Some(Form::Bytes),
-        "const" => Some(Form::Const),
-        "clear" => Some(Form::Clear),
-        "count" => Some(Form::Count),
-        "current" => Some(Form::Seek(Whence::Current)),
-        "cursor" => Some(Form::Cursor),
-        "end" => Some(Form::Seek(Whence::End)),
-        "pad" => Some(Form::Pad),
-        "place" => Some(Form::Place),
-        "skip" => Some(Form::Skip),
-        "start" => Some(Form::Seek(Whence::Start)),
-        "unary0" => Some(Form::Unary(false)),
-        "unary1" => Some(Form::Unary(true)),
-        "vector" => Some(Form::Vector),
-        _ => None,
+/// The forms that a name alone spells.
+const PLAIN: [(&str, Form); 22] = [
+    ("align", Form::Align),
+    ("aligned", Form::Aligned),
+    ("array0", Form::Array(Items::None)),
+    ("array4", Form::Array(Items::Bytes)),
+    ("array4-bool", Form::Array(Items::Truths)),
+    ("array2-i8", Form::Array(Items::Signed)),
+    ("bit", Form::Bit),
+    ("bool", Form::Bool),
+    ("bytes", Form::Bytes),
+    ("const", Form::Const),
+    ("clear", Form::Clear),
+    ("count", Form::Count),
+    ("current", Form::Seek(Whence::Current)),
+    ("cursor", Form::Cursor),
+    ("end", Form::Seek(Whence::End)),
+    ("pad", Form::Pad),
+    ("place", Form::Place),
+    ("skip", Form::Skip),
+    ("start", Form::Seek(Whence::Start)),
+    ("unary0", Form::Unary(false)),
+    ("unary1", Form::Unary(true)),
+    ("vector", Form::Vector),
+];
+
+/// What a table has under a name.
+fn named<T: Copy>(table: &[(&'static str, T)], name: &str) -> Option<T> {
+    let mut found = None;
+    for (spelled, value) in table {
+        if *spelled == name {
+            found = Some(*value);
+        }
     }
+    found
 }
 
 /// The form of a call for a primitive of the type that the next word spells.
@@ -256,15 +265,20 @@ fn field_of(name: &str) -> Option<(u32, bool)> {
     Some((field.parse().ok()?, signed))
 }
 
+/// The trees.
+const TREES: [(&str, Tree); 4] = [
+    ("a", Tree::OneSided),
+    ("b", Tree::TwoSided),
+    ("c", Tree::TwoSevens),
+    ("d", Tree::Leaf),
+];
+
 /// The form of a call for a symbol of the code that the next word spells.
 fn symbol_form(name: &str, next: &str) -> Option<Form> {
-    match (name, next) {
-        ("prefix", "a") => Some(Form::Prefix(Tree::OneSided)),
-        ("prefix", "b") => Some(Form::Prefix(Tree::TwoSided)),
-        ("prefix", "c") => Some(Form::Prefix(Tree::TwoSevens)),
-        ("prefix", "d") => Some(Form::Prefix(Tree::Leaf)),
-        ("limited0", most) => Some(Form::Limited(false, most.parse().ok()?)),
-        ("limited1", most) => Some(Form::Limited(true, most.parse().ok()?)),
+    match name {
+        "prefix" => Some(Form::Prefix(named(&TREES, next)?)),
+        "limited0" => Some(Form::Limited(false, next.parse().ok()?)),
+        "limited1" => Some(Form::Limited(true, next.parse().ok()?)),
         _ => None,
     }
 }
@@ -297,15 +311,17 @@ fn number_of(name: &str) -> Option<Number> {
     }
 }
 
+/// The sizes.
+const SIZES: [(&str, Size); 5] = [
+    ("8", Size::Bits8),
+    ("16", Size::Bits16),
+    ("32", Size::Bits32),
+    ("64", Size::Bits64),
+    ("128", Size::Bits128),
+];
+
 fn size_of(name: &str) -> Option<Size> {
-    match name {
-        "8" => Some(Size::Bits8),
-        "16" => Some(Size::Bits16),
-        "32" => Some(Size::Bits32),
-        "64" => Some(Size::Bits64),
-        "128" => Some(Size::Bits128),
-        _ => None,
-    }
+    named(&SIZES, name)
 }
 
 /// The form of a call that is given calls.
