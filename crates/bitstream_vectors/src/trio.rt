@@ -216,4 +216,15 @@ impl<P: BitWrite, Q: BitWrite, R: BitWrite> BitWrite for Trio<P, Q, R> {
         note(&mut self.agree, &answer, others);
         answer
     }
+
+    #[inline(never)]
+    fn write_signed_vbr<F: Width, S: SignedInteger>(&mut self, value: S) -> Result<(), Error> {
+        let answer = self.first.write_signed_vbr::<F, S>(value);
+        let others = [
+            self.second.write_signed_vbr::<F, S>(value),
+            self.third.write_signed_vbr::<F, S>(value),
+        ];
+        note(&mut self.agree, &answer, others);
+        answer
+    }
 }
