@@ -13,7 +13,7 @@ use Rattle.bitfields_core.specs.declared.field.Field.{Field}
 use Rattle.bitfields_core.specs.declared.field_value.FieldValue.{FieldValue}
 use Rattle.bitfields_core.specs.Fault.{fault, fault_line}
 use Rattle.bitfields_core.specs.Packing.{Packs}
-use Rattle.bitfields_core.specs.Run.{SpelledInput, PackingFault, misspelt_input, refused_memory, refused_bytes, unflushed_bytes, Reports, SizedInput, SizingFault, ValuesFault, size_line, unknown_values, refused_line, unflushed_line}
+use Rattle.bitfields_core.specs.Run.{SpelledInput, PackedInput, PackingFault, misspelt_input, refused_memory, refused_bytes, unflushed_bytes, Reports, SizedInput, SizingFault, ValuesFault, size_line, unknown_values, refused_line, unflushed_line}
 use Rattle.bitfields_core.specs.Size.{Sizes, size_of, spelt_size}
 use Rattle.bitfields_core.specs.Streams.{InputStream, OutputStream, ReadToEnd, RefusedOutput, Flushed}
 use Rattle.bitfields_core.specs.Value.{lines, values}
@@ -44,6 +44,15 @@ module _ {R W : Type 0} {I : InputStream R} {O : OutputStream W} {o : Order} {fi
   packing_unflushed (Ok vs) {filled = filled} is packs refused =
       unflushed_bytes vs (spelt_as reads is) (record { filled = filled; packs = packs; refused = refused })
   packing_unflushed (Err x) is packs refused = absurd packs
+
+  -- what the input spells was packed, and the output flushed behind it
+  pub packed_input : (spelt : Result (List FieldValue) Fault) {filled output_after : W}
+      → values 1 fields (lines bytes) ≡ spelt
+      → Packs O.contents (MayRefuse O.contents O.refuses) o fields spelt output (Ok tt) filled
+      → Flushed O filled output_after → PackedInput I O o fields input output input_after output_after
+  packed_input (Ok vs) {filled = filled} is packs flushed =
+      record { vs = vs; reads = spelt_as reads is; filled = filled; packs = packs; flushed = flushed }
+  packed_input (Err x) is packs flushed = absurd packs
 
 -- values whose size is known were spelt
 spelt_values : (fields : List Field) (spelt : Result (List FieldValue) Fault) (n : ℕ) → Sizes fields spelt (Ok n)

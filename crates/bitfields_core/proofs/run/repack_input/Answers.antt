@@ -15,3 +15,10 @@ returns-in_err-flush g c =
       refused = c.in_err-flush.ensures.refused;
       reason = refl;
     }))
+
+pub returns : goal.returns
+returns g c = record {
+  filled = c.repack.new.output;
+  repacks = c.in_ok-repack.ensures.repacks;
+  flushed = record { bytes = c.in_ok-flush.ensures.bytes; flushes = c.in_ok-flush.ensures.flushed };
+}
