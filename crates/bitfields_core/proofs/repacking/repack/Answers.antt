@@ -1,9 +1,24 @@
 use Rattle.std.proofs.Common.{refl}
 use Rattle.bitstream_io.specs.Refusal.{MayRefuse}
-use Rattle.bitfields_core.specs.Repacking.{no_end, ReadToLast}
+use Rattle.bitfields_core.specs.Repacking.{no_end, stopped_input, ReadToLast}
 use Rattle.bitfields_core.proofs.PackingLemmas.{result_err}
-use Rattle.bitfields_core.proofs.RepackedBytes.{packed_again, was_ended}
+use Rattle.bitfields_core.proofs.RepackedBytes.{not_ended, not_read, packed_again, was_ended}
 use Rattle.bitfields_core.proofs.repacking.repack.Goals as goal
+
+pub returns-in_err-values-clause-repacks : goal.returns-in_err-values-clause-repacks
+returns-in_err-values-clause-repacks g c =
+    rw (result_err c.from_residual.result c.from_residual.ensures.1) (stopped_input c.in_err-values.ensures.reads refl)
+
+pub returns-in_err-values-clause-repacked : goal.returns-in_err-values-clause-repacked
+returns-in_err-values-clause-repacked g c = λ ends xs told.
+    rw (result_err c.from_residual.result c.from_residual.ensures.1)
+    (not_read ends g.E.Endianness.order c.args.layout.now told c.in_err-values.ensures.reads)
+
+pub returns-in_err-expect_end-clause-repacked : goal.returns-in_err-expect_end-clause-repacked
+returns-in_err-expect_end-clause-repacked g c = λ ends xs told.
+    rw (result_err c.from_residual-in_err-expect_end.result c.from_residual-in_err-expect_end.ensures.1)
+    (not_ended ends g.E.Endianness.order c.args.layout.now told {behind = c.read_packed.new.input}
+    {after = c.expect_end.new.input} c.in_ok-values.ensures.reads c.in_err-expect_end.ensures)
 
 pub returns-in_err-expect_end-clause-repacks : goal.returns-in_err-expect_end-clause-repacks
 returns-in_err-expect_end-clause-repacks g c =
