@@ -1,0 +1,28 @@
+use Rattle.std.proofs.Common.{◌≡◌, ℕ, ◌<◌, ◌≤◌, List, [], ◌∷◌, length, get_or, map, Some, ap, arith, refl, string_bytes, sym, ◌∙◌}
+use Rattle.bitfields_core.specs.declared.run.Command.{Command}
+use Rattle.bitfields_core.specs.declared.run.NamedOrder.{NamedOrder}
+use Rattle.bitfields_core.specs.Call.{Request, bit_order, command_of, order_of, request_of}
+use Rattle.bitfields_core.proofs.run.call.Goals as goal
+
+-- three words, of which the first two name a command and an order
+asked : {S : Type 0} (text : S → List ℕ) (words : List S) {x y z : S} {command : Command}
+    {order : NamedOrder}
+    → 3 ≤ length words → length words < 4 → x ≡ get_or words 0 x → y ≡ get_or words 1 y → z ≡ get_or words 2 z
+    → command_of (text x) ≡ Some command → order_of (text y) ≡ Some order
+    → request_of (map text words) ≡ Some (record { command = command; order = bit_order order; layout = text z })
+asked text [] some few first second third c o = absurd (omega (arith, some))
+asked text (u ∷ []) some few first second third c o = absurd (omega (arith, some))
+asked text (u ∷ v ∷ []) some few first second third c o = absurd (omega (arith, some))
+asked {S = S} text (u ∷ v ∷ w ∷ []) {z = z} {command = command} {order = order} some few first second third c o =
+    let named : command_of (text u) ≡ Some command = ap (λ (s : S). command_of (text s)) (sym first) ∙ c in
+    let ordered : order_of (text v) ≡ Some order = ap (λ (s : S). order_of (text s)) (sym second) ∙ o in
+    let last : w ≡ z = sym third in
+    rw (named, ordered, last) refl
+asked text (u ∷ v ∷ w ∷ more ∷ words) some few first second third c o = absurd (omega (arith, few))
+
+pub returns : goal.returns
+returns g c =
+    let command = ap command_of (sym c.as_str.ensures.value) ∙ sym c.parse_command.ensures ∙ c.in-Some.is in
+    let order = ap order_of (sym c.as_str-2.ensures.value) ∙ sym c.parse_order.ensures ∙ c.in-Some-parse_order.is in
+    rw (asked string_bytes c.args.words.now (omega arith) (omega arith) c.command-item.is c.order-item.is
+    c.text-item.is command order) (rw c.as_str-3.ensures.value at c.follow.ensures)
