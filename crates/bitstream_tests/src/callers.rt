@@ -9,9 +9,9 @@ use bitstream_callers::reading::{Reading, ReadingError};
 use bitstream_callers::stream_info::{StreamInfo, StreamInfoBlock, sample_rate};
 use bitstream_callers::telemetry::{Sample, heartbeat};
 use bitstream_io::{
-    BE, BitReadExt, BitReader, BitWrite, BitWriteExt, BitWriter, BitsWritten, ByteReadExt,
-    ByteReader, ByteWriteExt, ByteWriter, Error, LE, Slice, SliceMut, ToBitStream, ToBitStreamWith,
-    ToByteStream, ToByteStreamUsing, ToByteStreamWith,
+    BE, BitRead, BitReadExt, BitReader, BitWrite, BitWriteExt, BitWriter, BitsWritten, ByteRead,
+    ByteReadExt, ByteReader, ByteWrite, ByteWriteExt, ByteWriter, Error, LE, Slice, SliceMut,
+    ToBitStream, ToBitStreamWith, ToByteStream, ToByteStreamUsing, ToByteStreamWith,
 };
 use std::alloc::Global;
 
@@ -124,6 +124,11 @@ fn packs_a_sample(rt: HostRuntime) {
     holds(&rt, has_bytes(heartbeat(rt.alloc(), 5, true), &[0x0b]));
 }
 
+/// Whether a header is read from a reader.
+fn reads_header<R: BitRead>(reader: &mut R, header: Header) -> bool {
+    gives(Header::read(reader), header)
+}
+
 #[test]
 fn packs_a_header(rt: HostRuntime) {
     let header = Header {
@@ -139,8 +144,27 @@ fn packs_a_header(rt: HostRuntime) {
     let mut reader = BitReader::<_, BE>::new(Slice::new(&bytes));
     holds(
         &rt,
-        gives(Header::read(&mut reader), header) & gives(version(&bytes), 5),
+        reads_header(&mut reader, header) & gives(version(&bytes), 5),
     );
+}
+
+/// Whether a block's header tells its length of 32 bits, also by a counter.
+fn has_32_bits(header: &BlockHeader) -> bool {
+    let mut counter = BitsWritten::<u8>::new();
+    gives(header.bits::<u8>(), 32)
+        & gives(header.bits_len::<u8, LE>(), 32)
+        & gives(append(&mut counter, header), 32)
+        & (counter.written() == 32)
+}
+
+/// Whether it is built.
+fn builds_header<W: BitWrite>(writer: &mut W, header: &BlockHeader) -> bool {
+    writer.build(header).is_ok()
+}
+
+/// Whether it is parsed.
+fn parses_header<R: BitRead>(reader: &mut R, header: BlockHeader) -> bool {
+    gives(reader.parse::<BlockHeader>(), header)
 }
 
 #[test]
@@ -153,37 +177,36 @@ fn builds_and_parses_a_block_header(rt: HostRuntime) {
     let bytes = [0, 0, 0, 0x22];
     let mut built = [0xee; 4];
     let mut writer = BitWriter::<_, BE>::new(SliceMut::new(&mut built));
-    holds(&rt, writer.build(&header).is_ok() & (built == bytes));
+    holds(&rt, builds_header(&mut writer, &header) & (built == bytes));
     let mut reader = BitReader::<_, BE>::new(Slice::new(&bytes));
-    holds(&rt, gives(reader.parse::<BlockHeader>(), header));
-    let mut counter = BitsWritten::<u8>::new();
-    let lengths = [
-        gives(header.bits::<u8>(), 32),
-        gives(header.bits_len::<u8, LE>(), 32),
-        gives(append(&mut counter, &header), 32),
-        counter.written() == 32,
-    ];
-    each_holds(&rt, &lengths);
+    holds(
+        &rt,
+        parses_header(&mut reader, header) & has_32_bits(&header),
+    );
+}
+
+/// Whether a port is built with two bytes of padding, and tells its length.
+fn builds_port<W: ByteWrite>(writer: &mut W) -> bool {
+    let port = PaddedPort { number: 1 };
+    writer.build_with(&port, &2).is_ok()
+        & gives(ToByteStreamWith::bytes::<u8>(&port, &2), 4)
+        & gives(ToByteStreamUsing::bytes::<u8>(&port, 2), 4)
+}
+
+/// Whether a port is parsed with one byte of padding, and there is no other behind it.
+fn parses_port<R: ByteRead>(reader: &mut R) -> bool {
+    let first: Result<PaddedPort, Error> = reader.parse_with(&1);
+    let second: Result<PaddedPort, Error> = reader.parse_using(1);
+    gives(first, PaddedPort { number: 0x1234 }) & ended(second)
 }
 
 #[test]
 fn builds_and_parses_a_padded_port(rt: HostRuntime) {
-    let port = PaddedPort { number: 1 };
     let mut written = [0xee; 4];
     let mut writer = ByteWriter::<_, BE>::new(SliceMut::new(&mut written));
-    holds(
-        &rt,
-        writer.build_with(&port, &2).is_ok() & (written == [0, 1, 0, 0]),
-    );
-    holds(&rt, gives(ToByteStreamWith::bytes::<u8>(&port, &2), 4));
-    holds(&rt, gives(ToByteStreamUsing::bytes::<u8>(&port, 2), 4));
+    holds(&rt, builds_port(&mut writer) & (written == [0, 1, 0, 0]));
     let mut reader = ByteReader::<_, LE>::new(Slice::new(&[0x34, 0x12, 9, 9, 9]));
-    let first: Result<PaddedPort, Error> = reader.parse_with(&1);
-    let second: Result<PaddedPort, Error> = reader.parse_using(1);
-    holds(
-        &rt,
-        matches!(first, Ok(port) if port.number == 0x1234) & ended(second),
-    );
+    holds(&rt, parses_port(&mut reader));
 }
 
 /// Whether a reading is written in as many bits as its context says.
@@ -225,17 +248,27 @@ fn reads_types_with_a_context(rt: HostRuntime) {
     each_holds(&rt, &same);
 }
 
+/// Whether a packet's header is built, and tells its length.
+fn builds_packet<W: ByteWrite>(writer: &mut W, header: &PacketHeader) -> bool {
+    writer.build(header).is_ok() & gives(header.bytes::<u8>(), 3)
+}
+
+/// Whether it is parsed, and behind it one of another version is refused.
+fn parses_packets<R: ByteRead>(reader: &mut R, header: PacketHeader) -> bool {
+    let first: Result<PacketHeader, PacketError> = reader.parse();
+    let other: Result<PacketHeader, PacketError> = reader.parse();
+    gives(first, header) & matches!(other, Err(PacketError::UnsupportedVersion))
+}
+
 #[test]
 fn reads_types_of_whole_bytes(rt: HostRuntime) {
     let header = PacketHeader { length: 0x1234 };
-    let bytes = [1, 0x12, 0x34];
     let mut built = [0; 3];
     let mut writer = ByteWriter::<_, BE>::new(SliceMut::new(&mut built));
-    holds(&rt, writer.build(&header).is_ok() & (built == bytes));
-    holds(&rt, gives(header.bytes::<u8>(), 3));
-    let mut reader = ByteReader::<_, BE>::new(Slice::new(&bytes));
-    holds(&rt, gives(reader.parse::<PacketHeader>(), header));
-    let mut reader = ByteReader::<_, BE>::new(Slice::new(&[2, 0x12, 0x34]));
-    let other: Result<PacketHeader, PacketError> = reader.parse();
-    holds(&rt, matches!(other, Err(PacketError::UnsupportedVersion)));
+    holds(
+        &rt,
+        builds_packet(&mut writer, &header) & (built == [1, 0x12, 0x34]),
+    );
+    let mut reader = ByteReader::<_, BE>::new(Slice::new(&[1, 0x12, 0x34, 2, 0x12, 0x34]));
+    holds(&rt, parses_packets(&mut reader, header));
 }

@@ -1,10 +1,11 @@
 //! Readers and writers behind a request that was refused.
-use crate::asserts::{are, each_holds, ended, failed, gives, holds, same};
+use crate::asserts::{are, ended, failed, gives, holds, same};
 use bitstream_bench::{Count, Endless, Refuse};
 use bitstream_io::{
-    BE, BitRead, BitReadExt, BitReader, BitWriteExt, BitWriter, Bits, ByteRead, ByteReader, Error,
-    Slice,
+    BE, BitRead, BitReadExt, BitReader, BitWrite, BitWriteExt, BitWriter, Bits, ByteRead,
+    ByteReader, Error, Slice,
 };
+use std::alloc::Global;
 use std::io::ErrorKind;
 
 /// Whether a call answers that its stream refused with this kind.
@@ -12,9 +13,24 @@ fn refused<T: Drop>(answer: Result<T, Error>, wanted: ErrorKind) -> bool {
     matches!(answer, Err(Error::Stream(kind)) if kind == wanted)
 }
 
-/// A writer whose second byte is refused has failed, also for values of no bits, while an array of no
-/// items makes no call; it lends its stream no more, and gives it up. A reader whose second byte is refused
-/// has failed, and stands at no byte boundary.
+/// Whether a writer whose second byte is refused has failed, also for values of no bits, while an array
+/// of no items makes no call.
+fn fails_to_write<W: BitWrite>(writer: &mut W) -> bool {
+    writer.write::<Bits<8>, u8>(1).is_ok()
+        & refused(writer.write::<Bits<8>, u8>(2), ErrorKind::BrokenPipe)
+        & failed(writer.write::<Bits<0>, u8>(0))
+        & writer.write::<Bits<8>, [u8; 0]>([]).is_ok()
+}
+
+/// Whether a reader whose second byte is refused has failed, and stands at no byte boundary.
+fn fails_to_read<R: BitRead>(alloc: Global, reader: &mut R) -> bool {
+    gives(reader.read::<Bits<4>, u8>(), 11)
+        & refused(reader.read::<Bits<8>, u8>(), ErrorKind::ConnectionReset)
+        & !reader.byte_aligned()
+        & failed(reader.read_to_vec(alloc, 0))
+}
+
+/// A failed writer lends its stream no more, and gives it up.
 #[test]
 fn r13_faults(rt: HostRuntime) {
     let mut writer = BitWriter::<_, BE>::new(Refuse {
@@ -22,27 +38,14 @@ fn r13_faults(rt: HostRuntime) {
         left: 1,
         kind: ErrorKind::BrokenPipe,
     });
-    let answers = [
-        writer.write::<Bits<8>, u8>(1).is_ok(),
-        refused(writer.write::<Bits<8>, u8>(2), ErrorKind::BrokenPipe),
-        failed(writer.write::<Bits<0>, u8>(0)),
-        writer.write::<Bits<8>, [u8; 0]>([]).is_ok(),
-        writer.writer().is_none(),
-    ];
-    each_holds(&rt, &answers);
+    holds(&rt, fails_to_write(&mut writer) & writer.writer().is_none());
     are(&rt, &writer.into_writer().inner, &[1]);
     let mut reader = BitReader::<_, BE>::new(Refuse {
         inner: [0xb1, 0xed].as_slice(),
         left: 1,
         kind: ErrorKind::ConnectionReset,
     });
-    let answers = [
-        gives(reader.read::<Bits<4>, u8>(), 11),
-        refused(reader.read::<Bits<8>, u8>(), ErrorKind::ConnectionReset),
-        !reader.byte_aligned(),
-        failed(reader.read_to_vec(rt.alloc(), 0)),
-    ];
-    each_holds(&rt, &answers);
+    holds(&rt, fails_to_read(rt.alloc(), &mut reader));
 }
 
 /// A length that no stream has ends with the bytes: a reader of bits has failed then, and one of bytes

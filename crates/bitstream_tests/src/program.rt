@@ -369,15 +369,16 @@ const DEMANDS: [Demand; 9] = [
     Demand(Row("repack be u7", D, b"", "", 4), 3, (1, 0, 1)),
 ];
 
+/// Whether a call leaves as many bytes and makes as many requests.
+fn asks_for(alloc: Global, demand: &Demand) -> bool {
+    let ended = play(alloc, demand.0.0, demand.0.1, false, NONE);
+    (ended.left == demand.1) & (ended.requests == demand.2)
+}
+
 #[test]
 fn asks_for_no_byte_more(rt: HostRuntime) {
-    for Demand(row, left, requests) in &DEMANDS {
-        let ended = play(rt.alloc(), row.0, row.1, false, NONE);
-        holds_of(
-            &rt,
-            (ended.left == *left) & (ended.requests == *requests),
-            row.0,
-        );
+    for demand in &DEMANDS {
+        holds_of(&rt, asks_for(rt.alloc(), demand), demand.0.0);
     }
 }
 
