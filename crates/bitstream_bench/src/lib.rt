@@ -1,17 +1,49 @@
-//! Streams for tests: one that drips, one that refuses, one that refuses once, one that counts and one
-//! that never ends; and memory that refuses.
+//! All tests: of the library's crates, with the examples of the doc comments, of its callers, and of
+//! `bitfields_core`; and what they need of a user's own: a prefix code, and functions over bytes in memory
+//! whose contracts tell all that they answer. The crate has nothing else, so that nothing is proved twice.
 #![tactic(auto)]
 
-mod count;
-mod drip;
-mod endless;
-mod memory;
-mod refuse;
-mod refuse_once;
-
-pub use count::Count;
-pub use drip::Drip;
-pub use endless::Endless;
-pub use memory::RefuseMemory;
-pub use refuse::Refuse;
-pub use refuse_once::RefuseOnce;
+#[cfg(test)]
+mod asserts;
+#[cfg(test)]
+mod bytes;
+#[cfg(test)]
+mod callers;
+#[cfg(test)]
+mod checked;
+#[cfg(test)]
+mod codes;
+#[cfg(test)]
+mod counts;
+#[cfg(test)]
+mod errors;
+#[cfg(test)]
+mod examples;
+#[cfg(test)]
+mod faults;
+#[cfg(test)]
+mod formats;
+#[cfg(test)]
+mod numbers;
+#[cfg(test)]
+mod older;
+#[cfg(test)]
+mod own;
+#[cfg(test)]
+mod program;
+#[cfg(test)]
+mod program_rows;
+#[cfg(test)]
+mod room;
+#[cfg(test)]
+mod script;
+#[cfg(test)]
+mod sign_code;
+#[cfg(test)]
+mod sinks;
+#[cfg(test)]
+mod sure;
+#[cfg(test)]
+mod whole_bytes;
+#[cfg(test)]
+mod words;

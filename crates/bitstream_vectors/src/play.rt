@@ -9,13 +9,13 @@ use crate::row::{Kind, Layer, Order, Row};
 use crate::sinks::{Recorder, sink_call};
 use crate::trio::Trio;
 use crate::whole::{read_whole, write_whole};
-use bitstream_bench::{Count, Drip, Refuse};
 use bitstream_io::{
     BE, BitReader, BitRecorder, BitWrite, BitWriter, BitsWritten, ByteReader, ByteWriter,
     Endianness, Error, LE, SeekSource, Slice, Source, Target,
 };
 use std::alloc::Global;
 use std::io::{ErrorKind, SeekFrom};
+use test_streams::{Count, Drip, Refuse};
 
 /// A request that a stream refuses, as each later one.
 #[derive(Clone, Copy, Drop)]

@@ -1,0 +1,88 @@
+//! Prefix codes: long chains, and memory that is refused. Worked rows are played by `bitstream_vectors`.
+use crate::asserts::{gives, same};
+use bitstream_io::huffman::HuffmanTree;
+use bitstream_io::{BE, BitRead, BitReadExt, BitReader, BitWrite, BitWriteExt, BitWriter, Slice};
+use std::alloc::{AllocError, Global};
+use test_streams::RefuseMemory;
+
+type Tree = HuffmanTree<u16, Global>;
+
+/// The tree of one symbol more than the given number, from 0 on, each a bit longer than the one before it.
+fn chain(alloc: Global, branches: u16) -> Result<Tree, AllocError> {
+    let mut tree = HuffmanTree::leaf(alloc, branches)?;
+    for below in 0..branches {
+        tree = HuffmanTree::node(HuffmanTree::leaf(alloc, branches - 1 - below)?, tree)?;
+    }
+    Ok(tree)
+}
+
+/// Whether these symbols are read, one after another.
+fn reads<R: BitRead>(reader: &mut R, tree: &Tree, symbols: &[u16]) -> bool {
+    let mut same = true;
+    for symbol in symbols {
+        same &= gives(reader.read_huffman(tree), *symbol);
+    }
+    same
+}
+
+/// Writes the symbols' words, the last one filled up.
+fn writes<W: BitWrite>(writer: &mut W, tree: &Tree, symbols: &[u16]) -> bool {
+    let mut written = true;
+    for symbol in symbols {
+        written &= writer.write_huffman(tree, *symbol).is_ok();
+    }
+    written & writer.byte_align().is_ok()
+}
+
+/// Writes the symbols one behind the other and reads them back, and returns how many bytes they take, or
+/// none if they are not the same.
+fn come_back(alloc: Global, tree: &Tree, symbols: &[u16]) -> Option<usize> {
+    let mut writer = BitWriter::<_, BE>::new(Vec::new(alloc));
+    let written = writes(&mut writer, tree, symbols);
+    let bytes = writer.into_writer();
+    let read = reads(
+        &mut BitReader::<_, BE>::new(Slice::new(&bytes)),
+        tree,
+        symbols,
+    );
+    if written & read {
+        Some(bytes.len())
+    } else {
+        None
+    }
+}
+
+#[test]
+fn r12_flat_trees(rt: HostRuntime) {
+    let tree = chain(rt.alloc(), 199).expect(&rt, "memory is left");
+    for symbol in 0..200 {
+        let bytes = come_back(rt.alloc(), &tree, &[symbol]);
+        same(&rt, bytes, Some((usize::from(symbol.min(198)) + 8) / 8));
+    }
+}
+
+#[test]
+fn r12_long_chain(rt: HostRuntime) {
+    let tree = chain(rt.alloc(), 10000).expect(&rt, "memory is left");
+    // The words have 1, 10000, 5001, 2 and 10000 bits.
+    let bytes = come_back(rt.alloc(), &tree, &[0, 10000, 5000, 1, 9999]);
+    same(&rt, bytes, Some(3126));
+}
+
+/// The tree of 20 symbols whose nodes have memory for the given number of blocks.
+fn grown(alloc: Global, served: u32) -> Result<HuffmanTree<u16, RefuseMemory<Global>>, AllocError> {
+    let mut tree = HuffmanTree::leaf(RefuseMemory::new(alloc, served), 0)?;
+    for symbol in 1..20 {
+        let leaf = HuffmanTree::leaf(RefuseMemory::new(alloc, served), symbol)?;
+        tree = HuffmanTree::node(tree, leaf)?;
+    }
+    Ok(tree)
+}
+
+#[test]
+fn each_growth_of_a_tree_may_lack_memory(rt: HostRuntime) {
+    for served in 0..6 {
+        let made = grown(rt.alloc(), served).is_ok();
+        same(&rt, (served, made), (served, served == 5));
+    }
+}

@@ -1,0 +1,373 @@
+//! The examples of the doc comments and of the front page, made by `.ci/examples` and compared by the
+//! gate: to change one, change it where it stands.
+use crate::asserts::{are, holds, same};
+
+#[test]
+fn example_of_bit_count(rt: HostRuntime) {
+    use bitstream_io::{BitCount, Count};
+
+    let count = BitCount::<8>::new::<5>();
+    same(&rt, count.checked_add::<16>(11).map(|sum| sum.bits()), Some(16));
+    same(&rt, count.checked_add::<16>(12).map(|sum| sum.bits()), None);
+    let range = count.range::<u8>();
+    same(&rt, (*range.start(), *range.end()), (0, 31));
+}
+
+#[test]
+fn example_of_checked(rt: HostRuntime) {
+    use bitstream_io::{BitCount, CheckedError, CheckedUnsigned};
+
+    let count = BitCount::<8>::new::<3>();
+    let value = CheckedUnsigned::new(count, 7u8);
+    same(&rt, value.map(|v| v.into_value()).ok(), Some(7));
+    let value = CheckedUnsigned::new(count, 8u8);
+    holds(&rt, matches!(value, Err(CheckedError::ExcessiveValue)));
+}
+
+#[test]
+fn example_of_lsb_mask(rt: HostRuntime) {
+    use bitstream_io::BitCount;
+
+    let (high, low) = BitCount::<8>::new::<3>().mask_lsb::<u8>().split(222);
+    same(&rt, high, 27);
+    same(&rt, low.into_value(), 6);
+}
+
+#[test]
+fn example_of_signed_bit_count(rt: HostRuntime) {
+    use bitstream_io::{SignedBitCount, SignedCount};
+
+    let count = SignedBitCount::<8>::new::<4>();
+    let range = count.range::<i8>();
+    same(&rt, (*range.start(), *range.end()), (-8, 7));
+    same(&rt, count.checked_sub::<8>(4).map(|left| left.bits()), None);
+}
+
+#[test]
+fn example_of_bit_read2(rt: HostRuntime) {
+    use bitstream_io::{BE, BitRead2, BitReader, Error};
+
+    let mut reader = BitReader::<_, BE>::new([0xb1, 0xed, 0x3b, 0xc1].as_slice());
+    for (bits, value) in [(2, 2), (3, 6), (5, 7), (3, 5), (19, 342977)] {
+        same(&rt, reader.read::<u32>(bits).expect(&rt, "no error"), value);
+    }
+    holds(&rt, matches!(reader.read::<u32>(1), Err(Error::EndOfInput)));
+}
+
+#[test]
+fn example_of_bit_write2(rt: HostRuntime) {
+    use bitstream_io::{BE, BitWrite2, BitWriter, Bits};
+
+    let mut bytes = Vec::new(rt.alloc());
+    let mut writer = BitWriter::<_, BE>::new(&mut bytes);
+    writer.write_out::<Bits<4>, u8>(10).expect(&rt, "no error");
+    writer.write_unsigned_out::<Bits<2>, u8>(2).expect(&rt, "no error");
+    writer.write_signed_out::<Bits<2>, i8>(-1).expect(&rt, "no error");
+    writer.write_unary0(3).expect(&rt, "no error");
+    writer.write_unsigned(4, 5u8).expect(&rt, "no error");
+    are(&rt, bytes.as_slice(), [0xab, 0xe5].as_slice());
+}
+
+#[test]
+fn example_of_front(rt: HostRuntime) {
+    use bitstream_io::{BE, BitReadExt, BitReader, Bits};
+
+    let bytes = [0xbe, 0xff, 0xff, 0x80];
+    let mut reader = BitReader::<_, BE>::over(&bytes);
+    let kind = reader.read::<Bits<3>, u8>().expect(&rt, "no error");
+    let level = reader.read::<Bits<5>, i8>().expect(&rt, "no error");
+    let size: u32 = reader.read_var(17).expect(&rt, "no error");
+    same(&rt, (kind, level, size), (5, -2, 131071));
+}
+
+#[test]
+fn example_of_unsigned_integer(rt: HostRuntime) {
+    use bitstream_io::UnsignedInteger;
+
+    same(&rt, UnsignedInteger::checked_shl(3u8, 7), Some(128));
+    same(&rt, UnsignedInteger::checked_shl(3u8, 8), None);
+    same(&rt, UnsignedInteger::shl_default(3u8, 8), 0);
+}
+
+#[test]
+fn example_of_growing(rt: HostRuntime) {
+    use bitstream_io::{BE, BitWrite, BitWriter, Growing};
+
+    let mut writer = BitWriter::<_, BE>::new(Growing::new(Vec::new(rt.alloc())));
+    writer.write_unsigned_var(12, 0xb1e_u16).expect(&rt, "no error");
+    writer.byte_align().expect(&rt, "no error");
+    are(&rt, writer.into_writer().as_slice(), [0xb1, 0xe0].as_slice());
+}
+
+#[test]
+fn example_of_lent(rt: HostRuntime) {
+    use bitstream_io::{BE, BitRead, BitReader, Lent};
+
+    let mut bytes: &[u8] = &[0x12, 0x34];
+    let mut reader = BitReader::<_, BE>::new(Lent::new(&mut bytes));
+    same(&rt, reader.read_unsigned_var::<u8>(4).expect(&rt, "no error"), 1);
+    same(&rt, bytes, [0x34].as_slice());
+}
+
+#[test]
+fn example_of_slice(rt: HostRuntime) {
+    use bitstream_io::{BE, BitRead, BitReader, Error, Slice};
+
+    let mut reader = BitReader::<_, BE>::new(Slice::new(&[0xb1, 0xed]));
+    same(&rt, reader.read_unsigned_var::<u16>(12).expect(&rt, "no error"), 0xb1e);
+    holds(&rt, matches!(reader.read_unsigned_var::<u8>(8), Err(Error::EndOfInput)));
+}
+
+#[test]
+fn example_of_slice_mut(rt: HostRuntime) {
+    use bitstream_io::{BE, BitWrite, BitWriter, SliceMut};
+
+    let mut buffer = [0u8; 4];
+    let mut writer = BitWriter::<_, BE>::new(SliceMut::new(&mut buffer));
+    writer.write_unsigned_var(12, 0xb1e_u16).expect(&rt, "no error");
+    writer.byte_align().expect(&rt, "no error");
+    let packed = writer.into_writer();
+    are(&rt, packed.as_slice(), [0xb1, 0xe0].as_slice());
+    same(&rt, packed.free(), 2);
+}
+
+#[test]
+fn example_of_bit_counter(rt: HostRuntime) {
+    use bitstream_io::{BE, BitCounter, BitWrite};
+
+    let mut counter = BitCounter::<u8, BE>::new();
+    counter.write_signed_var::<i8>(4, -3).expect(&rt, "no error");
+    counter.write_bit(true).expect(&rt, "no error");
+    same(&rt, counter.into_written(), 5);
+}
+
+#[test]
+fn example_of_bit_recorder(rt: HostRuntime) {
+    use bitstream_io::{BE, BitRecorder, BitWrite, BitWriter, Growing};
+
+    let mut recorder = BitRecorder::<u32, BE, _>::new(rt.alloc());
+    recorder.write_unsigned_var(12, 0xb1e_u16).expect(&rt, "no error");
+    let bits = recorder.written_checked().expect(&rt, "no error");
+    let mut writer = BitWriter::<_, BE>::new(Growing::new(Vec::new(rt.alloc())));
+    writer.write_unsigned_var(4, bits).expect(&rt, "no error");
+    recorder.playback(&mut writer).expect(&rt, "no error");
+    are(&rt, writer.into_writer().as_slice(), [0xcb, 0x1e].as_slice());
+}
+
+#[test]
+fn example_of_bits_written(rt: HostRuntime) {
+    use bitstream_io::{BitWrite, BitsWritten, Bits};
+
+    let mut counter = BitsWritten::<u16>::new();
+    counter.write_unsigned_var(3, 5u8).expect(&rt, "no error");
+    counter.write_unary::<Bits<0>>(2).expect(&rt, "no error");
+    counter.byte_align().expect(&rt, "no error");
+    counter.write_bytes(&[1, 2]).expect(&rt, "no error");
+    same(&rt, counter.written(), 24);
+}
+
+#[test]
+fn example_of_byte_read(rt: HostRuntime) {
+    use bitstream_io::{BE, ByteRead, ByteReader, Error, LE, Slice};
+
+    let mut reader = ByteReader::<_, BE>::new(Slice::new(&[0xb1, 0xed, 0x3b, 0xc1]));
+    same(&rt, reader.read::<u16>().expect(&rt, "no error"), 0xb1ed);
+    same(&rt, reader.read_as::<LE, u16>().expect(&rt, "no error"), 0xc13b);
+    holds(&rt, matches!(reader.read::<u8>(), Err(Error::EndOfInput)));
+}
+
+#[test]
+fn example_of_byte_reader(rt: HostRuntime) {
+    use bitstream_io::{ByteRead, ByteReader, LE, Slice};
+
+    let mut reader = ByteReader::<_, LE>::new(Slice::new(&[0x01, 0x02, 0x03, 0x04, 0x05]));
+    same(&rt, reader.read::<u16>().expect(&rt, "no error"), 0x0201);
+    reader.skip(1).expect(&rt, "no error");
+    same(&rt, reader.read_to_bytes::<[u8; 2]>().expect(&rt, "no error"), [0x04, 0x05]);
+}
+
+#[test]
+fn example_of_byte_write(rt: HostRuntime) {
+    use bitstream_io::{BE, ByteWrite, ByteWriter, LE};
+
+    let mut bytes = Vec::new(rt.alloc());
+    let mut writer = ByteWriter::<_, BE>::new(&mut bytes);
+    writer.write_as::<LE, u16>(1).expect(&rt, "no error");
+    writer.pad(3).expect(&rt, "no error");
+    are(&rt, bytes.as_slice(), [1, 0, 0, 0, 0].as_slice());
+}
+
+#[test]
+fn example_of_byte_writer(rt: HostRuntime) {
+    use bitstream_io::{ByteWrite, ByteWriter, LE};
+
+    let mut bytes = Vec::new(rt.alloc());
+    let mut writer = ByteWriter::<_, LE>::new(&mut bytes);
+    writer.write(0x0201_u16).expect(&rt, "no error");
+    writer.write_bytes(&[3, 4]).expect(&rt, "no error");
+    are(&rt, bytes.as_slice(), [1, 2, 3, 4].as_slice());
+}
+
+#[test]
+fn example_of_bit_reader_over(rt: HostRuntime) {
+    use bitstream_io::{BE, BitRead, BitReader, Error};
+
+    let mut reader = BitReader::<_, BE>::over(&[0xb1, 0xed]);
+    same(&rt, reader.read_unsigned_var::<u16>(12).expect(&rt, "no error"), 0xb1e);
+    holds(&rt, matches!(reader.read_unsigned_var::<u8>(8), Err(Error::EndOfInput)));
+}
+
+#[test]
+fn example_of_bit_writer_over(rt: HostRuntime) {
+    use bitstream_io::{BE, BitWrite, BitWriter};
+
+    let mut buffer = [0u8; 4];
+    let mut writer = BitWriter::<_, BE>::over(&mut buffer);
+    writer.write_unsigned_var(12, 0xb1e_u16).expect(&rt, "no error");
+    writer.byte_align().expect(&rt, "no error");
+    are(&rt, writer.into_writer().as_slice(), [0xb1, 0xe0].as_slice());
+}
+
+#[test]
+fn example_of_bit_place(rt: HostRuntime) {
+    use bitstream_io::read::bit_place;
+    use std::io::SeekFrom;
+
+    same(&rt, bit_place(4, 0, SeekFrom::End(7)), Some(25));
+    same(&rt, bit_place(4, 3, SeekFrom::Current(-30)), None);
+}
+
+#[test]
+fn example_of_bit_read(rt: HostRuntime) {
+    use bitstream_io::{BE, BitCount, BitRead, BitReader, Bits, Error};
+
+    let mut reader = BitReader::<_, BE>::new([0x7e, 0x58].as_slice());
+    reader.read_const::<Bits<4>, Bits<7>, Error>(Error::NoSignBit).expect(&rt, "no error");
+    same(&rt, reader.read_signed::<Bits<4>, i32>().expect(&rt, "no error"), -2);
+    let last = reader.read_count::<BitCount<7>>().expect(&rt, "no error");
+    same(&rt, reader.read_unsigned_counted::<_, u8>(last).expect(&rt, "no error"), 3);
+    reader.byte_align();
+    holds(&rt, matches!(reader.read_bit(), Err(Error::EndOfInput)));
+    holds(&rt, matches!(reader.read_bit(), Err(Error::Failed)));
+}
+
+#[test]
+fn example_of_bit_reader(rt: HostRuntime) {
+    use bitstream_io::{BE, BitRead, BitReader, Bits, Error, Slice};
+
+    let mut reader = BitReader::<_, BE>::new(Slice::new(&[0xb1, 0xed]));
+    let kind: u8 = reader.read_unsigned::<Bits<2>, _>().expect(&rt, "no error");
+    let level: i8 = reader.read_signed_var(3).expect(&rt, "no error");
+    same(&rt, kind, 2);
+    same(&rt, level, -2);
+    reader.byte_align();
+    same(&rt, reader.read_unsigned_var::<u8>(8).expect(&rt, "no error"), 0xed);
+    holds(&rt, matches!(reader.read_bit(), Err(Error::EndOfInput)));
+}
+
+#[test]
+fn example_of_bit_reader_seek_bits(rt: HostRuntime) {
+    use bitstream_io::{BE, BitRead, BitReader, Error};
+    use std::io::{Cursor, SeekFrom};
+
+    let bytes = Cursor::new([0xb1, 0xed, 0x3b, 0xc1].as_slice());
+    let mut reader = BitReader::<_, BE>::new(bytes);
+    same(&rt, reader.seek_bits(SeekFrom::End(7)).expect(&rt, "no error"), 25);
+    same(&rt, reader.read_unsigned_var::<u8>(7).expect(&rt, "no error"), 0x41);
+    same(&rt, reader.seek_bits(SeekFrom::Current(-24)).expect(&rt, "no error"), 8);
+    same(&rt, reader.read_unsigned_var::<u8>(8).expect(&rt, "no error"), 0xed);
+    holds(&rt, matches!(reader.seek_bits(SeekFrom::Current(-17)), Err(Error::Place)));
+    same(&rt, reader.position_in_bits().expect(&rt, "no error"), 16);
+}
+
+#[test]
+fn example_of_bit_write(rt: HostRuntime) {
+    use bitstream_io::{BE, BitCount, BitWrite, BitWriter, Bits};
+
+    let mut bytes = Vec::new(rt.alloc());
+    let mut writer = BitWriter::<_, BE>::new(&mut bytes);
+    let count = BitCount::<7>::new::<2>();
+    writer.write_const::<Bits<4>, Bits<7>>().expect(&rt, "no error");
+    writer.write_signed::<Bits<4>, i32>(-2).expect(&rt, "no error");
+    writer.write_count(count).expect(&rt, "no error");
+    writer.write_unsigned_counted(count, 3u8).expect(&rt, "no error");
+    writer.byte_align().expect(&rt, "no error");
+    are(&rt, bytes.as_slice(), [0x7e, 0x58].as_slice());
+}
+
+#[test]
+fn example_of_bit_writer(rt: HostRuntime) {
+    use bitstream_io::{BE, BitWrite, BitWriter, Bits};
+
+    let mut bytes = Vec::new(rt.alloc());
+    let mut writer = BitWriter::<_, BE>::new(&mut bytes);
+    writer.write_unsigned::<Bits<4>, u8>(0xb).expect(&rt, "no error");
+    writer.write_signed_var::<i8>(4, -3).expect(&rt, "no error");
+    writer.write_bit(true).expect(&rt, "no error");
+    writer.byte_align().expect(&rt, "no error");
+    are(&rt, bytes.as_slice(), [0xbd, 0x80].as_slice());
+}
+
+#[test]
+fn example_of_checkable(rt: HostRuntime) {
+    use bitstream_io::{BE, BitCount, BitReadExt, BitReader, BitWriteExt, BitWriter};
+    use bitstream_io::{Checkable, CheckedUnsigned};
+
+    let mut reader = BitReader::<_, BE>::new([0xb7].as_slice());
+    let level: CheckedUnsigned<8, u8> = reader.read_checked(BitCount::new::<4>()).expect(&rt, "no error");
+    same(&rt, (level.written_bits(), level.into_value()), (4, 11));
+    let mut bytes = Vec::new(rt.alloc());
+    let mut writer = BitWriter::<_, BE>::new(&mut bytes);
+    writer.write_checked(level).expect(&rt, "no error");
+    writer.write_checked(level).expect(&rt, "no error");
+    are(&rt, bytes.as_slice(), [0xbb].as_slice());
+}
+
+#[test]
+fn example_of_limited_unary(rt: HostRuntime) {
+    use bitstream_io::{BE, BitReadExt, BitReader};
+    use bitstream_io::huffman::LimitedUnary;
+
+    let mut reader = BitReader::<_, BE>::new([0x20].as_slice());
+    let run = LimitedUnary::<1, 3> {};
+    same(&rt, reader.read_huffman(&run).expect(&rt, "no error"), Some(2));
+    same(&rt, reader.read_huffman(&run).expect(&rt, "no error"), None);
+}
+
+#[test]
+fn example_of_huffman_tree(rt: HostRuntime) {
+    use bitstream_io::{BE, BitReadExt, BitReader};
+    use bitstream_io::huffman::HuffmanTree;
+
+    let alloc = rt.alloc();
+    let end = HuffmanTree::node(HuffmanTree::leaf(alloc, 'b').expect(&rt, "no error"), HuffmanTree::leaf(alloc, 'c').expect(&rt, "no error")).expect(&rt, "no error");
+    let tree = HuffmanTree::node(HuffmanTree::leaf(alloc, 'a').expect(&rt, "no error"), end).expect(&rt, "no error");
+    let mut reader = BitReader::<_, BE>::new([0x98].as_slice());
+    same(&rt, reader.read_huffman(&tree).expect(&rt, "no error"), 'b');
+    same(&rt, reader.read_huffman(&tree).expect(&rt, "no error"), 'a');
+    same(&rt, reader.read_huffman(&tree).expect(&rt, "no error"), 'c');
+}
+
+#[test]
+fn example_of_bit_read_ext(rt: HostRuntime) {
+    use bitstream_io::{BitRead, BitReadExt, BitReader, Bits, LE};
+    use std::num::NonZero;
+
+    let mut reader = BitReader::<_, LE>::new([0x0d, 0x03].as_slice());
+    let flags = reader.read::<Bits<1>, [bool; 4]>().expect(&rt, "no error");
+    same(&rt, flags, [true, false, true, true]);
+    reader.byte_align();
+    let track: Option<NonZero<u8>> = reader.read_var(2).expect(&rt, "no error");
+    same(&rt, track.map(|n| n.get()), Some(3));
+}
+
+#[test]
+fn example_of_bit_write_ext(rt: HostRuntime) {
+    use bitstream_io::{BitWriteExt, BitWriter, Bits, LE};
+
+    let mut bytes = Vec::new(rt.alloc());
+    let mut writer = BitWriter::<_, LE>::new(&mut bytes);
+    writer.write::<Bits<1>, [bool; 4]>([true, false, true, true]).expect(&rt, "no error");
+    writer.write_var::<i8>(4, -1).expect(&rt, "no error");
+    are(&rt, bytes.as_slice(), [0xfd].as_slice());
+}

@@ -1,0 +1,104 @@
+//! Readers and writers behind a request that was refused.
+use crate::asserts::{are, ended, failed, gives, holds, same};
+use bitstream_io::{
+    BE, BitRead, BitReadExt, BitReader, BitWrite, BitWriteExt, BitWriter, Bits, ByteRead,
+    ByteReader, Error, Slice,
+};
+use std::alloc::Global;
+use std::io::ErrorKind;
+use test_streams::{Count, Endless, Refuse};
+
+/// Whether a call answers that its stream refused with this kind.
+fn refused<T: Drop>(answer: Result<T, Error>, wanted: ErrorKind) -> bool {
+    matches!(answer, Err(Error::Stream(kind)) if kind == wanted)
+}
+
+/// Whether a writer whose second byte is refused has failed, also for values of no bits, while an array
+/// of no items makes no call.
+fn fails_to_write<W: BitWrite>(writer: &mut W) -> bool {
+    writer.write::<Bits<8>, u8>(1).is_ok()
+        & refused(writer.write::<Bits<8>, u8>(2), ErrorKind::BrokenPipe)
+        & failed(writer.write::<Bits<0>, u8>(0))
+        & writer.write::<Bits<8>, [u8; 0]>([]).is_ok()
+}
+
+/// Whether a reader whose second byte is refused has failed, and stands at no byte boundary.
+fn fails_to_read<R: BitRead>(alloc: Global, reader: &mut R) -> bool {
+    gives(reader.read::<Bits<4>, u8>(), 11)
+        & refused(reader.read::<Bits<8>, u8>(), ErrorKind::ConnectionReset)
+        & !reader.byte_aligned()
+        & failed(reader.read_to_vec(alloc, 0))
+}
+
+/// A failed writer lends its stream no more, and gives it up.
+#[test]
+fn r13_faults(rt: HostRuntime) {
+    let mut writer = BitWriter::<_, BE>::new(Refuse {
+        inner: Vec::new(rt.alloc()),
+        left: 1,
+        kind: ErrorKind::BrokenPipe,
+    });
+    holds(&rt, fails_to_write(&mut writer) & writer.writer().is_none());
+    are(&rt, &writer.into_writer().inner, &[1]);
+    let mut reader = BitReader::<_, BE>::new(Refuse {
+        inner: [0xb1, 0xed].as_slice(),
+        left: 1,
+        kind: ErrorKind::ConnectionReset,
+    });
+    holds(&rt, fails_to_read(rt.alloc(), &mut reader));
+}
+
+/// A length that no stream has ends with the bytes: a reader of bits has failed then, and one of bytes
+/// answers for each call.
+#[test]
+fn r14_hostile(rt: HostRuntime) {
+    let bytes = [7; 10];
+    let mut bits = BitReader::<_, BE>::new(Slice::new(&bytes));
+    holds(&rt, ended(bits.read_to_vec(rt.alloc(), usize::MAX)));
+    holds(&rt, failed(bits.read_to_vec(rt.alloc(), 0)));
+    let mut whole = ByteReader::<_, BE>::new(Slice::new(&bytes));
+    holds(&rt, ended(whole.read_to_vec(rt.alloc(), usize::MAX)));
+    holds(&rt, whole.read_to_vec(rt.alloc(), 0).is_ok());
+}
+
+/// A reader of one byte for ever, whose requests are counted.
+fn endless(byte: u8) -> BitReader<Count<Endless>, BE> {
+    BitReader::new(Count {
+        inner: Endless { byte },
+        requests: 0,
+        refused: 0,
+    })
+}
+
+/// Whether a read stopped behind the group that passes its type, at a byte boundary, after as many
+/// requests, each of which was for a byte.
+fn stopped<U: Drop>(
+    answer: Result<U, Error>,
+    reader: BitReader<Count<Endless>, BE>,
+    requests: u64,
+) -> bool {
+    let passed = matches!(answer, Err(Error::VariableWidthOverflow));
+    passed & reader.byte_aligned() & (reader.into_reader().requests == requests)
+}
+
+#[test]
+fn r14_groups_that_never_end(rt: HostRuntime) {
+    let mut reader = endless(0xff);
+    let answer = reader.read_unsigned_vbr::<Bits<4>, u64>();
+    holds(&rt, stopped(answer, reader, 11));
+    let mut reader = endless(0xff);
+    let answer = reader.read_unsigned_vbr::<Bits<8>, u64>();
+    holds(&rt, stopped(answer, reader, 10));
+    let mut reader = endless(0xff);
+    let answer = reader.read_unsigned_vbr::<Bits<2>, u128>();
+    holds(&rt, stopped(answer, reader, 32));
+}
+
+/// A run of 2^32 zeros is too long, behind as many bytes, each by a request of its own.
+#[test]
+fn r14_a_run_that_never_ends(rt: HostRuntime) {
+    let mut reader = endless(0);
+    let too_long = matches!(reader.read_unary::<Bits<1>>(), Err(Error::RunTooLong));
+    holds(&rt, too_long & failed(reader.read_bit()));
+    same(&rt, reader.into_reader().requests, 536870912);
+}

@@ -1,0 +1,395 @@
+//! Whole calls of the program, from bytes to bytes, over streams that count their requests and may
+//! refuse one of them.
+use crate::asserts::{holds, holds_of, same};
+use crate::program_rows::{
+    BYTES, CONSTANTS, D, HEADLINE, PACKED, PIPELINES, REDUNDANT, REPACKED, REPACKINGS, ROWS, Row,
+    SIZED, SIZES, UNPACKED,
+};
+use bitfields_core::run::run;
+use bitfields_core::{Fault, Reason, parse_layout};
+use std::alloc::{AllocError, Global};
+use std::io::ErrorKind;
+use std::process::Abort;
+use test_streams::{Count, Drip, RefuseOnce};
+
+/// Which request of each stream is refused, if any: the first is 0. Each later one is served again.
+#[derive(Clone, Copy, Drop)]
+struct Refused {
+    input: Option<u32>,
+    output: Option<u32>,
+    faults: Option<u32>,
+    kind: ErrorKind,
+}
+
+const NONE: Refused = Refused {
+    input: None,
+    output: None,
+    faults: None,
+    kind: ErrorKind::Other,
+};
+
+/// What became of a call.
+#[derive(Drop)]
+struct Ended {
+    status: u8,
+    output: Vec<u8>,
+    faults: Vec<u8>,
+    /// How many bytes of the input were left.
+    left: usize,
+    /// How many requests were made of the input, of the output and of the stream for faults.
+    requests: (u64, u64, u64),
+}
+
+/// What stands on the stream for faults before a call.
+const BEFORE: &str = "before\n";
+
+/// The words of a text, or fewer if memory is refused.
+fn split(alloc: Global, text: &str) -> Vec<String> {
+    let mut words = Vec::new(alloc);
+    for word in text.split(' ') {
+        if let Ok(word) = String::from_str(alloc, word) {
+            let _ = words.push(word);
+        }
+    }
+    words
+}
+
+/// The bytes of a text, or none if memory is refused.
+fn bytes_of(alloc: Global, text: &str) -> Vec<u8> {
+    match String::from_str(alloc, text) {
+        Ok(text) => text.into_bytes(),
+        Err(_) => Vec::new(alloc),
+    }
+}
+
+fn stream<S>(inner: S, left: Option<u32>, kind: ErrorKind) -> Count<RefuseOnce<S>> {
+    let inner = RefuseOnce { inner, left, kind };
+    Count {
+        inner,
+        requests: 0,
+        refused: 0,
+    }
+}
+
+/// Runs a call over an input that gives its bytes at once, or drips.
+fn play(alloc: Global, words: &str, bytes: &[u8], drips: bool, refused: Refused) -> Ended {
+    let words = split(alloc, words);
+    let drip = Drip {
+        inner: bytes,
+        drips,
+    };
+    let mut input = stream(drip, refused.input, refused.kind);
+    let mut output = stream(Vec::new(alloc), refused.output, refused.kind);
+    let mut faults = stream(bytes_of(alloc, BEFORE), refused.faults, refused.kind);
+    let status = run(alloc, &words, &mut input, &mut output, &mut faults);
+    Ended {
+        status,
+        left: input.inner.inner.inner.len(),
+        requests: (input.requests, output.requests, faults.requests),
+        output: output.inner.inner,
+        faults: faults.inner.inner,
+    }
+}
+
+/// What stands on the stream for faults behind the line of this fault, or behind none if it is empty.
+fn faults_of(alloc: Global, fault: &str) -> Result<String, AllocError> {
+    if fault.is_empty() {
+        String::from_str(alloc, BEFORE)
+    } else {
+        format!(in alloc; "{BEFORE}bitfields: field {fault}\n")
+    }
+}
+
+/// Whether a call ended with this status, wrote these bytes, and printed the line of this fault, or
+/// nothing if there is none.
+fn ends(alloc: Global, ended: &Ended, status: u8, output: &[u8], fault: &str) -> bool {
+    let told = match faults_of(alloc, fault) {
+        Ok(faults) => ended.faults.as_slice() == faults.as_bytes(),
+        Err(_) => false,
+    };
+    told & (ended.status == status) & (ended.output.as_slice() == output)
+}
+
+/// Whether a row ends as it should, over an input that gives its bytes at once and over one that
+/// drips.
+fn is_right(alloc: Global, row: &Row) -> bool {
+    let at_once = play(alloc, row.0, row.1, false, NONE);
+    let dripping = play(alloc, row.0, row.1, true, NONE);
+    ends(alloc, &at_once, row.4, row.2, row.3) & ends(alloc, &dripping, row.4, row.2, row.3)
+}
+
+/// Asserts that each row ends as it should.
+fn are_right(rt: &impl Abort, alloc: Global, rows: &[Row]) {
+    for row in rows {
+        assert!(rt; is_right(alloc, row), "{} of {:?}", row.0, row.1);
+    }
+}
+
+#[test]
+fn r01_first_path(rt: HostRuntime) {
+    are_right(&rt, rt.alloc(), &ROWS);
+}
+
+#[test]
+fn r09_headline(rt: HostRuntime) {
+    are_right(&rt, rt.alloc(), &HEADLINE);
+}
+
+#[test]
+fn bytes_have_one_line(rt: HostRuntime) {
+    are_right(&rt, rt.alloc(), &BYTES);
+}
+
+#[test]
+fn r15_redundant(rt: HostRuntime) {
+    are_right(&rt, rt.alloc(), &REDUNDANT);
+}
+
+#[test]
+fn r16_repack(rt: HostRuntime) {
+    are_right(&rt, rt.alloc(), &REPACKINGS);
+}
+
+#[test]
+fn constants(rt: HostRuntime) {
+    are_right(&rt, rt.alloc(), &CONSTANTS);
+}
+
+#[test]
+fn counts_the_bits_of_values(rt: HostRuntime) {
+    are_right(&rt, rt.alloc(), &SIZES);
+}
+
+#[test]
+fn moves_records_of_other_formats(rt: HostRuntime) {
+    are_right(&rt, rt.alloc(), &PIPELINES);
+}
+
+/// A text and `,u1` behind it as often as this, or less often if memory is refused.
+fn with_fields(alloc: Global, first: &str, more: u32) -> String {
+    let mut text = String::new(alloc);
+    let _ = text.push_str(first);
+    for _ in 0..more {
+        let _ = text.push_str(",u1");
+    }
+    text
+}
+
+/// Whether a layout has 256 fields.
+fn has_256_fields(alloc: Global, text: &str) -> bool {
+    matches!(parse_layout(alloc, text), Ok(layout) if layout.fields().len() == 256)
+}
+
+/// Whether it has too many.
+fn has_too_many_fields(alloc: Global, text: &str) -> bool {
+    let wanted = Fault::new(0, Reason::TooManyFields);
+    matches!(parse_layout(alloc, text), Err(fault) if fault == wanted)
+}
+
+#[test]
+fn layouts_have_256_fields_at_most(rt: HostRuntime) {
+    let most = with_fields(rt.alloc(), "u1", 255);
+    holds(&rt, has_256_fields(rt.alloc(), most.as_str()));
+    // Their number comes before what they spell.
+    let past = with_fields(rt.alloc(), "x", 256);
+    holds(&rt, has_too_many_fields(rt.alloc(), past.as_str()));
+}
+
+/// Which stream refuses a request, and which of its requests, the first of which is 0.
+#[derive(Clone, Copy, Drop)]
+enum Refusing {
+    Input(u32),
+    Output(u32),
+}
+
+/// A call of which a request of the input or of the output is refused: which one, the field of its
+/// fault, how many of the row's bytes went before, and how many requests were made of the input, of the
+/// output and of the stream for faults.
+#[derive(Drop)]
+struct Refusal(Row, Refusing, usize, usize, (u64, u64, u64));
+
+const REFUSALS: [Refusal; 21] = [
+    // Reading to the end takes one request for the bytes and one that finds the end.
+    Refusal(PACKED, Refusing::Input(0), 0, 0, (1, 0, 1)),
+    Refusal(PACKED, Refusing::Input(1), 0, 0, (2, 0, 1)),
+    // The first byte is full at the third field, the others at the last, and a flush follows.
+    Refusal(PACKED, Refusing::Output(0), 0, 0, (2, 1, 1)),
+    Refusal(PACKED, Refusing::Output(1), 0, 1, (2, 2, 1)),
+    Refusal(PACKED, Refusing::Output(2), 0, 4, (2, 3, 1)),
+    // The bytes are needed at the first, the third and the last field.
+    Refusal(UNPACKED, Refusing::Input(0), 1, 0, (1, 0, 1)),
+    Refusal(UNPACKED, Refusing::Input(1), 3, 0, (2, 0, 1)),
+    Refusal(UNPACKED, Refusing::Input(2), 5, 0, (3, 0, 1)),
+    // All lines are one request, and a flush follows.
+    Refusal(UNPACKED, Refusing::Output(0), 0, 0, (3, 1, 1)),
+    Refusal(UNPACKED, Refusing::Output(1), 0, 15, (3, 2, 1)),
+    // All lines are read, then one line is one request, and a flush follows.
+    Refusal(SIZED, Refusing::Input(0), 0, 0, (1, 0, 1)),
+    Refusal(SIZED, Refusing::Input(1), 0, 0, (2, 0, 1)),
+    Refusal(SIZED, Refusing::Output(0), 0, 0, (2, 1, 1)),
+    Refusal(SIZED, Refusing::Output(1), 0, 3, (2, 2, 1)),
+    // The fields are read, then one byte more is asked for, and nothing was written before.
+    Refusal(REPACKED, Refusing::Input(0), 1, 0, (1, 0, 1)),
+    Refusal(REPACKED, Refusing::Input(1), 3, 0, (2, 0, 1)),
+    Refusal(REPACKED, Refusing::Input(2), 5, 0, (3, 0, 1)),
+    Refusal(REPACKED, Refusing::Input(3), 0, 0, (4, 0, 1)),
+    Refusal(REPACKED, Refusing::Output(0), 0, 0, (4, 1, 1)),
+    Refusal(REPACKED, Refusing::Output(1), 0, 1, (4, 2, 1)),
+    Refusal(REPACKED, Refusing::Output(2), 0, 4, (4, 3, 1)),
+];
+
+/// The kinds of refusals that are tried, with their reason.
+const KINDS: [(ErrorKind, &str); 2] = [
+    (ErrorKind::ConnectionReset, "stream fault"),
+    (ErrorKind::OutOfMemory, "out of memory"),
+];
+
+fn refused_at(refusing: Refusing, kind: ErrorKind) -> Refused {
+    match refusing {
+        Refusing::Input(at) => Refused {
+            input: Some(at),
+            kind,
+            ..NONE
+        },
+        Refusing::Output(at) => Refused {
+            output: Some(at),
+            kind,
+            ..NONE
+        },
+    }
+}
+
+/// Whether a call that had this request refused made it last, and asked for no output if it was the
+/// input's, or else made no such request.
+fn is_last(ended: &Ended, refusing: Refusing) -> Option<bool> {
+    let (input, output, _) = ended.requests;
+    match refusing {
+        Refusing::Input(at) if input > at as u64 => Some((input == at as u64 + 1) & (output == 0)),
+        Refusing::Output(at) if output > at as u64 => Some(output == at as u64 + 1),
+        _ => None,
+    }
+}
+
+/// Whether a row ends as it should if a request is refused. If the call makes it, the last line of its
+/// faults is a stream fault, nothing more is asked, and only a beginning of the row's bytes is written,
+/// or none at all if it was the input's request. If not, the row ends as ever.
+fn ends_at(alloc: Global, row: &Row, refusing: Refusing) -> bool {
+    let refused = refused_at(refusing, ErrorKind::ConnectionReset);
+    let ended = play(alloc, row.0, row.1, false, refused);
+    let Some(is_last) = is_last(&ended, refusing) else {
+        return ends(alloc, &ended, row.4, row.2, row.3);
+    };
+    let is_written = ended.output.is_empty() | (ended.requests.1 > 0);
+    is_last
+        & is_written
+        & row.2.starts_with(&ended.output)
+        & (ended.status == 5)
+        & ended.faults.ends_with(b": stream fault\n")
+}
+
+/// Whether a call ends as it should if its request is refused with this kind.
+fn ends_refused(alloc: Global, refusal: &Refusal, kind: ErrorKind, reason: &str) -> bool {
+    let Refusal(row, refusing, field, written, requests) = refusal;
+    let ended = play(alloc, row.0, row.1, false, refused_at(*refusing, kind));
+    let front = row.2.get(..*written).unwrap_or(b"");
+    match format!(in alloc; "{field}: {reason}") {
+        Ok(fault) => {
+            ends(alloc, &ended, 5, front, fault.as_str()) & (ended.requests == *requests)
+        }
+        Err(_) => false,
+    }
+}
+
+/// Whether a call ends as it should if its request is refused with either kind.
+fn ends_refused_by_each(alloc: Global, refusal: &Refusal) -> bool {
+    let mut right = true;
+    for (kind, reason) in KINDS {
+        right &= ends_refused(alloc, refusal, kind, reason);
+    }
+    right
+}
+
+#[test]
+fn asks_nothing_more_after_a_refusal(rt: HostRuntime) {
+    for (at, refusal) in REFUSALS.iter().enumerate() {
+        let right = ends_refused_by_each(rt.alloc(), refusal);
+        same(&rt, (at, right), (at, true));
+    }
+}
+
+/// Whether a row ends as it should if one of the first requests of its input or output is refused.
+fn ends_at_each(alloc: Global, row: &Row) -> bool {
+    let mut right = true;
+    for at in 0..8 {
+        right &= ends_at(alloc, row, Refusing::Input(at))
+            & ends_at(alloc, row, Refusing::Output(at));
+    }
+    right
+}
+
+#[test]
+fn each_request_of_a_repacking_may_be_refused(rt: HostRuntime) {
+    for row in &REPACKINGS {
+        holds_of(&rt, ends_at_each(rt.alloc(), row), row.0);
+    }
+}
+
+/// Whether an unpacking whose input says at this request that it ends is told as that.
+fn ends_at_an_end(alloc: Global, input: u32, fault: &str) -> bool {
+    let refused = Refused {
+        input: Some(input),
+        kind: ErrorKind::UnexpectedEof,
+        ..NONE
+    };
+    let ended = play(alloc, UNPACKED.0, UNPACKED.1, false, refused);
+    ends(alloc, &ended, 4, b"", fault)
+}
+
+#[test]
+fn an_end_is_no_stream_fault(rt: HostRuntime) {
+    holds(&rt, ends_at_an_end(rt.alloc(), 0, "1: bits ended"));
+    holds(&rt, ends_at_an_end(rt.alloc(), 1, "3: bits ended"));
+    holds(&rt, ends_at_an_end(rt.alloc(), 2, "5: bits ended"));
+}
+
+/// The call and the input of a row, how many bytes of the input are left, and how many requests are made
+/// of the input, of the output and of the stream for faults.
+#[derive(Drop)]
+struct Demand(Row, usize, (u64, u64, u64));
+
+const DEMANDS: [Demand; 9] = [
+    Demand(PACKED, 0, (2, 3, 0)),
+    Demand(UNPACKED, 0, (3, 2, 0)),
+    Demand(Row("unpack be u2,u3,u5", D, b"", "", 0), 2, (2, 2, 0)),
+    Demand(Row("unpack le a", D, b"", "", 0), 4, (0, 2, 0)),
+    Demand(Row("pack be u8,v5", D, b"", "", 2), 4, (0, 0, 1)),
+    Demand(SIZED, 0, (2, 2, 0)),
+    Demand(Row("repack be u8", D, b"", "", 4), 2, (2, 0, 1)),
+    Demand(REPACKED, 0, (4, 3, 0)),
+    Demand(Row("repack be u7", D, b"", "", 4), 3, (1, 0, 1)),
+];
+
+/// Whether a call leaves as many bytes and makes as many requests.
+fn asks_for(alloc: Global, demand: &Demand) -> bool {
+    let ended = play(alloc, demand.0.0, demand.0.1, false, NONE);
+    (ended.left == demand.1) & (ended.requests == demand.2)
+}
+
+#[test]
+fn asks_for_no_byte_more(rt: HostRuntime) {
+    for demand in &DEMANDS {
+        holds_of(&rt, asks_for(rt.alloc(), demand), demand.0.0);
+    }
+}
+
+#[test]
+fn keeps_its_status_if_no_fault_can_be_printed(rt: HostRuntime) {
+    let refused = Refused {
+        faults: Some(0),
+        kind: ErrorKind::ConnectionReset,
+        ..NONE
+    };
+    let ended = play(rt.alloc(), "pack be", b"", false, refused);
+    holds(&rt, ends(rt.alloc(), &ended, 2, b"", ""));
+    same(&rt, ended.requests, (0, 0, 1));
+}

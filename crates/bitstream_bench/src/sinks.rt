@@ -1,0 +1,100 @@
+//! Counters and recorders: memory that is refused, a length that the counter's type does not hold, and a
+//! candidate that has failed. Lists of calls are rows of `bitstream_vectors`.
+use crate::asserts::{each_holds, failed, gives, holds};
+use bitstream_io::write::{Overflowed, Recorder};
+use bitstream_io::{BE, BitRecorder, BitWrite, BitWriteExt, BitWriter, Bits, Error, Growing};
+use std::alloc::{Allocator, Global};
+use test_streams::RefuseMemory;
+
+/// A recorder in memory that can be refused.
+type Refused = BitRecorder<u32, BE, RefuseMemory<Global>>;
+
+/// Whether a recorder that has failed plays nothing.
+fn plays_nothing(alloc: Global, recorder: &mut Refused) -> bool {
+    let mut writer = BitWriter::<_, BE>::new(Vec::new(alloc));
+    failed(recorder.playback(&mut writer)) & writer.into_writer().is_empty()
+}
+
+/// Whether a recorder plays this byte.
+fn plays(alloc: Global, recorder: &mut Refused, byte: u8) -> bool {
+    let mut writer = BitWriter::<_, BE>::new(Vec::new(alloc));
+    recorder.playback(&mut writer).is_ok() & (writer.into_writer().as_slice() == [byte].as_slice())
+}
+
+#[test]
+fn refused_recorders_recover(rt: HostRuntime) {
+    let mut recorder: Refused = BitRecorder::new(RefuseMemory::new(rt.alloc(), 1));
+    holds(&rt, recorder.write::<Bits<8>, u8>(1).is_ok());
+    let answer = recorder.write_bytes(&[0x5a; 4096]);
+    holds(&rt, matches!(answer, Err(Error::OutOfMemory)));
+    holds(&rt, plays_nothing(rt.alloc(), &mut recorder));
+    recorder.clear();
+    holds(&rt, recorder.write::<Bits<8>, u8>(7).is_ok());
+    holds(&rt, plays(rt.alloc(), &mut recorder, 7));
+}
+
+/// Whether a sink takes many bytes.
+fn takes<W: BitWrite>(writer: &mut W) -> bool {
+    writer.write_bit(true).is_ok() & writer.write_bytes(&[0xa5; 5000]).is_ok()
+}
+
+/// Whether a recorder with a capacity takes many bytes in this memory.
+fn roomy_takes<A: Allocator + Drop>(alloc: A) -> bool {
+    match BitRecorder::<u32, BE, A>::with_capacity(alloc, 16) {
+        Ok(mut roomy) => takes(&mut roomy),
+        Err(_) => false,
+    }
+}
+
+/// Whether a recorder, one with a capacity, and a growing vector take many bytes in this memory.
+fn take<A: Allocator + Copy + Drop>(alloc: A) -> [bool; 3] {
+    let mut recorder: BitRecorder<u32, BE, A> = BitRecorder::new(alloc);
+    let mut growing = BitWriter::<_, BE>::new(Growing::new(Vec::new(alloc)));
+    [
+        takes(&mut recorder),
+        roomy_takes(alloc),
+        takes(&mut growing),
+    ]
+}
+
+#[test]
+fn ample_memory_is_never_refused(rt: HostRuntime) {
+    each_holds(&rt, &take(rt.alloc()));
+}
+
+/// A recorder of a byte is the better of it and one that fails while it is given more than its memory
+/// holds.
+#[test]
+fn failed_candidates_are_not_given(rt: HostRuntime) {
+    let mut recorder: Refused = BitRecorder::new(RefuseMemory::new(rt.alloc(), 1));
+    holds(&rt, recorder.write::<Bits<8>, u8>(0xa5).is_ok());
+    let mut candidate: Refused = BitRecorder::new(RefuseMemory::new(rt.alloc(), 0));
+    let better = recorder.best(&mut candidate, |candidate| {
+        let _refused = candidate.write::<Bits<8>, u8>(0x5a);
+        Ok::<(), Error>(())
+    });
+    let plays = match better {
+        Ok(mut better) => plays(rt.alloc(), &mut better, 0xa5),
+        Err(_) => false,
+    };
+    holds(&rt, plays);
+}
+
+/// Whether a recorder of 31 bytes tells its length, and one of 32 tells that its counter's type does not
+/// hold it, and takes more.
+fn passes<A: Allocator>(recorder: &mut BitRecorder<u8, BE, A>) -> [bool; 5] {
+    [
+        recorder.write_bytes(&[0x5a; 31]).is_ok(),
+        gives(recorder.written_checked(), 248),
+        recorder.write_bytes(&[0x5a]).is_ok(),
+        matches!(recorder.written_checked(), Err(Overflowed)),
+        recorder.write_bit(true).is_ok(),
+    ]
+}
+
+#[test]
+fn lengths_may_pass_the_counter(rt: HostRuntime) {
+    let recorder = BitRecorder::<u8, BE, _>::with_capacity(rt.alloc(), 32);
+    let mut recorder = recorder.expect(&rt, "memory is left");
+    each_holds(&rt, &passes(&mut recorder));
+}
