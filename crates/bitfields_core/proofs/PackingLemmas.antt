@@ -1,7 +1,7 @@
 -- Packing, call by call.
 use Rattle.std.specs.Prelude.{false, Bool, IsErr, IsErrAnd, ◌*◌, ◌%◌}
 use Rattle.std.specs.List.{AllByRecursion}
-use Rattle.std.specs.Borrow.{GName}
+use Rattle.bitstream_io.specs.Reference.{Reference}
 use Rattle.std.specs.Io.KnownBytes.{Appends}
 use Rattle.std.proofs.Common.{◌≡◌, ℕ, ◌+◌, ◌<◌, ◌≤◌, List, [], ◌∷◌, ◌++◌, length, drop, get_or, Option, None, Result, Ok, Err, refl, sym, ap, subst, ◌∙◌, arith, inl, inr, ◌⊎◌, add-one, drop-cons, append-nil, append_assoc, length-append}
 use Rattle.std.proofs.lemmas.List.{drop_all, length-replicate}
@@ -52,7 +52,7 @@ WritesBits-from K entry x old r new sound room is (was_done w done p q within e 
     (subst (λ (y : List Bool). Appended K old y new) same a)
 
 Appended-nil : {S : Type 0} (K : Sink S) (s : S) → K.failed s ≡ false → Appended K s [] s
-Appended-nil K s sound = record { grown = K.appends_nil s; sound = sound; refusals = refl; reference_names = refl }
+Appended-nil K s sound = record { grown = K.appends_nil s; sound = sound; refusals = refl; references = refl }
 
 Appended-trans : {S : Type 0} (K : Sink S) (s t z : S) (x y : List Bool) → Appended K s x t → Appended K t y z
     → Appended K s (x ++ y) z
@@ -60,7 +60,7 @@ Appended-trans K s t z x y h k = record {
   grown = K.appends_trans s t z x y h.grown k.grown;
   sound = k.sound;
   refusals = k.refusals ∙ h.refusals;
-  reference_names = k.reference_names ∙ h.reference_names;
+  references = k.references ∙ h.references;
 }
 
 -- what follows bits that were added
@@ -206,11 +206,11 @@ length-packed o fields vs =
 
 -- the bytes of the packed values were handed on
 pub PackedBytes-from : (o : Order) (fields : List Field) (vs : List FieldValue)
-    (held : Option (List ℕ)) (reference_names : List GName) (s t : WriterState) → t.queued < 8 → s
-    ≡ new_writer_state held reference_names
+    (held : Option (List ℕ)) (references : List Reference) (s t : WriterState) → t.queued < 8 → s
+    ≡ new_writer_state held references
     → Carries o s (packed o fields vs (8 * s.port.sent + s.queued)) t → PackedBytes o fields vs held t.port.bytes
-PackedBytes-from o fields vs held reference_names s t few fresh was =
-    let c : Carries o (new_writer_state held reference_names) (packed o fields vs 0) t =
+PackedBytes-from o fields vs held references s t few fresh was =
+    let c : Carries o (new_writer_state held references) (packed o fields vs 0) t =
     subst (λ (u : WriterState). Carries o u (packed o fields vs (8 * u.port.sent + u.queued)) t) fresh was in
     let x = packed o fields vs 0 in
     let whole : x ≡ bits o c.bytes ++ word o t.queued t.queue = ap (λ (u : List Bool). u ++ x) (sym (word-none o 0))
@@ -254,11 +254,11 @@ Packs-values contents may o fields vs old (Ok done) new h = h
 Packs-values contents may o fields vs old (Err f) new h = inr h
 
 -- the bytes that bits filled, of a new writer
-pub filled : (o : Order) (held : Option (List ℕ)) (reference_names : List GName) (s : WriterState) → s
-    ≡ new_writer_state held reference_names → (x : List Bool) (known : Option (List ℕ)) → Fills o s x known
+pub filled : (o : Order) (held : Option (List ℕ)) (references : List Reference) (s : WriterState) → s
+    ≡ new_writer_state held references → (x : List Bool) (known : Option (List ℕ)) → Fills o s x known
     → (bytes : List ℕ) × Appends held known bytes × (rest : List Bool) × (x ≡ bits o bytes ++ rest)
-filled o held reference_names s fresh x known h =
-    let f : Fills o (new_writer_state held reference_names) x known =
+filled o held references s fresh x known h =
+    let f : Fills o (new_writer_state held references) x known =
     subst (λ (u : WriterState). Fills o u x known) fresh h in
     (f.bytes, f.grows, f.rest, ap (λ (u : List Bool). u ++ x) (sym (word-none o 0)) ∙ f.word)
 

@@ -8,6 +8,7 @@ use Rattle.bitstream_io.specs.Error.TheVariants as errors
 use Rattle.bitstream_io.specs.Fault.{refusal_of}
 use Rattle.bitstream_io.specs.Gather.{seen}
 use Rattle.bitstream_io.specs.Refusal.{Refusal, IsTrueEnd, MayRefuse, TrueEnds}
+use Rattle.bitstream_io.specs.Reference.{Reference, capacity_of}
 use Rattle.bitstream_io.specs.Word.{Order, bits}
 use Rattle.bitstream_io.proofs.ReadsLemmas.{Consumes-known}
 use Rattle.bitstream_io.proofs.WordLemmas.{bits-append}
@@ -62,13 +63,14 @@ packed_fits known may o fields old new view (Ok v) layout h =
 packed_fits known may o fields old new view (Err f) layout h = tt
 
 -- values that were read to the input's end were packed, or the output refused a request
-pub packed_again : {R W : Type 0} (known : R → Option (List ℕ)) (refuses : R → ℕ → ErrorKind → R → Type 0)
+pub packed_again : {R W : Type 0} (known : R → Option (List ℕ)) (references : R → List Reference)
+    (refuses : R → ℕ → ErrorKind → R → Type 0)
     (contents : W → Option (List ℕ)) (may : Refusal → Type 0) (o : Order) (fields : List Field) (input input_after : R)
     (output output_after : W) (vs : List FieldValue) (r : Result (Unit {0}) Fault) → IsLayout fields
     → ReadToLast known refuses o fields input vs input_after
     → PacksValues contents may o fields vs output r output_after
-    → Repacks known refuses contents may o fields input output r input_after output_after
-packed_again known refuses contents may o fields input input_after output output_after vs (Ok done) layout read packs =
+    → Repacks known references refuses contents may o fields input output r input_after output_after
+packed_again known references refuses contents may o fields input input_after output output_after vs (Ok done) layout read packs =
     let xs = read.reads.gone in
     let says : repacked o fields (bits o xs) ≡ Unpacks vs (8 * length xs) =
     ap (repacked o fields) (sym (append-nil (bits o xs))) ∙ read.reads.says [] in
@@ -78,7 +80,7 @@ packed_again known refuses contents may o fields input input_after output output
       packs = packs;
       same = λ one. packs.says ∙ sym (same_bytes o fields xs vs layout one says);
     }
-packed_again known refuses contents may o fields input input_after output output_after vs (Err f) layout read refused =
+packed_again known references refuses contents may o fields input input_after output output_after vs (Err f) layout read refused =
     refused_output vs read refused
 
 -- a fault keeps its reason
@@ -103,15 +105,21 @@ output_refused may o p fields vs old f new xs h = elim (write_reasons (refusal_o
   | inr stream ↦ inl (inr (ap (λ (g : Fault). g.reason) h.reason ∙ stream))
 ]
 
-module _ {R : Type 0} {known : R → Option (List ℕ)} {refuses : R → ℕ → ErrorKind → R → Type 0}
-    (ends : TrueEnds (MayRefuse known refuses)) (o : Order) (fields : List Field) {input : R} {xs : List ℕ}
+module _ {R : Type 0} {known : R → Option (List ℕ)} {references : R → List Reference}
+    {refuses : R → ℕ → ErrorKind → R → Type 0}
+    (ends : TrueEnds (MayRefuse known references refuses)) (o : Order) (fields : List Field) {input : R} {xs : List ℕ}
     (told : known input ≡ Some xs) where
   -- a refusal is a true end
   true_end : {wanted : ℕ} {kind : ErrorKind} {s t : R} → refuses s wanted kind t
-      → IsTrueEnd (record { kind = kind; wanted = wanted; before = known s; after = known t })
+      → IsTrueEnd (record {
+        kind = kind;
+        wanted = wanted;
+        capacity = capacity_of (references s);
+        before = known s;
+        after = known t;
+      })
   true_end {wanted = wanted} {kind = kind} {s = s} {t = t} h =
-      ends (record { kind = kind; wanted = wanted; before = known s; after = known t })
-      (record { old = s; new = t; before = refl; after = refl; refused = h })
+      ends _ (record { old = s; new = t; capacity = refl; before = refl; after = refl; refused = h })
 
   -- what all bytes say, by those that were read
   say : {vs : List FieldValue} {behind : Option (List ℕ)} (h : ReadPacked o fields (known input) vs behind)
@@ -122,10 +130,10 @@ module _ {R : Type 0} {known : R → Option (List ℕ)} {refuses : R → ℕ →
 
   -- the fields were not read
   pub not_read : {f : Fault} {after : Option (List ℕ)}
-      → PackedFault (MayRefuse known refuses) o fields (known input) f after → IsRepacked o fields xs (Err f)
+      → PackedFault (MayRefuse known references refuses) o fields (known input) f after → IsRepacked o fields xs (Err f)
   not_read {after = after} (g, h, is) =
       let why = all_say_fault exact_read o (with_alignment fields) (known input) after xs told
-      (MayRefuse known refuses) g ends h in
+      (MayRefuse known references refuses) g ends h in
       elim why [
         | inl memory ↦ inl (inl (ap (λ (f : Fault). f.reason) is ∙ unnamed-reason (length fields) g ∙ memory))
         | inr says ↦ inr (inl (ap (unnamed_last (length fields)) says ∙ ap Stops (sym is)))

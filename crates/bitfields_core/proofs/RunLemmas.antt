@@ -29,7 +29,7 @@ module _ {R W : Type 0} {I : InputStream R} {O : OutputStream W} {o : Order} {fi
   -- packing what the input spells was refused
   pub packing_fault : (spelt : Result (List FieldValue) Fault) {f : Fault} {output_after : W}
       → values 1 fields (lines bytes) ≡ spelt
-      → Packs O.contents (MayRefuse O.contents O.refuses) o fields spelt output (Err f) output_after
+      → Packs O.contents (MayRefuse O.contents O.references O.refuses) o fields spelt output (Err f) output_after
       → PackingFault I O o fields input output f input_after output_after
   packing_fault (Ok vs) is (inl h) = refused_memory bytes reads h.0 h.1
   packing_fault (Ok vs) is (inr h) = refused_bytes vs (spelt_as reads is) h
@@ -39,7 +39,7 @@ module _ {R W : Type 0} {I : InputStream R} {O : OutputStream W} {o : Order} {fi
   -- the flush behind what was packed was refused
   pub packing_unflushed : (spelt : Result (List FieldValue) Fault) {f : Fault} {filled output_after : W}
       → values 1 fields (lines bytes) ≡ spelt
-      → Packs O.contents (MayRefuse O.contents O.refuses) o fields spelt output (Ok tt) filled
+      → Packs O.contents (MayRefuse O.contents O.references O.refuses) o fields spelt output (Ok tt) filled
       → RefusedOutput O filled 0 f output_after → PackingFault I O o fields input output f input_after output_after
   packing_unflushed (Ok vs) {filled = filled} is packs refused =
       unflushed_bytes vs (spelt_as reads is) (record { filled = filled; packs = packs; refused = refused })
@@ -48,7 +48,7 @@ module _ {R W : Type 0} {I : InputStream R} {O : OutputStream W} {o : Order} {fi
   -- what the input spells was packed, and the output flushed behind it
   pub packed_input : (spelt : Result (List FieldValue) Fault) {filled output_after : W}
       → values 1 fields (lines bytes) ≡ spelt
-      → Packs O.contents (MayRefuse O.contents O.refuses) o fields spelt output (Ok tt) filled
+      → Packs O.contents (MayRefuse O.contents O.references O.refuses) o fields spelt output (Ok tt) filled
       → Flushed O filled output_after → PackedInput I O o fields input output input_after output_after
   packed_input (Ok vs) {filled = filled} is packs flushed =
       record { vs = vs; reads = spelt_as reads is; filled = filled; packs = packs; flushed = flushed }

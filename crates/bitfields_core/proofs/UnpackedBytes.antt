@@ -1,6 +1,7 @@
 -- Unpacking from the first byte of a stream on.
 use Rattle.std.specs.Prelude.{Bool, false, IsErrAnd}
 use Rattle.std.specs.Borrow.{GName}
+use Rattle.bitstream_io.specs.Reference.{Reference, by_name}
 use Rattle.std.specs.Io.KnownBytes.{Consumes}
 use Rattle.std.specs.declared.io.ErrorKind.{ErrorKind}
 use Rattle.std.proofs.Common.{◌≡◌, ℕ, ◌+◌, List, [], ◌∷◌, ◌++◌, length, Option, Some, Result, Ok, Err, refl, sym, ap, ◌∙◌, ◌⊎◌, subst, arith, append_assoc, inl, inr}
@@ -18,13 +19,13 @@ use Rattle.bitfields_core.specs.declared.field.Field.{Field}
 use Rattle.bitfields_core.specs.declared.field_value.FieldValue.{FieldValue}
 use Rattle.bitfields_core.specs.Fault.{fault}
 use Rattle.bitfields_core.specs.Unpacking.{FieldCalls, Unpacks, Stops, says_by, unpacked, field_read, read_reason, in_lines, ReadsFields, ReadsLines, SaidValues, FieldsFault, TakesLeastBytes, UnpacksBytes, IsSaid}
-use Rattle.bitfields_core.proofs.UnpackingLemmas.{ComesTo, ComesTo-calls, ComesTo-reference_names}
+use Rattle.bitfields_core.proofs.UnpackingLemmas.{ComesTo, ComesTo-calls, ComesTo-references}
 
 -- a new reader fetched the bytes that the bits taken reach into
-bytes_taken : (known : Option (List ℕ)) (reference_names : List GName) (n : ℕ) (gone : List ℕ) (t : ReaderState)
+bytes_taken : (known : Option (List ℕ)) (references : List Reference) (n : ℕ) (gone : List ℕ) (t : ReaderState)
     → Demands t → Consumes known t.bytes gone → t.fetched ≡ 0 + length gone → t.taken ≡ 0 + n
     → TakesLeastBytes known gone t.taken t.bytes
-bytes_taken known reference_names n gone t demands loses fetched taken = record {
+bytes_taken known references n gone t demands loses fetched taken = record {
   loses = loses;
   least = (omega (arith, demands, fetched), omega (arith, demands, fetched));
 }
@@ -48,25 +49,25 @@ FieldsKnown calls may o fields old (Ok vs) new = SaidValues calls o fields old v
 FieldsKnown calls may o fields old (Err f) new = FieldsFault calls may o fields old f new
 
 module _ (calls : FieldCalls) (may allowed : Refusal → Type 0) (o : Order) (fields : List Field) where
-  FieldsKnown-from : (known : Option (List ℕ)) (reference_names : List GName) (r : Result (List FieldValue) Fault)
+  FieldsKnown-from : (known : Option (List ℕ)) (references : List Reference) (r : Result (List FieldValue) Fault)
       (t : ReaderState) → ((x : Refusal) → may x → allowed x) → Demands t
-      → ComesTo calls o may 1 fields (new_reader_state known reference_names) r t
+      → ComesTo calls o may 1 fields (new_reader_state known references) r t
       → FieldsKnown calls allowed o fields known r t.bytes
-  FieldsKnown-from known reference_names (Ok vs) t is demands h = record {
+  FieldsKnown-from known references (Ok vs) t is demands h = record {
     gone = h.took.gone;
     len = t.taken;
-    taken = bytes_taken known reference_names (length h.word) h.took.gone t demands h.took.loses h.took.fetched
+    taken = bytes_taken known references (length h.word) h.took.gone t demands h.took.loses h.took.fetched
         h.took.taken;
     says = told_whatever o (says_by calls o 1 fields 0) h.took.gone h.word t.queue (Unpacks vs t.taken) h.took.parts
         h.says;
   }
-  FieldsKnown-from known reference_names (Err f) t is demands (inl h) = inl (record {
+  FieldsKnown-from known references (Err f) t is demands (inl h) = inl (record {
     gone = h.gone;
     len = t.taken;
-    taken = bytes_taken known reference_names (length h.word) h.gone t demands h.loses h.fetched h.taken;
+    taken = bytes_taken known references (length h.word) h.gone t demands h.loses h.fetched h.taken;
     says = told_whatever o (says_by calls o 1 fields 0) h.gone h.word h.rest (Stops f) h.parts h.says;
   })
-  FieldsKnown-from known reference_names (Err f) t is demands (inr (inl (inl h))) = inr (inl (inl (record {
+  FieldsKnown-from known references (Err f) t is demands (inr (inl (inl h))) = inr (inl (inl (record {
     front = h.front;
     here = h.here;
     back = h.back;
@@ -74,7 +75,7 @@ module _ (calls : FieldCalls) (may allowed : Refusal → Type 0) (o : Order) (fi
     reason = h.reason;
     gone = h.took.gone;
     len = t.taken;
-    taken = bytes_taken known reference_names (length h.word) h.took.gone t demands h.took.loses h.took.fetched
+    taken = bytes_taken known references (length h.word) h.took.gone t demands h.took.loses h.took.fetched
         h.took.taken;
     values = h.values;
     at = h.at;
@@ -84,7 +85,7 @@ module _ (calls : FieldCalls) (may allowed : Refusal → Type 0) (o : Order) (fi
     says = told_by o (says_by calls o 1 (h.front ++ h.here ∷ []) 0) h.took.gone h.word t.queue
         (Unpacks (h.values ++ h.value ∷ []) t.taken) h.took.parts h.says;
   })))
-  FieldsKnown-from known reference_names (Err f) t is demands (inr (inl (inr h))) = inr (inl (inr (record {
+  FieldsKnown-from known references (Err f) t is demands (inr (inl (inr h))) = inr (inl (inr (record {
     front = h.front;
     here = h.here;
     back = h.back;
@@ -93,13 +94,13 @@ module _ (calls : FieldCalls) (may allowed : Refusal → Type 0) (o : Order) (fi
     reason = h.reason;
     gone = h.took.gone;
     len = t.taken;
-    taken = bytes_taken known reference_names (length h.word) h.took.gone t demands h.took.loses h.took.fetched
+    taken = bytes_taken known references (length h.word) h.took.gone t demands h.took.loses h.took.fetched
         h.took.taken;
     values = h.values;
     before = told_by o (says_by calls o 1 h.front 0) h.took.gone h.word t.queue (Unpacks h.values t.taken) h.took.parts
         h.before;
   })))
-  FieldsKnown-from known reference_names (Err f) t is demands (inr (inr h)) = inr (inr (record {
+  FieldsKnown-from known references (Err f) t is demands (inr (inr h)) = inr (inr (record {
     field = h.field;
     refusal = h.refusal;
     allowed = is h.refusal h.allowed;
@@ -123,12 +124,14 @@ in_lines_known may o fields old new (Ok vs) h =
 in_lines_known may o fields old new (Err f) h = h
 
 -- a refusal of a stream that is seen through another state is one of that stream
-pub MayRefuse-seen : {R S : Type 0} (f : S → R) (known : R → Option (List ℕ)) (refuses : R → ℕ → ErrorKind → R
-    → Type 0) (x : Refusal) → MayRefuse (λ s. known (f s)) (λ s n kind t. refuses (f s) n kind (f t)) x
-    → MayRefuse known refuses x
-MayRefuse-seen f known refuses x h = record {
+pub MayRefuse-seen : {R S : Type 0} (f : S → R) (name : S → GName) (known : R → Option (List ℕ))
+    (references : R → List Reference) (refuses : R → ℕ → ErrorKind → R → Type 0) (x : Refusal)
+    → MayRefuse (λ s. known (f s)) (λ s. by_name (name s) ∷ references (f s)) (λ s n kind t. refuses (f s) n kind (f t))
+    x → MayRefuse known references refuses x
+MayRefuse-seen f name known references refuses x h = record {
   old = f h.old;
   new = f h.new;
+  capacity = h.capacity;
   before = h.before;
   after = h.after;
   refused = h.refused;
@@ -136,30 +139,30 @@ MayRefuse-seen f known refuses x h = record {
 
 -- what the calls of a new reader come to
 pub Fields-from : {R : Type 0} (calls : FieldCalls) (K : BitSource R) (allowed : Refusal → Type 0) (fields : List Field)
-    (known : Option (List ℕ)) (reference_names : List GName) (old new : R) (answer : Result (List FieldValue) Fault)
-    → ((x : Refusal) → K.may x → allowed x) → K.state old ≡ new_reader_state known reference_names
+    (known : Option (List ℕ)) (references : List Reference) (old new : R) (answer : Result (List FieldValue) Fault)
+    → ((x : Refusal) → K.may x → allowed x) → K.state old ≡ new_reader_state known references
     → ReadsFields calls K 1 fields old answer new
     → FieldsKnown calls allowed K.order fields known answer (K.state new).bytes
-    × ((K.state new).reference_names ≡ reference_names)
-Fields-from calls K allowed fields known reference_names old new answer is fresh h =
+    × ((K.state new).references ≡ references)
+Fields-from calls K allowed fields known references old new answer is fresh h =
     let fine : (K.state old).failed ≡ false = ap (λ (s : ReaderState). s.failed) fresh in
     let comes = ComesTo-calls calls K 1 fields old answer new fine h in
     let anew = subst (λ (s : ReaderState). ComesTo calls K.order K.may 1 fields s answer (K.state new)) fresh comes in (
-      FieldsKnown-from calls K.may allowed K.order fields known reference_names answer (K.state new) is (K.demands new)
+      FieldsKnown-from calls K.may allowed K.order fields known references answer (K.state new) is (K.demands new)
           anew,
-      ComesTo-reference_names calls K.order K.may 1 fields (new_reader_state known reference_names) answer (K.state new)
+      ComesTo-references calls K.order K.may 1 fields (new_reader_state known references) answer (K.state new)
           anew,
     )
 
 -- and the lines of their values
 pub Unpacks-from : {R : Type 0} (K : BitSource R) (allowed : Refusal → Type 0) (fields : List Field)
-    (known : Option (List ℕ)) (reference_names : List GName) (old new : R) (result : Result (List ℕ) Fault)
+    (known : Option (List ℕ)) (references : List Reference) (old new : R) (result : Result (List ℕ) Fault)
     → ((x : Refusal) → K.may x → allowed x)
-    → K.state old ≡ new_reader_state known reference_names → ReadsLines K fields old result new
+    → K.state old ≡ new_reader_state known references → ReadsLines K fields old result new
     → UnpacksBytes {R = Option (List ℕ)} (λ b. b) allowed K.order fields known result (K.state new).bytes
-    × ((K.state new).reference_names ≡ reference_names)
-Unpacks-from K allowed fields known reference_names old new result is fresh h =
-    let all = Fields-from field_read K allowed fields known reference_names old new h.answer is fresh h.reads in (
+    × ((K.state new).references ≡ references)
+Unpacks-from K allowed fields known references old new result is fresh h =
+    let all = Fields-from field_read K allowed fields known references old new h.answer is fresh h.reads in (
       subst (λ (r : Result (List ℕ) Fault). UnpacksBytes {R = Option (List ℕ)} (λ b. b) allowed K.order fields known r
           (K.state new).bytes) (sym h.prints)
           (in_lines_known allowed K.order fields known (K.state new).bytes h.answer all.0),

@@ -197,7 +197,7 @@ module _ (calls : FieldCalls) where
     pub parts : old.queue ++ bits o gone ≡ word ++ rest
     pub fetched : new.fetched ≡ old.fetched + length gone
     pub taken : new.taken ≡ old.taken + length word
-    pub reference_names : new.reference_names ≡ old.reference_names
+    pub references : new.references ≡ old.references
     pub says : (more : List Bool) → says_by calls o k fields old.taken (word ++ more) ≡ Stops f
 
   -- the calls of the first fields answered, and no memory was left for the line of the last of them
@@ -247,7 +247,7 @@ module _ (calls : FieldCalls) where
     pub loses : Consumes old.bytes refusal.before gone
     pub after : new.bytes ≡ refusal.after
     pub fetched : new.fetched ≡ old.fetched + length gone
-    pub reference_names : new.reference_names ≡ old.reference_names
+    pub references : new.references ≡ old.references
     pub stops : says_by calls o k fields old.taken (old.queue ++ bits o gone) ≡ Stops (fault field BitsEnded)
     pub ended : IsTrueEnd refusal → (xs : List ℕ) → old.bytes ≡ Some xs
         → says_by calls o k fields old.taken (old.queue ++ bits o xs) ≡ Stops (fault field BitsEnded)
@@ -258,14 +258,14 @@ module _ (calls : FieldCalls) where
   ComesTo o may k fields old (Err f) new = ToldFields o k fields old f new ⊎ MemoryRefusedFields o k fields old f new
       ⊎ UnpackingRefusedFields o may k fields old f new
 
-  pub ComesTo-reference_names : (o : Order) (may : Refusal → Type 0) (k : ℕ) (fields : List Field)
+  pub ComesTo-references : (o : Order) (may : Refusal → Type 0) (k : ℕ) (fields : List Field)
       (old : ReaderState) (r : Result (List FieldValue) Fault) (new : ReaderState) → ComesTo o may k fields old r new
-      → new.reference_names ≡ old.reference_names
-  ComesTo-reference_names o may k fields old (Ok vs) new h = h.took.reference_names
-  ComesTo-reference_names o may k fields old (Err f) new (inl h) = h.reference_names
-  ComesTo-reference_names o may k fields old (Err f) new (inr (inl (inl h))) = h.took.reference_names
-  ComesTo-reference_names o may k fields old (Err f) new (inr (inl (inr h))) = h.took.reference_names
-  ComesTo-reference_names o may k fields old (Err f) new (inr (inr h)) = h.reference_names
+      → new.references ≡ old.references
+  ComesTo-references o may k fields old (Ok vs) new h = h.took.references
+  ComesTo-references o may k fields old (Err f) new (inl h) = h.references
+  ComesTo-references o may k fields old (Err f) new (inr (inl (inl h))) = h.took.references
+  ComesTo-references o may k fields old (Err f) new (inr (inl (inr h))) = h.took.references
+  ComesTo-references o may k fields old (Err f) new (inr (inr h)) = h.references
 
   -- the first field's word, and what follows it
   first_then : (o : Order) (k : ℕ) (f : Field) (fs : List Field) (v : Option FieldValue) (s t : ReaderState)
@@ -298,7 +298,7 @@ module _ (calls : FieldCalls) where
             ∙ ap (λ (w : List Bool). h.word ++ w) x.parts ∙ sym (append_assoc h.word x.word x.rest);
         fetched = omega (arith, h.fetched, x.fetched, length-append h.gone x.gone);
         taken = omega (arith, h.taken, x.taken, length-append h.word x.word);
-        reference_names = x.reference_names ∙ h.reference_names;
+        references = x.references ∙ h.references;
         says = word_then o k f fs v s t h x.word (Stops why) x.says;
       }
 
@@ -359,7 +359,7 @@ module _ (calls : FieldCalls) where
         loses = Consumes-trans s.bytes t.bytes x.refusal.before h.gone x.gone h.loses x.loses;
         after = x.after;
         fetched = omega (arith, h.fetched, x.fetched, length-append h.gone x.gone);
-        reference_names = x.reference_names ∙ h.reference_names;
+        references = x.references ∙ h.references;
         stops = ap (says_by calls o k (f ∷ fs) s.taken) whole ∙ first_then o k f fs v s t h (t.queue ++ bits o x.gone)
             ∙ ap (values_and (value_list v)) x.stops;
         ended = λ end xs known.
@@ -398,7 +398,7 @@ module _ (calls : FieldCalls) where
     parts = h.parts;
     fetched = h.fetched;
     taken = h.taken;
-    reference_names = h.reference_names;
+    references = h.references;
     says = says;
   }
 
@@ -417,7 +417,7 @@ module _ (calls : FieldCalls) where
         loses = h.loses;
         after = h.after;
         fetched = h.fetched;
-        reference_names = h.reference_names;
+        references = h.references;
         stops = says-short calls o k f fs s.taken (s.queue ++ bits o h.gone) h.few;
         ended = λ end xs known. says-short calls o k f fs s.taken (s.queue ++ bits o xs) (h.ended end xs known);
       }

@@ -7,6 +7,7 @@ use Rattle.bitstream_io.specs.Alignment.{to_boundary}
 use Rattle.bitstream_io.specs.Entry.{ReadEntry, call, chain, gives, takes, word_front}
 use Rattle.bitstream_io.specs.Reads.{BitSource}
 use Rattle.bitstream_io.specs.Refusal.{Refusal, MayRefuse}
+use Rattle.bitstream_io.specs.Reference.{Reference}
 use Rattle.bitstream_io.specs.Word.{Order, bits}
 use Rattle.bitfields_core.specs.declared.fault.Reason.{Reason}
 use Rattle.bitfields_core.specs.declared.fault.Reason.TheVariants.{BytesLeftOver, OutOfMemory, PaddingNotZero, StreamFault}
@@ -132,26 +133,26 @@ pub record RepackedBytes {R W : Type 0} (known : R → Option (List ℕ)) (refus
 -- Why an input was not repacked. Its bits have a fault, or it refused a request, or memory was refused, at a field; or
 -- its padding behind the last field is not zero. Or it has a byte more, or refused the request for that byte, but not
 -- as its end. The output is as it was then. Else all of it was read, and the output refused a request.
-pub data RepackingFault {R W : Type 0} (known : R → Option (List ℕ)) (refuses : R → ℕ → ErrorKind → R → Type 0)
-    (contents : W → Option (List ℕ)) (may : Refusal → Type 0) (o : Order) (fields : List Field) (input : R) (output : W)
+pub data RepackingFault {R W : Type 0} (known : R → Option (List ℕ)) (references : R → List Reference)
+    (refuses : R → ℕ → ErrorKind → R → Type 0) (contents : W → Option (List ℕ)) (may : Refusal → Type 0) (o : Order) (fields : List Field) (input : R) (output : W)
     (f : Fault) (input_after : R) (output_after : W) : Type 0 where
-  stopped_input : PackedFault (MayRefuse known refuses) o fields (known input) f (known input_after)
+  stopped_input : PackedFault (MayRefuse known references refuses) o fields (known input) f (known input_after)
       → output_after ≡ output
-      → RepackingFault known refuses contents may o fields input output f input_after output_after
+      → RepackingFault known references refuses contents may o fields input output f input_after output_after
   no_end : (vs : List FieldValue) (behind : R) → ReadPacked o fields (known input) vs (known behind)
       → IsNoEnd known refuses behind f input_after → output_after ≡ output
-      → RepackingFault known refuses contents may o fields input output f input_after output_after
+      → RepackingFault known references refuses contents may o fields input output f input_after output_after
   refused_output : (vs : List FieldValue) → ReadToLast known refuses o fields input vs input_after
       → PackingRefused may o fields vs (contents output) f (contents output_after)
-      → RepackingFault known refuses contents may o fields input output f input_after output_after
+      → RepackingFault known references refuses contents may o fields input output f input_after output_after
 
 -- repacking an input
-abbrev pub Repacks : {R W : Type 0} → (R → Option (List ℕ)) → (R → ℕ → ErrorKind → R → Type 0) → (W → Option (List ℕ))
-    → (Refusal → Type 0) → Order → List Field → R → W → Result (Unit {0}) Fault → R → W → Type 0
-Repacks known refuses contents may o fields input output (Ok done) input_after output_after =
+abbrev pub Repacks : {R W : Type 0} → (R → Option (List ℕ)) → (R → List Reference)
+    → (R → ℕ → ErrorKind → R → Type 0) → (W → Option (List ℕ)) → (Refusal → Type 0) → Order → List Field → R → W → Result (Unit {0}) Fault → R → W → Type 0
+Repacks known references refuses contents may o fields input output (Ok done) input_after output_after =
     RepackedBytes known refuses contents o fields input output input_after output_after
-Repacks known refuses contents may o fields input output (Err f) input_after output_after =
-    RepackingFault known refuses contents may o fields input output f input_after output_after
+Repacks known references refuses contents may o fields input output (Err f) input_after output_after =
+    RepackingFault known references refuses contents may o fields input output f input_after output_after
 
 -- all bytes of a stream say values, and no byte is left over
 abbrev pub AreRepacked : Order → List Field → List ℕ → Type 0

@@ -58,7 +58,7 @@ pub data PackingFault {R W : Type 0} (I : InputStream R) (O : OutputStream W) (o
   refused_memory : (bytes : List ℕ) → ReadToEnd (I.remaining input) bytes (I.remaining input_after) → f
       ≡ fault 0 OutOfMemory → output_after ≡ output → PackingFault I O o fields input output f input_after output_after
   refused_bytes : (vs : List FieldValue) → SpelledInput fields (I.remaining input) (Ok vs) (I.remaining input_after)
-      → PackingRefused (MayRefuse O.contents O.refuses) o fields vs (O.contents output) f (O.contents output_after)
+      → PackingRefused (MayRefuse O.contents O.references O.refuses) o fields vs (O.contents output) f (O.contents output_after)
       → PackingFault I O o fields input output f input_after output_after
   unflushed_bytes : (vs : List FieldValue) → SpelledInput fields (I.remaining input) (Ok vs) (I.remaining input_after)
       → UnflushedBytes O o fields vs output f output_after
@@ -96,7 +96,7 @@ pub record UnflushedLines {W : Type 0} (O : OutputStream W) (output : W) (text :
 -- flush behind them.
 pub data UnpackingFault {R W : Type 0} (I : InputStream R) (O : OutputStream W) (o : Order)
     (fields : List Field) (input : R) (output : W) (f : Fault) (input_after : R) (output_after : W) : Type 0 where
-  stopped_input : UnpacksBytes I.remaining (MayRefuse I.remaining I.refuses) o fields input (Err f) input_after
+  stopped_input : UnpacksBytes I.remaining (MayRefuse I.remaining I.references I.refuses) o fields input (Err f) input_after
       → output_after ≡ output → UnpackingFault I O o fields input output f input_after output_after
   refused_lines : (text : List ℕ) → UnpackedBytes o fields (I.remaining input) text (I.remaining input_after)
       → RefusedOutput O output (length text) f output_after
@@ -126,7 +126,7 @@ pub record RepackedInput {R W : Type 0} (I : InputStream R) (O : OutputStream W)
 pub data RepackedFault {R W : Type 0} (I : InputStream R) (O : OutputStream W) (o : Order) (fields : List Field)
     (input : R) (output : W) (f : Fault) (input_after : R) (output_after : W) : Type 0 where
   not_repacked :
-      RepackingFault I.remaining I.refuses O.contents (MayRefuse O.contents O.refuses) o fields input output f
+      RepackingFault I.remaining I.references I.refuses O.contents (MayRefuse O.contents O.references O.refuses) o fields input output f
       input_after output_after → RepackedFault I O o fields input output f input_after output_after
   unflushed : (filled : W) → RepackedBytes I.remaining I.refuses O.contents o fields input output input_after filled
       → RefusedOutput O filled 0 f output_after → RepackedFault I O o fields input output f input_after output_after

@@ -32,7 +32,7 @@ pub fn pack<E: Endianness, W: Target>(
     input: &[u8],
     output: &mut W,
 ) -> Result<(), Fault>
-    ensures { Packs W.contents (MayRefuse W.contents W.refuses) E.order layout.now
+    ensures { Packs W.contents (MayRefuse W.contents W.references W.refuses) E.order layout.now
         (values_of 1 layout.now (lines_of input.now)) output.old result output.new }
 {
     let values = values(alloc, layout, input)?;
@@ -52,7 +52,7 @@ pub fn pack_values<E: Endianness, W: Target>(
     output: &mut W,
 ) -> Result<(), Fault>
     requires fit { Fit layout.now values.now }
-    ensures { PacksValues W.contents (MayRefuse W.contents W.refuses) E.order layout.now values.now
+    ensures { PacksValues W.contents (MayRefuse W.contents W.references W.refuses) E.order layout.now values.now
         output.old result output.new }
 {
     let mut writer = BitWriter::<Lent<W>, E>::new(Lent::new(output));

@@ -33,9 +33,9 @@ pub fn repack<E: Endianness, R: Source, W: Target>(
     input: &mut R,
     output: &mut W,
 ) -> Result<(), Fault>
-    ensures repacks { Repacks R.remaining R.refuses W.contents (MayRefuse W.contents W.refuses)
+    ensures repacks { Repacks R.remaining R.references R.refuses W.contents (MayRefuse W.contents W.references W.refuses)
         E.order layout.now input.old output.old result input.new output.new }
-    ensures repacked { TrueEnds (MayRefuse R.remaining R.refuses) → (xs : List ℕ)
+    ensures repacked { TrueEnds (MayRefuse R.remaining R.references R.refuses) → (xs : List ℕ)
         → R.remaining input.old ≡ Some xs → IsRepacked E.order layout.now xs result }
 {
     let values = read_packed::<E, R>(alloc, layout, input)?;
@@ -53,7 +53,7 @@ fn read_packed<E: Endianness, R: Source>(
     layout: &Layout,
     input: &mut R,
 ) -> Result<Vec<FieldValue>, Fault>
-    ensures reads { ReadsPackedBytes R.remaining (MayRefuse R.remaining R.refuses) E.order layout.now
+    ensures reads { ReadsPackedBytes R.remaining (MayRefuse R.remaining R.references R.refuses) E.order layout.now
         input.old (seen (λ v. v.items) result) input.new }
     ensures fit { IfOk result (λ v. Fit layout.now v.items) }
     ensures is_layout { IsLayout layout.now }

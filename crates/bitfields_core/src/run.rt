@@ -53,8 +53,8 @@ pub fn run<R: Input, W: Target, X: Target>(
     output: &mut W,
     faults: &mut X,
 ) -> u8
-    ensures { Runs (input_stream R.remaining R.refuses R.refuses_rest)
-        (output_stream W.contents W.refuses W.flushes) (output_stream X.contents X.refuses X.flushes)
+    ensures { Runs (input_stream R.remaining R.references R.refuses R.refuses_rest)
+        (output_stream W.contents W.references W.refuses W.flushes) (output_stream X.contents X.references X.refuses X.flushes)
         (request_of (map string_bytes words.now))
         input.old output.old faults.old result input.new output.new faults.new }
 {
@@ -67,7 +67,7 @@ pub fn run<R: Input, W: Target, X: Target>(
 /// Prints the line of a fault, and returns its status.
 pub fn report<X: Target>(fault: Fault, faults: &mut X) -> u8
     ensures status { result ≡ fault.status }
-    ensures line { Reports (output_stream X.contents X.refuses X.flushes) fault
+    ensures line { Reports (output_stream X.contents X.references X.refuses X.flushes) fault
         faults.old faults.new }
 {
     print_line(fault, faults);
@@ -76,7 +76,7 @@ pub fn report<X: Target>(fault: Fault, faults: &mut X) -> u8
 
 /// Prints the line of a fault by one request. Its refusal is ignored.
 fn print_line<X: Target>(fault: Fault, faults: &mut X)
-    ensures { Reports (output_stream X.contents X.refuses X.flushes) fault faults.old faults.new }
+    ensures { Reports (output_stream X.contents X.references X.refuses X.flushes) fault faults.old faults.new }
 {
     let line = FaultLine::of(fault);
     let _ = faults.write_all(line.as_slice());
@@ -88,8 +88,8 @@ fn call<R: Input, W: Target>(
     input: &mut R,
     output: &mut W,
 ) -> Result<(), Fault>
-    ensures { Calls (input_stream R.remaining R.refuses R.refuses_rest)
-        (output_stream W.contents W.refuses W.flushes) (request_of (map string_bytes words.now))
+    ensures { Calls (input_stream R.remaining R.references R.refuses R.refuses_rest)
+        (output_stream W.contents W.references W.refuses W.flushes) (request_of (map string_bytes words.now))
         input.old output.old result input.new output.new }
 {
     let [command, order, text] = words else {
@@ -134,8 +134,8 @@ fn follow<R: Input, W: Target>(
     input: &mut R,
     output: &mut W,
 ) -> Result<(), Fault>
-    ensures { Follows (input_stream R.remaining R.refuses R.refuses_rest)
-        (output_stream W.contents W.refuses W.flushes) command (bit_order order) (layout_of text.now)
+    ensures { Follows (input_stream R.remaining R.references R.refuses R.refuses_rest)
+        (output_stream W.contents W.references W.refuses W.flushes) command (bit_order order) (layout_of text.now)
         input.old output.old result input.new output.new }
 {
     let layout = parse_layout(alloc, text)?;
@@ -152,8 +152,8 @@ fn perform<E: Endianness, R: Input, W: Target>(
     input: &mut R,
     output: &mut W,
 ) -> Result<(), Fault>
-    ensures { Performs (input_stream R.remaining R.refuses R.refuses_rest)
-        (output_stream W.contents W.refuses W.flushes) command E.order layout.now
+    ensures { Performs (input_stream R.remaining R.references R.refuses R.refuses_rest)
+        (output_stream W.contents W.references W.refuses W.flushes) command E.order layout.now
         input.old output.old result input.new output.new }
 {
     match command {
@@ -170,8 +170,8 @@ fn pack_input<E: Endianness, R: Input, W: Target>(
     input: &mut R,
     output: &mut W,
 ) -> Result<(), Fault>
-    ensures { PacksInput (input_stream R.remaining R.refuses R.refuses_rest)
-        (output_stream W.contents W.refuses W.flushes) E.order layout.now
+    ensures { PacksInput (input_stream R.remaining R.references R.refuses R.refuses_rest)
+        (output_stream W.contents W.references W.refuses W.flushes) E.order layout.now
         input.old output.old result input.new output.new }
 {
     let bytes = input.read_rest(alloc)?;
@@ -186,8 +186,8 @@ fn unpack_input<E: Endianness, R: Input, W: Target>(
     input: &mut R,
     output: &mut W,
 ) -> Result<(), Fault>
-    ensures { UnpacksInput (input_stream R.remaining R.refuses R.refuses_rest)
-        (output_stream W.contents W.refuses W.flushes) E.order layout.now
+    ensures { UnpacksInput (input_stream R.remaining R.references R.refuses R.refuses_rest)
+        (output_stream W.contents W.references W.refuses W.flushes) E.order layout.now
         input.old output.old result input.new output.new }
 {
     let lines = unpack::<E, R>(alloc, layout, input)?;
@@ -202,8 +202,8 @@ fn repack_input<E: Endianness, R: Input, W: Target>(
     input: &mut R,
     output: &mut W,
 ) -> Result<(), Fault>
-    ensures { RepacksInput (input_stream R.remaining R.refuses R.refuses_rest)
-        (output_stream W.contents W.refuses W.flushes) E.order layout.now
+    ensures { RepacksInput (input_stream R.remaining R.references R.refuses R.refuses_rest)
+        (output_stream W.contents W.references W.refuses W.flushes) E.order layout.now
         input.old output.old result input.new output.new }
 {
     repack::<E, R, W>(alloc, layout, input, output)?;
@@ -218,8 +218,8 @@ fn size_input<R: Input, W: Target>(
     output: &mut W,
 ) -> Result<(), Fault>
     ensures { (o : Order)
-        → SizesInput (input_stream R.remaining R.refuses R.refuses_rest)
-        (output_stream W.contents W.refuses W.flushes) o layout.now
+        → SizesInput (input_stream R.remaining R.references R.refuses R.refuses_rest)
+        (output_stream W.contents W.references W.refuses W.flushes) o layout.now
         input.old output.old result input.new output.new }
 {
     let text = input.read_rest(alloc)?;

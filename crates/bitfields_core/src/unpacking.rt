@@ -34,9 +34,9 @@ pub fn unpack<E: Endianness, R: Source>(
     layout: &Layout,
     input: &mut R,
 ) -> Result<Vec<u8>, Fault>
-    ensures unpacks { UnpacksBytes R.remaining (MayRefuse R.remaining R.refuses) E.order layout.now
+    ensures unpacks { UnpacksBytes R.remaining (MayRefuse R.remaining R.references R.refuses) E.order layout.now
         input.old (seen (λ v. v.items) result) input.new }
-    ensures said { TrueEnds (MayRefuse R.remaining R.refuses) → (xs : List ℕ)
+    ensures said { TrueEnds (MayRefuse R.remaining R.references R.refuses) → (xs : List ℕ)
         → R.remaining input.old ≡ Some xs
         → IsSaid E.order layout.now xs (seen (λ v. v.items) result) }
 {

@@ -1,6 +1,6 @@
 //! One packed sample of a vehicle's telemetry.
-ghost use Rattle.std.specs.Prelude.{◌≡◌, IfOk, length};
-ghost use Rattle.bitstream_io.specs.Callers.{write_run, WritesAll, High, bits};
+ghost use Rattle.std.specs.Prelude.{◌≡◌, ◌*◌, ◌≤◌, IfOk, IsOk, length};
+ghost use Rattle.bitstream_io.specs.Callers.{write_run, AllAccepted, WritesAll, High, bits};
 ghost use Rattle.bitstream_io.specs.SliceMut.{written_bytes};
 ghost use Rattle.bitstream_callers.specs.Telemetry.{framed_bits, packed_bits, sample_writes};
 
@@ -68,15 +68,18 @@ impl Sample {
     }
 
     /// Packs a sample into the first bytes of a buffer, and returns them as a target that has them
-    /// written. No memory is asked for.
+    /// written. No memory is asked for. If each field fits its bits, and the buffer holds the bits of
+    /// the sample, no write fails.
     ///
     /// # Errors
     ///
     /// `Checked` for a field that does not fit its bits, or `Stream(WriteZero)` if the buffer is too
     /// short.
     pub fn pack_into<'a>(&self, buffer: &'a mut [u8]) -> Result<SliceMut<'a>, Error>
-        ensures { IfOk result
+        ensures packed { IfOk result
             (λ packed. bits High (written_bytes packed) ≡ packed_bits self.now) }
+        ensures room { AllAccepted (sample_writes High self.now) 0
+            → length (packed_bits self.now) ≤ 8 * length buffer.old → IsOk result }
     {
         let mut writer = BitWriter::<_, BE>::over(buffer);
         self.write(&mut writer)?;

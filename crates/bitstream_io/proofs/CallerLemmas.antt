@@ -8,7 +8,7 @@ use Rattle.std.specs.Int.{Width}
 use Rattle.std.specs.Int.Count.{count_leading_zeros}
 use Rattle.std.proofs.lemmas.Bool.{le-leb, lt-leb, eq-eqb, ne_eqb}
 use Rattle.std.proofs.lemmas.Bool.Decides.{nat_tests}
-use Rattle.std.specs.Borrow.{GName}
+use Rattle.bitstream_order.specs.Reference.{Reference}
 use Rattle.std.proofs.Math.Pow.{pow_mono}
 use Rattle.std.proofs.lemmas.List.Elements.{All-weaker}
 use Rattle.std.proofs.lemmas.Nat.{leading_top}
@@ -49,6 +49,8 @@ pub use Rattle.bitstream_number.specs.Word.{Order, High, Low, bits, number}
 pub use Rattle.bitstream_order.proofs.SliceLemmas.{slice_ends}
 pub use Rattle.bitstream_stream.specs.ReadTable.{unsigned_entry, signed_entry}
 pub use Rattle.bitstream_stream.proofs.ReadsLemmas.{Reads-chain-ok, Reads-gives, exit}
+-- the calls of a new writer to bytes in memory with room for their bits, and an alignment behind them, answer `Ok`
+pub use Rattle.bitstream_stream.proofs.RoomLemmas.{calls_with_room, align_with_room}
 -- a number that a read of n bits answered is below 2^n
 pub use Rattle.bitstream_stream.proofs.SignedLemmas.{unsigned-below as below}
 pub use Rattle.bitstream_value.proofs.BackLemmas.{GoesBack, goes_back}
@@ -420,41 +422,41 @@ module _ {B : Type 0} (b : List Bool) (k n l : ℕ) (r : Result B Error) where
 -- ---- what a new reader answers, over a stream that refuses at true ends alone
 
 -- what `new` and `Slice::new` state, as one; `over` states it itself
-pub told : {state : ReaderState} {xs known : List ℕ} {reference_names : List GName}
-    → state ≡ new_reader_state (Some known) reference_names → known ≡ xs
-    → state ≡ new_reader_state (Some xs) reference_names
-told {reference_names = reference_names} new is = new ∙ ap (λ xs. new_reader_state (Some xs) reference_names) is
+pub told : {state : ReaderState} {xs known : List ℕ} {references : List Reference}
+    → state ≡ new_reader_state (Some known) references → known ≡ xs
+    → state ≡ new_reader_state (Some xs) references
+told {references = references} new is = new ∙ ap (λ xs. new_reader_state (Some xs) references) is
 
 -- whatever the front is, with errors of one's own
 pub own_answered : {R A E : Type 0} {K : BitSource R} {becomes : Error → E → Type 0} {e : ReadEntry (Result A E)}
-    {r : Result A E} {s t : R} {xs : List ℕ} {known : Option (List ℕ)} {reference_names : List GName}
-    → TrueEnds K.may → K.state s ≡ new_reader_state known reference_names → known ≡ Some xs
+    {r : Result A E} {s t : R} {xs : List ℕ} {known : Option (List ℕ)} {references : List Reference}
+    → TrueEnds K.may → K.state s ≡ new_reader_state known references → known ≡ Some xs
     → ReadsOwn K becomes e s r t → OwnAnswer becomes (λ y. y) (sure_answer (e.reads 0 (bits K.order xs))) r
-own_answered {becomes = becomes} {r = r} {xs = xs} {reference_names = reference_names} ends new told h =
+own_answered {becomes = becomes} {r = r} {xs = xs} {references = references} ends new told h =
     let plain =
-    new_answer ends xs reference_names (new ∙ ap (λ z. new_reader_state z reference_names) told) h.called in
+    new_answer ends xs references (new ∙ ap (λ z. new_reader_state z references) told) h.called in
     subst (λ z. OwnAnswer becomes (λ y. y) z r) plain h.answer
 
 -- if the front is known
 module _ {R A : Type 0} {K : BitSource R} {s t : R} {n : ℕ} {xs : List ℕ} {known : Option (List ℕ)}
-    {reference_names : List GName} where
+    {references : List Reference} where
   pub front_answered : {e : ReadEntry A} {x r : Result A Error} → TrueEnds K.may
-      → K.state s ≡ new_reader_state known reference_names → known ≡ Some xs → Reads K e s r t
+      → K.state s ≡ new_reader_state known references → known ≡ Some xs → Reads K e s r t
       → e.reads 0 (bits K.order xs) ≡ Takes n x → r ≡ x
   front_answered ends new told h front =
-      new_answer ends xs reference_names (new ∙ ap (λ z. new_reader_state z reference_names) told) h
+      new_answer ends xs references (new ∙ ap (λ z. new_reader_state z references) told) h
       ∙ ap sure_answer front
 
   -- with errors of one's own
   pub own_front_answered : {E : Type 0} {becomes : Error → E → Type 0} {e : ReadEntry (Result A E)} {x r : Result A E}
-      → TrueEnds K.may → K.state s ≡ new_reader_state known reference_names → known ≡ Some xs
+      → TrueEnds K.may → K.state s ≡ new_reader_state known references → known ≡ Some xs
       → ReadsOwn K becomes e s r t → e.reads 0 (bits K.order xs) ≡ Takes n (Ok x) → r ≡ x
   own_front_answered {becomes = becomes} {r = r} ends new told h front =
       subst (λ z. OwnAnswer becomes (λ y. y) (sure_answer z) r) front (own_answered ends new told h)
 
   -- and if reads find it among the bits, or too few of them
   pub own_fields_there : {E : Type 0} {becomes : Error → E → Type 0} {e : ReadEntry (Result A E)} {x r : Result A E}
-      → TrueEnds K.may → K.state s ≡ new_reader_state known reference_names → known ≡ Some xs
+      → TrueEnds K.may → K.state s ≡ new_reader_state known references → known ≡ Some xs
       → ReadsOwn K becomes e s r t → Finds (bits K.order xs) 0 e n (Ok x) → n ≤ 8 * length xs → r ≡ x
   own_fields_there ends new told h found enough =
       let le : 0 + n ≤ length (bits K.order xs) = let len = length-bits K.order xs in omega arith in
@@ -462,7 +464,7 @@ module _ {R A : Type 0} {K : BitSource R} {s t : R} {n : ℕ} {xs : List ℕ} {k
 
   pub own_fields_short : {E : Type 0} {becomes : Error → E → Type 0} {e : ReadEntry (Result A E)}
       {x : Result (Result A E) Error} {r : Result A E} → TrueEnds K.may
-      → K.state s ≡ new_reader_state known reference_names → known ≡ Some xs → ReadsOwn K becomes e s r t
+      → K.state s ≡ new_reader_state known references → known ≡ Some xs → ReadsOwn K becomes e s r t
       → Finds (bits K.order xs) 0 e n x → 8 * length xs < n → IsErrAnd r (becomes EndOfInput)
   own_fields_short {becomes = becomes} {r = r} ends new told h found few =
       let less : length (bits K.order xs) < 0 + n = let len = length-bits K.order xs in omega arith in
@@ -471,8 +473,8 @@ module _ {R A : Type 0} {K : BitSource R} {s t : R} {n : ℕ} {xs : List ℕ} {k
 
 -- too few bits for items that are words
 pub items_short : {R A : Type 0} {K : BitSource R} {e : ReadEntry A} {n : ℕ} {g : List Bool → A}
-    {r : Result (List A) Error} {s t : R} {xs : List ℕ} {reference_names : List GName}
-    → IsWord e n (λ w. Ok (g w)) → (k : ℕ) → TrueEnds K.may → K.state s ≡ new_reader_state (Some xs) reference_names
+    {r : Result (List A) Error} {s t : R} {xs : List ℕ} {references : List Reference}
+    → IsWord e n (λ w. Ok (g w)) → (k : ℕ) → TrueEnds K.may → K.state s ≡ new_reader_state (Some xs) references
     → Reads K (items_entry e k) s r t → 8 * length xs < k * n → r ≡ Err EndOfInput
 items_short word k ends new h few = word_short (items-word word k) ends new h few
 

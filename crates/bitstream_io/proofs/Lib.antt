@@ -22,6 +22,7 @@ pub use Rattle.bitstream_stream.proofs.LawLemmas
 pub use Rattle.bitstream_stream.proofs.ReaderLemmas
 pub use Rattle.bitstream_stream.proofs.ReadsLemmas
 pub use Rattle.bitstream_stream.proofs.SinkLemmas
+pub use Rattle.bitstream_stream.proofs.RoomLemmas
 pub use Rattle.bitstream_stream.proofs.SinkParts
 pub use Rattle.bitstream_stream.proofs.SliceLemmas
 pub use Rattle.bitstream_stream.proofs.TableLemmas

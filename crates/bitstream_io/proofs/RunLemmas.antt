@@ -84,7 +84,7 @@ module _ {S : Type 0} (K : Sink S) where
         failed = k.failed ∙ h.failed;
         refusals = k.refusals
             ∙ h.refusals;
-        reference_names = k.reference_names ∙ h.reference_names;
+        references = k.references ∙ h.references;
       }
 
   -- a call on a sink that has failed
@@ -131,7 +131,7 @@ module _ {S : Type 0} (K : Sink S) where
           sound = k.failed ∙ a.sound;
           refusals =
               k.refusals;
-          reference_names = k.reference_names;
+          references = k.references;
         })
 
     -- a call behind others that were done

@@ -8,6 +8,7 @@ pub use Rattle.bitstream_stream.specs.ReadTable.{first_bit, bit_entry, unsigned_
 pub use Rattle.bitstream_stream.specs.WriteTable.{plain, bit, unsigned, signed, unary_word, count, align, buffer, zeros, vbr, signed_vbr}
 pub use Rattle.bitstream_stream.specs.Reads.{BitSource, Reads, sure_answer}
 pub use Rattle.bitstream_stream.specs.Sink.{Sink, WritesAll}
+pub use Rattle.bitstream_stream.specs.Room.{AllAccepted}
 pub use Rattle.bitstream_stream.specs.Run.{write_run}
 pub use Rattle.bitstream_value.specs.Array.{items_entry, words}
 pub use Rattle.bitstream_value.specs.Boolean.{truth_entry, truth}

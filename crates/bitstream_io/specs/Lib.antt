@@ -24,6 +24,7 @@ pub use Rattle.bitstream_order.specs.Pieces
 pub use Rattle.bitstream_order.specs.Send
 pub use Rattle.bitstream_order.specs.Shift
 pub use Rattle.bitstream_order.specs.Port
+pub use Rattle.bitstream_order.specs.Reference
 pub use Rattle.bitstream_order.specs.Refusal
 pub use Rattle.bitstream_order.specs.Slice
 pub use Rattle.bitstream_order.specs.SliceMut
@@ -37,6 +38,7 @@ pub use Rattle.bitstream_stream.specs.Place
 pub use Rattle.bitstream_stream.specs.ReadTable
 pub use Rattle.bitstream_stream.specs.Reader
 pub use Rattle.bitstream_stream.specs.Reads
+pub use Rattle.bitstream_stream.specs.Room
 pub use Rattle.bitstream_stream.specs.Run
 pub use Rattle.bitstream_stream.specs.Seek
 pub use Rattle.bitstream_stream.specs.Sink

@@ -81,7 +81,7 @@ between_none o x p = record {
   loses = Consumes-nil p.bytes;
   fetched = omega arith;
   refusals = refl;
-  reference_names = refl;
+  references = refl;
   word = append-nil x;
 }
 
@@ -92,7 +92,7 @@ between_as o x w y v z old new same h = record {
   loses = h.loses;
   fetched = h.fetched;
   refusals = h.refusals;
-  reference_names = h.reference_names;
+  references = h.references;
   word = h.word ∙ same;
 }
 
@@ -104,7 +104,7 @@ between_more o x w b old mid new h k = record {
   loses = Consumes-trans old.bytes mid.bytes new.bytes h.bytes (b ∷ []) h.loses k.loses;
   fetched = let f = h.fetched in let g = k.fetched in let l = length-append h.bytes (b ∷ []) in omega arith;
   refusals = k.refusals ∙ h.refusals;
-  reference_names = k.reference_names ∙ h.reference_names;
+  references = k.references ∙ h.references;
   word =
       ap (λ l. x ++ l) (bits-append o h.bytes (b ∷ [])) ∙ sym (append_assoc x (bits o h.bytes) (bits o (b ∷ [])))
       ∙ ap (λ l. l ++ bits o (b ∷ [])) (h.word ∙ append-nil w)

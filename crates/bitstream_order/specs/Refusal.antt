@@ -1,14 +1,16 @@
 -- One refused request of a stream.
-use Rattle.std.specs.Prelude.{◌≡◌, ℕ, ◌<◌, List, length, Option, Some}
+use Rattle.std.specs.Prelude.{◌≡◌, ℕ, ◌+◌, ◌<◌, List, length, Option, Some}
 use Rattle.std.specs.declared.io.ErrorKind.{ErrorKind}
 use Rattle.std.specs.declared.io.ErrorKind.TheVariants.{UnexpectedEof}
 use Rattle.std.specs.declared.io.traits.SeekFrom.{SeekFrom}
+use Rattle.bitstream_order.specs.Reference.{Reference, capacity_of}
 
--- A refused request: its kind, the number of bytes asked for, and what the stream told before it and after it of its
--- bytes (those left to read, or those that it holds).
+-- A refused request: its kind, the number of bytes asked for, and what the stream told: how many bytes it can hold, and
+-- its bytes before the request and after it (those left to read, or those that it holds).
 pub record Refusal : Type 0 where
   pub kind : ErrorKind
   pub wanted : ℕ
+  pub capacity : Option ℕ
   pub before : Option (List ℕ)
   pub after : Option (List ℕ)
 
@@ -19,23 +21,37 @@ pub record IsTrueEnd (refusal : Refusal) : Type 0 where
   pub told : refusal.before ≡ Some left
   pub few : length left < refusal.wanted
 
+-- a want of room: fewer bytes were free than were asked for
+pub record LacksRoom (refusal : Refusal) : Type 0 where
+  pub held : List ℕ
+  pub most : ℕ
+  pub told : refusal.before ≡ Some held
+  pub room : refusal.capacity ≡ Some most
+  pub few : most < length held + refusal.wanted
+
 -- a refusal that a stream may make, by what it tells of its bytes and says of its requests
-pub record MayRefuse {S : Type 0} (known : S → Option (List ℕ)) (refuses : S → ℕ → ErrorKind → S → Type 0)
-    (refusal : Refusal) : Type 0 where
+pub record MayRefuse {S : Type 0} (known : S → Option (List ℕ)) (references : S → List Reference)
+    (refuses : S → ℕ → ErrorKind → S → Type 0) (refusal : Refusal) : Type 0 where
   pub old : S
   pub new : S
+  pub capacity : refusal.capacity ≡ capacity_of (references old)
   pub before : refusal.before ≡ known old
   pub after : refusal.after ≡ known new
   pub refused : refuses old refusal.wanted refusal.kind new
 
 -- a refusal that a stream may make of a seek to this place
-abbrev pub MayRefuseSeek : {S : Type 0} → (S → Option (List ℕ)) → (S → SeekFrom → ErrorKind → S → Type 0) → SeekFrom
-    → Refusal → Type 0
-MayRefuseSeek known refuses_seek to = MayRefuse known (λ before _ kind after. refuses_seek before to kind after)
+abbrev pub MayRefuseSeek : {S : Type 0} → (S → Option (List ℕ)) → (S → List Reference)
+    → (S → SeekFrom → ErrorKind → S → Type 0) → SeekFrom → Refusal → Type 0
+MayRefuseSeek known references refuses_seek to =
+    MayRefuse known references (λ before _ kind after. refuses_seek before to kind after)
 
 -- refusals that are all true ends
 abbrev pub TrueEnds : (Refusal → Type 0) → Type 0
 TrueEnds may = (refusal : Refusal) → may refusal → IsTrueEnd refusal
+
+-- refusals that are all wants of room
+abbrev pub AllLackRoom : (Refusal → Type 0) → Type 0
+AllLackRoom may = (refusal : Refusal) → may refusal → LacksRoom refusal
 
 -- a source that refuses only if fewer bytes are left than were asked for, and as an end
 abbrev pub RefusesAtEnd : {S : Type 0} → (S → Option (List ℕ)) → (S → ℕ → ErrorKind → S → Type 0) → Type 0

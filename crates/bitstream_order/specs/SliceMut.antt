@@ -3,6 +3,7 @@ use Rattle.std.specs.Prelude.{◌≡◌, ℕ, ◌+◌, ◌<◌, List, length, ta
 use Rattle.std.specs.Borrow.{GName}
 use Rattle.std.specs.declared.io.ErrorKind.{ErrorKind}
 use Rattle.std.specs.declared.io.ErrorKind.TheVariants.{WriteZero}
+use Rattle.bitstream_order.specs.Reference.{Reference, to_slice}
 use Rattle.bitstream_order.specs.declared.slice_mut.SliceMut.{SliceMut}
 
 -- the bytes that were written
@@ -20,6 +21,10 @@ slice_capacity s = length s.bytes.now
 -- the name of the reference to the bytes
 abbrev pub slice_name : SliceMut → GName
 slice_name s = s.bytes.ghost_name
+
+-- the reference to the bytes
+abbrev pub slice_reference : SliceMut → Reference
+slice_reference s = to_slice (slice_name s) (slice_capacity s)
 
 -- a request is refused exactly if fewer bytes are free than it has, as no room, and changes nothing
 abbrev pub slice_refuses_write : SliceMut → ℕ → ErrorKind → SliceMut → Type 0

@@ -20,7 +20,7 @@ pub record TakesBetween (o : Order) (x : List Bool) (old : PortState) (w y : Lis
   pub loses : Consumes old.bytes new.bytes bytes
   pub fetched : new.fetched ≡ old.fetched + length bytes
   pub refusals : new.refusals ≡ old.refusals
-  pub reference_names : new.reference_names ≡ old.reference_names
+  pub references : new.references ≡ old.references
   pub word : x ++ bits o bytes ≡ w ++ y
 
 -- a run was too long: its 2^32 bits were taken, and fewer than 8 bits are left behind them

@@ -1,5 +1,5 @@
 //! Short copies of bytes.
-ghost use Rattle.std.specs.Prelude.{◌≡◌, length};
+ghost use Rattle.std.specs.Prelude.{◌≡◌, ◌↔◌, ◌≤◌, IsTrue, length, take};
 
 /// Copies N bytes.
 #[inline(always)]
@@ -37,4 +37,25 @@ pub(crate) fn copy(to: &mut [u8], from: &[u8])
         16 => copy_all::<16>(to, from),
         _ => to.copy_from_slice(from),
     }
+}
+
+/// Copies the first `count` bytes to the front of a buffer, if there are so many, and returns whether
+/// there are. What stands behind them in the buffer is not told: if there are enough bytes to fill it,
+/// it is filled, as its length is mostly known as the program is compiled.
+#[inline(always)]
+pub(crate) fn copy_front(to: &mut [u8], from: &[u8], count: usize) -> bool
+    requires { count ≤ length to.old }
+    ensures len { length to.new ≡ length to.old }
+    ensures enough { IsTrue result ↔ (count ≤ length from.now) }
+    ensures copied { IsTrue result → take count to.new ≡ take count from.now }
+{
+    if from.len() >= to.len() {
+        copy(to, &from[..to.len()]);
+        return true;
+    }
+    if from.len() < count {
+        return false;
+    }
+    copy(&mut to[..count], &from[..count]);
+    true
 }

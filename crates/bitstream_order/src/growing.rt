@@ -94,7 +94,7 @@ impl<A: Allocator> Target for Growing<A> {
 
     ghost contents = { growing_contents };
 
-    ghost reference_names = { λ _. [] };
+    ghost references = { λ _. [] };
 
     ghost refuses = { GrowthRefused };
 

@@ -5,6 +5,7 @@ ghost use Rattle.std.specs.Io.Seek.{StaysAt, SeekMoves};
 ghost use Rattle.std.specs.IoError.{error_kind};
 ghost use Rattle.std.specs.declared.io.traits.SeekFrom.TheVariants.{Current};
 ghost use Rattle.bitstream_order.specs.Fault.{read_refusal_of, refusal_of};
+ghost use Rattle.bitstream_order.specs.Reference.{capacity_of};
 ghost use Rattle.bitstream_order.specs.Refusal.{Refusal, MayRefuse, MayRefuseSeek};
 ghost use Rattle.bitstream_order.specs.Port.{port_state, fetched_count, port_stream, with_stream, Fetches, Sends, Seeks, Places};
 
@@ -61,6 +62,7 @@ fn note_read<S: Source>(
     requires { by ≡ record {
       kind = error_kind _error.now;
       wanted = _wanted;
+      capacity = capacity_of (S.references _before.now.value);
       before = S.remaining _before.now.value;
       after = S.remaining _after.now;
     } }
@@ -81,6 +83,7 @@ fn note_write<S: Target>(
     requires { by ≡ record {
       kind = error_kind _error.now;
       wanted = _wanted;
+      capacity = capacity_of (S.references _before.now.value);
       before = S.contents _before.now.value;
       after = S.contents _after.now;
     } }
@@ -166,31 +169,32 @@ impl<S: Source> Port<S> {
     /// that kind, else `Stream` with its kind. No byte is counted as fetched then.
     #[inline(always)]
     pub fn fetch(&mut self, buf: &mut [u8]) -> Result<(), Error>
-        ensures fetches { Fetches (MayRefuse S.remaining S.refuses)
-            (port_state S.remaining S.reference_names self.old) buf.new result
-            (port_state S.remaining S.reference_names self.new) }
+        ensures fetches { Fetches (MayRefuse S.remaining S.references S.refuses)
+            (port_state S.remaining S.references self.old) buf.new result
+            (port_state S.remaining S.references self.new) }
     {
         let count = buf.len();
-        self.fetch_front(buf, count)
+        self.fetch_front(buf, count, true)
     }
 
-    /// Fills the first `count` bytes of the buffer by one request, for these bytes alone. What stands
-    /// behind them in the buffer is then not told.
+    /// Fills the first `count` bytes of the buffer, which has as many or more, by one request, for these
+    /// bytes alone. What stands behind them in the buffer is then not told. `known` tells whether
+    /// `count` is known as the program is compiled, and changes only how the bytes are copied.
     ///
     /// # Errors
     ///
     /// As [`fetch`](Port::fetch).
     #[inline(always)]
-    pub fn fetch_front(&mut self, buf: &mut [u8], count: usize) -> Result<(), Error>
+    pub fn fetch_front(&mut self, buf: &mut [u8], count: usize, known: bool) -> Result<(), Error>
         requires { count ≤ length buf.old }
-        ensures fetches { Fetches (MayRefuse S.remaining S.refuses)
-            (port_state S.remaining S.reference_names self.old) (take count buf.new) result
-            (port_state S.remaining S.reference_names self.new) }
+        ensures fetches { Fetches (MayRefuse S.remaining S.references S.refuses)
+            (port_state S.remaining S.references self.old) (take count buf.new) result
+            (port_state S.remaining S.references self.new) }
         ensures len { length buf.new ≡ length buf.old }
     {
         let before = Snapshot::of(&self.stream);
         self.requests.add(1);
-        match self.stream.read_front(buf, count) {
+        match self.stream.read_front(buf, count, known) {
             Ok(()) => {
                 self.fetched.add(count as u64);
                 Ok(())
@@ -212,9 +216,9 @@ impl<S: Target> Port<S> {
     /// counted as sent then.
     #[inline(always)]
     pub fn send(&mut self, bytes: &[u8]) -> Result<(), Error>
-        ensures { Sends (MayRefuse S.contents S.refuses)
-            (port_state S.contents S.reference_names self.old) bytes.now result
-            (port_state S.contents S.reference_names self.new) }
+        ensures { Sends (MayRefuse S.contents S.references S.refuses)
+            (port_state S.contents S.references self.old) bytes.now result
+            (port_state S.contents S.references self.new) }
     {
         let before = Snapshot::of(&self.stream);
         self.requests.add(1);
@@ -243,9 +247,9 @@ impl<S: Target> Port<S> {
     ///
     /// As [`send`](Port::send). The stream holds the same bytes then too.
     pub fn flush(&mut self) -> Result<(), Error>
-        ensures sends { Sends (MayRefuse S.contents S.refuses)
-            (port_state S.contents S.reference_names self.old) [] result
-            (port_state S.contents S.reference_names self.new) }
+        ensures sends { Sends (MayRefuse S.contents S.references S.refuses)
+            (port_state S.contents S.references self.old) [] result
+            (port_state S.contents S.references self.new) }
         ensures bytes { Keeps (S.contents (port_stream self.old))
             (S.contents (port_stream self.new)) }
         ensures flushed { OnOk result (S.flushes (port_stream self.old) (port_stream self.new)) }
@@ -271,9 +275,9 @@ impl<S: SeekSource> Port<S> {
     /// `OutOfMemory` if the stream refuses with that kind, else `Stream` with its kind. The
     /// position stays as it was then.
     pub fn seek(&mut self, to: SeekFrom) -> Result<u64, Error>
-        ensures seeks { Seeks (MayRefuseSeek S.remaining S.refuses_seek to)
-            (port_state S.remaining S.reference_names self.old) result
-            (port_state S.remaining S.reference_names self.new) }
+        ensures seeks { Seeks (MayRefuseSeek S.remaining S.references S.refuses_seek to)
+            (port_state S.remaining S.references self.old) result
+            (port_state S.remaining S.references self.new) }
         ensures moves { SeekMoves (S.position (port_stream self.old))
             (S.position (port_stream self.new)) (S.bytes (port_stream self.old)) to result }
         ensures bytes { Keeps (S.bytes (port_stream self.old)) (S.bytes (port_stream self.new)) }
@@ -299,9 +303,9 @@ impl<S: SeekSource> Port<S> {
     ///
     /// `OutOfMemory` if the stream refuses with that kind, else `Stream` with its kind.
     pub fn position(&mut self) -> Result<u64, Error>
-        ensures places { Places (MayRefuseSeek S.remaining S.refuses_seek (Current (pos 0)))
-            (port_state S.remaining S.reference_names self.old) result
-            (port_state S.remaining S.reference_names self.new) }
+        ensures places { Places (MayRefuseSeek S.remaining S.references S.refuses_seek (Current (pos 0)))
+            (port_state S.remaining S.references self.old) result
+            (port_state S.remaining S.references self.new) }
         ensures stays { StaysAt (S.position (port_stream self.old)) (S.position (port_stream self.new)) }
         ensures answer { OnOk result (IfSome (S.position (port_stream self.old))
             (λ position. result ≡ Ok position)) }

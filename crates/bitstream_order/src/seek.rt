@@ -31,7 +31,7 @@ pub trait SeekSource: Source {
         ensures moves { SeekMoves (position self.old) (position self.new)
             (bytes self.old) to result }
         ensures bytes { Keeps (bytes self.old) (bytes self.new) }
-        ensures reference_names { Self.reference_names self.new ≡ Self.reference_names self.old }
+        ensures references { Self.references self.new ≡ Self.references self.old }
         ensures refused { IfErr result (λ e. refuses_seek self.old to (error_kind e) self.new) };
 }
 

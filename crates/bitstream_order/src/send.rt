@@ -29,10 +29,10 @@ pub fn send_front<T: Target, E: Endianness, U: UnsignedInteger>(
     requires small { queue < 2 ^ queued }
     requires full { 8 ≤ queued + n }
     requires room { n ≤ U.BITS_SIZE }
-    ensures sends { SendsFront (MayRefuse T.contents T.refuses) E.order
+    ensures sends { SendsFront (MayRefuse T.contents T.references T.refuses) E.order
         (word E.order queued queue) (word E.order n (U.value value))
-        (port_state T.contents T.reference_names port.old) result
-        (port_state T.contents T.reference_names port.new) }
+        (port_state T.contents T.references port.old) result
+        (port_state T.contents T.references port.new) }
     ensures within { IfOk result (λ done. done ≤ n) }
     ensures rest { IfOk result (λ done. n < done + 8) }
     ensures requests { requests_count port.new ≡ requests_count port.old + 1 }

@@ -4,7 +4,7 @@ ghost use Rattle.std.specs.Int.{FitsUnsigned, w64};
 ghost use Rattle.std.specs.Option.{SomeIff};
 ghost use Rattle.bitstream_order.specs.Tail.{IsTail};
 
-use crate::copy::copy;
+use crate::copy::{copy, copy_front};
 use crate::seek::SeekSource;
 use crate::source::Source;
 use std::io;
@@ -92,7 +92,7 @@ impl<'a> Source for Slice<'a> {
 
     ghost remaining = { slice_remaining };
 
-    ghost reference_names = { λ _. [] };
+    ghost references = { λ _. [] };
 
     ghost refuses = { slice_refuses };
 
@@ -108,15 +108,19 @@ impl<'a> Source for Slice<'a> {
         Ok(())
     }
 
-    /// Copies as many bytes as the buffer holds, if there are so many, and takes the first `count`.
+    /// Copies as many bytes as the buffer holds, if there are so many, and takes the first `count`. If
+    /// that number is known as the program is compiled, it copies only these.
     #[inline(always)]
-    fn read_front(&mut self, buf: &mut [u8], count: usize) -> io::Result<()> {
-        let bytes = self.bytes;
-        if bytes.len() < buf.len() {
+    fn read_front(&mut self, buf: &mut [u8], count: usize, known: bool) -> io::Result<()> {
+        if known {
             return self.read_exact(&mut buf[..count]);
         }
-        copy(buf, &bytes[..buf.len()]);
-        self.bytes = &bytes[count..];
+        let bytes = self.bytes;
+        if !copy_front(buf, bytes, count) {
+            return Err(io::Error::from(ErrorKind::UnexpectedEof));
+        }
+        let (_, rest) = bytes.split_at(count);
+        self.bytes = rest;
         Ok(())
     }
 }

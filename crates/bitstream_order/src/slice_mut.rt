@@ -1,7 +1,5 @@
 //! Bytes in memory, as a target that refuses a write only if it has no room for it.
-ghost use Rattle.std.specs.Prelude.{◌≡◌, ◌∷◌, ◌-◌, ◌≤◌, [], length, IfErr, OnOk};
-ghost use Rattle.std.specs.Io.KnownBytes.{Appends};
-ghost use Rattle.std.specs.IoError.{error_kind};
+ghost use Rattle.std.specs.Prelude.{◌≡◌, ◌∷◌, ◌-◌, ◌≤◌, [], length};
 
 use crate::copy::copy;
 use crate::target::Target;
@@ -62,25 +60,18 @@ impl<'a> SliceMut<'a> {
 }
 
 impl<'a> Target for SliceMut<'a> {
-    ghost use Rattle.bitstream_order.specs.SliceMut.{slice_capacity, slice_name, slice_refuses_write, written_contents};
+    ghost use Rattle.bitstream_order.specs.SliceMut.{slice_reference, slice_refuses_write, written_contents};
 
     ghost contents = { written_contents };
 
-    ghost reference_names = { λ target. slice_name target ∷ [] };
+    ghost references = { λ target. slice_reference target ∷ [] };
 
     ghost refuses = { slice_refuses_write };
 
     ghost flushes = { λ before after. after ≡ before };
 
     #[inline(always)]
-    fn write_all(&mut self, bytes: &[u8]) -> io::Result<()>
-        ensures bytes { OnOk result
-            (Appends (written_contents self.old) (written_contents self.new) bytes.now) }
-        ensures reference_names { slice_name self.new ∷ [] ≡ slice_name self.old ∷ [] }
-        ensures refused { IfErr result
-            (λ e. slice_refuses_write self.old (length bytes.now) (error_kind e) self.new) }
-        ensures capacity { slice_capacity self.new ≡ slice_capacity self.old }
-    {
+    fn write_all(&mut self, bytes: &[u8]) -> io::Result<()> {
         let written = self.written;
         if self.bytes.len() - written < bytes.len() {
             return Err(io::Error::from(ErrorKind::WriteZero));

@@ -1,6 +1,6 @@
 //! Targets of bytes.
 ghost use Rattle.std.specs.Prelude.{◌≡◌, ℕ, List, [], ◌∷◌, IfErr, OnOk, Option, length};
-ghost use Rattle.std.specs.Borrow.{GName};
+ghost use Rattle.bitstream_order.specs.Reference.{Reference, by_name};
 ghost use Rattle.std.specs.Io.KnownBytes.{Appends, Keeps};
 ghost use Rattle.std.specs.IoError.{error_kind};
 ghost use Rattle.std.specs.declared.io.ErrorKind.{ErrorKind};
@@ -14,8 +14,8 @@ pub trait Target {
     // The bytes that the target holds, if it tells them.
     ghost contents: { Self → Option (List ℕ) };
 
-    // The names of the references through which the target is reached. A request keeps them.
-    ghost reference_names: { Self → List GName };
+    // The references through which the target is reached. A request keeps them.
+    ghost references: { Self → List Reference };
 
     // How a request to send a number of bytes may be refused, and with which kind. Of a `Write` std
     // tells nothing.
@@ -32,7 +32,7 @@ pub trait Target {
     /// went then.
     fn write_all(&mut self, bytes: &[u8]) -> io::Result<()>
         ensures bytes { OnOk result (Appends (contents self.old) (contents self.new) bytes.now) }
-        ensures reference_names { reference_names self.new ≡ reference_names self.old }
+        ensures references { references self.new ≡ references self.old }
         ensures refused { IfErr result
             (λ e. refuses self.old (length bytes.now) (error_kind e) self.new) };
 
@@ -45,14 +45,14 @@ pub trait Target {
     fn flush(&mut self) -> io::Result<()>
         ensures bytes { Keeps (contents self.old) (contents self.new) }
         ensures flushed { OnOk result (flushes self.old self.new) }
-        ensures reference_names { reference_names self.new ≡ reference_names self.old }
+        ensures references { references self.new ≡ references self.old }
         ensures refused { IfErr result (λ e. refuses self.old 0 (error_kind e) self.new) };
 }
 
 impl<W: Write> Target for W {
     ghost contents = { λ w. W.contents w };
 
-    ghost reference_names = { λ _. [] };
+    ghost references = { λ _. [] };
 
     ghost refuses = { λ _ _ _ _. Unit {0} };
 
@@ -71,7 +71,7 @@ impl<W: Write> Target for W {
 impl<'a, T: Target> Target for Lent<'a, T> {
     ghost contents = { λ lent. T.contents lent.at.now };
 
-    ghost reference_names = { λ lent. lent.at.ghost_name ∷ T.reference_names lent.at.now };
+    ghost references = { λ lent. by_name lent.at.ghost_name ∷ T.references lent.at.now };
 
     ghost refuses = { λ before wanted kind after.
         T.refuses before.at.now wanted kind after.at.now };

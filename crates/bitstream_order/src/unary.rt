@@ -19,9 +19,9 @@ use bitstream_count::error::Error;
 /// As [`Port::fetch`]. No byte is fetched then.
 #[inline(always)]
 fn fetch_byte<S: Source>(port: &mut Port<S>) -> Result<u8, Error>
-    ensures { FetchesByte (MayRefuse S.remaining S.refuses)
-        (port_state S.remaining S.reference_names port.old) result
-        (port_state S.remaining S.reference_names port.new) }
+    ensures { FetchesByte (MayRefuse S.remaining S.references S.refuses)
+        (port_state S.remaining S.references port.old) result
+        (port_state S.remaining S.references port.new) }
 {
     let mut byte = [0u8; 1];
     port.fetch(&mut byte)?;
@@ -55,10 +55,10 @@ pub fn take_unary<S: Source, E: Endianness>(
     stop: bool,
 ) -> Result<Option<TakenUnary>, Error>
     requires { queued < 8 }
-    ensures takes { TakesUnary (MayRefuse S.remaining S.refuses) E.order stop
+    ensures takes { TakesUnary (MayRefuse S.remaining S.references S.refuses) E.order stop
         (word E.order queued (first_part E.order queue 8 queued))
-        (port_state S.remaining S.reference_names port.old) result
-        (port_state S.remaining S.reference_names port.new) }
+        (port_state S.remaining S.references port.old) result
+        (port_state S.remaining S.references port.new) }
     ensures few { IfOk result (λ answer. IfSome answer (λ run. run.queued < 8)) }
     ensures turns { OnOk result (turns.new.count
         ≡ turns.old.count + (fetched_count port.new - fetched_count port.old) + 1) }

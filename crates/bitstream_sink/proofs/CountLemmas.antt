@@ -19,7 +19,7 @@ module _ {S : Type 0} (o : Order) (count : S → ℕ) (greatest : ℕ) (full : I
         grown = omega (arith, len, sum);
         sound = refl;
         refusals = refl;
-        reference_names = refl;
+        references = refl;
       })
 
   -- its length passes the greatest number
@@ -32,5 +32,5 @@ module _ {S : Type 0} (o : Order) (count : S → ℕ) (greatest : ℕ) (full : I
         grown = omega (arith, same);
         failed = refl;
         refusals = refl;
-        reference_names = refl;
+        references = refl;
       })

@@ -39,8 +39,8 @@ module _ {R S : Type 0} (o p : Order) (f : R → S) (count : S → ℕ) (greates
         grown = k.grown;
         failed = k.failed;
         refusals = k.refusals;
-        reference_names =
-            k.reference_names;
+        references =
+            k.references;
       })
   reordered entry other old result new same (was_rejected d sound en re k) =
       was_rejected d sound (same_error _ _ d same en) re (record {
@@ -48,7 +48,7 @@ module _ {R S : Type 0} (o p : Order) (f : R → S) (count : S → ℕ) (greates
         failed = k.failed;
         refusals =
             k.refusals;
-        reference_names = k.reference_names;
+        references = k.references;
       })
   reordered entry other old result new same (past_limit x sound en past re k) =
       let w = same_word _ _ x same en in
@@ -57,7 +57,7 @@ module _ {R S : Type 0} (o p : Order) (f : R → S) (count : S → ℕ) (greates
         failed = k.failed;
         refusals =
             k.refusals;
-        reference_names = k.reference_names;
+        references = k.references;
       })
   reordered entry other old result new same (was_refused x d sound en wi re k) = absurd k.allowed
   reordered entry other old result new same (was_done x t sound en wi re k) =
@@ -67,7 +67,7 @@ module _ {R S : Type 0} (o p : Order) (f : R → S) (count : S → ℕ) (greates
         sound =
             k.sound;
         refusals = k.refusals;
-        reference_names = k.reference_names;
+        references = k.references;
       })
 
 same_choice : (b : Bool) (r s r' s' : Result (List Bool) Error) → SameLength r r' → SameLength s s'

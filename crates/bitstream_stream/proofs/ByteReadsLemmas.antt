@@ -57,7 +57,7 @@ BytesTaken-trans x y s t u h k =
       taken = taken;
       refusals = k.refusals
           ∙ h.refusals;
-      reference_names = k.reference_names ∙ h.reference_names;
+      references = k.references ∙ h.references;
     }
 
 took_front : {A : Type 0} (n : ℕ) (g : List ℕ → Result A Error) (w : List ℕ) (s t : ByteReaderState) → length w ≡ n
@@ -102,7 +102,7 @@ bytes_none {K = K} s = bytes_taken 0 [] s s refl (record {
   loses = Consumes-nil (K.state s).bytes;
   taken = omega arith;
   refusals = refl;
-  reference_names = refl;
+  references = refl;
 })
 
 -- some bytes and then more
@@ -148,7 +148,7 @@ stop_front {K = K} g a b n x e s t u le h (was_refused k) =
           let all : length xs ≡ length x + length left.0 = ap (λ l. length l) left.2 ∙ length-append x left.0 in
           byte_front-none n g xs (omega arith);
       refusals = k.refusals ∙ ap (λ l. k.refusal ∷ l) took.refusals;
-      reference_names = k.reference_names ∙ took.reference_names;
+      references = k.references ∙ took.references;
     })
 stop_front g a b n x e s t u le h (memory_refused m k) = cc
 
@@ -193,7 +193,7 @@ bytes_fetched {K = K} n bytes (Ok done) old new s t before after len some h =
       loses = h.loses;
       taken = h.fetched;
       refusals = h.refusals;
-      reference_names = h.reference_names;
+      references = h.references;
     }))
 bytes_fetched {K = K} n bytes (Err error) old new s t before after len some h =
     was_refused (rw (before, after) (record {
@@ -208,7 +208,7 @@ bytes_fetched {K = K} n bytes (Err error) old new s t before after len some h =
       ended = λ end xs known. byte_front-none n (λ w. Ok w) xs
           (subst (λ k. length xs < k) len (end_few K.may error old new (length bytes) xs h end known));
       refusals = h.refusals;
-      reference_names = h.reference_names;
+      references = h.references;
     }))
 
 -- ---- a buffer that is filled byte by byte

@@ -5,6 +5,7 @@ use Rattle.std.proofs.KnownBytes.{Appends-nil, Appends-trans}
 use Rattle.std.specs.Borrow.{GName, MutBor}
 use Rattle.std.specs.Io.KnownBytes.{Appends}
 use Rattle.std.specs.declared.io.ErrorKind.{ErrorKind}
+use Rattle.bitstream_order.specs.Reference.{Reference, by_name, capacity_of}
 use Rattle.bitstream_count.specs.declared.error.Error.{Error}
 use Rattle.bitstream_number.specs.Word.{Order}
 use Rattle.bitstream_order.specs.Port.{Sends}
@@ -16,7 +17,7 @@ use Rattle.bitstream_stream.specs.declared.byte_writer.ByteWriter.{ByteWriter}
 
 module _ {S : Type 0} (K : ByteSink S) where
   pub none_appended : (s : S) → BytesAppended K s [] s
-  none_appended s = record { grown = K.appends_nil s; refusals = refl; reference_names = refl }
+  none_appended s = record { grown = K.appends_nil s; refusals = refl; references = refl }
 
   pub more_appended : (x y : List ℕ) (s t u : S) → BytesAppended K s x t → BytesAppended K t y u
       → BytesAppended K s (x ++ y) u
@@ -24,7 +25,7 @@ module _ {S : Type 0} (K : ByteSink S) where
     grown = K.appends_trans s t u x y h.grown k.grown;
     refusals = k.refusals
         ∙ h.refusals;
-    reference_names = k.reference_names ∙ h.reference_names;
+    references = k.references ∙ h.references;
   }
 
   pub was_written : {T : Type 0} (x : List ℕ) (s : S) (done : T) (t : S) → ByteWrites K x s (Ok done) t
@@ -53,12 +54,14 @@ module _ {S : Type 0} (K : ByteSink S) where
         parts = ap (λ l. x ++ (l ++ z)) k.parts ∙ ap (λ l. x ++ l) (append_assoc k.front k.back z)
             ∙ sym (append_assoc x k.front (k.back ++ z));
         some = let some = k.some in omega (arith, length-append k.back z);
+        asked = let asked = k.asked in omega (arith, length-append k.back z);
+        capacity = k.capacity ∙ ap capacity_of h.references;
         before = Appends-trans (K.contents s) (K.contents t) k.refusal.before x k.front (K.grows s t x h.grown)
             k.before;
         after = k.after;
         sent = let far = K.appends_len s t x h.grown in let sent = k.sent in omega (arith, length-append x k.front);
         refusals = k.refusals ∙ ap (λ l. k.refusal ∷ l) h.refusals;
-        reference_names = k.reference_names ∙ h.reference_names;
+        references = k.references ∙ h.references;
       }
 
   -- zeros, a piece at a time
@@ -88,18 +91,18 @@ module _ {S : Type 0} (K : ByteSink S) where
 
 -- a request to send some bytes is a write of them
 pub bytes_sent : {W E : Type 0} (contents : W → Option (List ℕ)) (refuses : W → ℕ → ErrorKind → W
-    → Type 0) (reference_names : W → List GName) (o : Order) (x : List ℕ) (a b : ByteWriter W E)
+    → Type 0) (references : W → List Reference) (o : Order) (x : List ℕ) (a b : ByteWriter W E)
     (r : Result (Unit {0}) Error) → 0 < length x
-    → Sends (MayRefuse contents refuses) (byte_writer_state contents reference_names a) x r
-    (byte_writer_state contents reference_names b)
-    → ByteWrites (byte_writer_sink contents refuses reference_names o) x a r b
-bytes_sent contents refuses reference_names o x a b (Ok done) some h =
+    → Sends (MayRefuse contents references refuses) (byte_writer_state contents references a) x r
+    (byte_writer_state contents references b)
+    → ByteWrites (byte_writer_sink contents refuses references o) x a r b
+bytes_sent contents refuses references o x a b (Ok done) some h =
     was_done done tt refl (record {
       grown = record { grows = h.grows; sent = h.sent };
       refusals = h.refusals;
-      reference_names = h.reference_names;
+      references = h.references;
     })
-bytes_sent contents refuses reference_names o x a b (Err e) some h = was_refused e tt refl (record {
+bytes_sent contents refuses references o x a b (Err e) some h = was_refused e tt refl (record {
   refusal = h.refusal;
   allowed = h.allowed;
   answer = h.answer;
@@ -107,12 +110,14 @@ bytes_sent contents refuses reference_names o x a b (Err e) some h = was_refused
   back = x;
   parts = refl;
   some = some;
-  before = subst (λ l. Appends (byte_writer_state contents reference_names a).bytes l []) (sym h.before)
-      (Appends-nil (byte_writer_state contents reference_names a).bytes);
+  asked = let same = h.wanted in omega arith;
+  capacity = h.capacity;
+  before = subst (λ l. Appends (byte_writer_state contents references a).bytes l []) (sym h.before)
+      (Appends-nil (byte_writer_state contents references a).bytes);
   after = h.after;
   sent = let same = h.sent in omega arith;
   refusals = h.refusals;
-  reference_names = h.reference_names;
+  references = h.references;
 })
 
 -- a call through a `&mut`
@@ -121,8 +126,8 @@ module _ {S : Type 0} (K : ByteSink S) (a b : MutBor S) (same : b.ghost_name ≡
   appended_lent x h = record {
     grown = h.grown;
     refusals = h.refusals;
-    reference_names =
-        ap₂ (λ (n : GName) l. n ∷ l) same h.reference_names;
+    references =
+        ap₂ (λ (n : GName) l. by_name n ∷ l) same h.references;
   }
 
   pub writes_lent : {T : Type 0} (x : List ℕ) (r : Result T Error) → ByteWrites K x a.now r b.now
@@ -136,10 +141,12 @@ module _ {S : Type 0} (K : ByteSink S) (a b : MutBor S) (same : b.ghost_name ≡
     back = h.back;
     parts = h.parts;
     some = h.some;
+    asked = h.asked;
+    capacity = h.capacity;
     before = h.before;
     after = h.after;
     sent = h.sent;
     refusals = h.refusals;
-    reference_names = ap₂ (λ (n : GName) l. n ∷ l) same h.reference_names;
+    references = ap₂ (λ (n : GName) l. by_name n ∷ l) same h.references;
   })
   writes_lent x r (was_done d w q h) = was_done d w q (appended_lent x h)

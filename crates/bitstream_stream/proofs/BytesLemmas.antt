@@ -270,7 +270,7 @@ word_of_bytes o queued queue left n bs made old new len h shifted =
       loses = h.loses;
       fetched = h.fetched;
       refusals = h.refusals;
-      reference_names = h.reference_names;
+      references = h.references;
       word = shifted ∙ ap (λ w. w ++ word o queued left) (sym (ap (λ k. word o k (number o (bits o made))) (sym size)
           ∙ word-number o (bits o made)));
       below = subst (λ k. number o (bits o made) < 2 ^ k) size (number-lt o (bits o made));
@@ -286,8 +286,8 @@ takes_left o queued queue n v l q r old new same h =
       loses = h.loses;
       fetched = h.fetched;
       refusals = h.refusals;
-      reference_names =
-          h.reference_names;
+      references =
+          h.references;
       word = all;
       below = h.below;
     }

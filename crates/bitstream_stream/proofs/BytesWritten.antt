@@ -34,20 +34,20 @@ sent_bytes may o queued queue left xs ys p r old new shifted h sound =
       sound = sound;
       refusals =
           h.refusals;
-      reference_names = h.reference_names;
+      references = h.references;
     }
 
 pub bytes_fault : (may : Refusal → Type 0) (o : Order) (queued queue : ℕ) (xs : List ℕ) (error : Error) (k : ℕ)
-    (p r : PortState) (old new : Bool) (q : ℕ) → SendRefused may error p k r → queued < 8 → 1 ≤ length xs → new ≡ true
+    (p r : PortState) (old new : Bool) (q : ℕ) → SendRefused may error p k r → queued < 8 → 1 ≤ length xs → k ≤ length xs → new ≡ true
     → WriteRefused (queue_sink may o) (record { port = p; queued = queued; queue = queue; failed = old }) (bits o xs)
     error (record { port = r; queued = 0; queue = q; failed = new })
-bytes_fault may o queued queue xs error k p r old new q h few some broken =
+bytes_fault may o queued queue xs error k p r old new q h few some asked broken =
     let n = length (bits o xs) in
     let v = number o (bits o xs) in
     let size : n ≡ 8 * length xs = length-bits o xs in
     subst (λ w. WriteRefused (queue_sink may o) (record { port = p; queued = queued; queue = queue; failed = old }) w
     error (record { port = r; queued = 0; queue = q; failed = new })) (word-number o (bits o xs))
-    (pushed_fault may o queued queue n v k error p r old new q h few (omega arith) broken)
+    (pushed_fault may o queued queue n v k error p r old new q h few (omega arith) (omega arith) broken)
 
 -- ---- several
 
@@ -75,7 +75,7 @@ pushes_stop may o s t z at k xs part error (Err x) e is h f =
     ap (bits o) (sym (take-append-drop at xs)) ∙ bits-append o (take at xs) (drop at xs)
     ∙ ap (λ (l : List Bool). bits o (take at xs) ++ l) (ap (bits o) (sym cut) ∙ bits-append o part rest) in
     rw e (WriteRefused-within (queue_sink may o) s t z error (bits o (take at xs)) (bits o part) (bits o rest)
-    (bits o xs) all h.grown h.refusals h.reference_names f)
+    (bits o xs) all h.grown h.refusals h.references f)
 
 -- ---- zeros
 

@@ -11,6 +11,7 @@ pub mod LentWalk
 pub mod PlaceLemmas
 pub mod ReaderLemmas
 pub mod ReadsLemmas
+pub mod RoomLemmas
 pub mod Rows
 pub mod SeekLemmas
 pub mod SignedLemmas

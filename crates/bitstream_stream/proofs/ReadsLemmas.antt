@@ -7,6 +7,7 @@ use Rattle.std.proofs.lemmas.List.{nil_from_length}
 use Rattle.std.specs.Borrow.{GName}
 use Rattle.std.specs.Io.KnownBytes.{Consumes}
 use Rattle.std.specs.Result.{IsErrAnd}
+use Rattle.bitstream_order.specs.Reference.{Reference, by_name}
 use Rattle.bitstream_count.specs.declared.error.Error.{Error}
 use Rattle.bitstream_count.specs.declared.error.Error.TheVariants.{OutOfMemory, Failed, RunTooLong}
 use Rattle.bitstream_count.specs.Entry.{Front, ReadEntry, TooFew, Takes, longer, chain, gives}
@@ -51,7 +52,7 @@ pub record Took (o : Order) (old : ReaderState) (word : List Bool) (new : Reader
   pub fetched : new.fetched ≡ old.fetched + length gone
   pub taken : new.taken ≡ old.taken + length word
   pub refusals : new.refusals ≡ old.refusals
-  pub reference_names : new.reference_names ≡ old.reference_names
+  pub references : new.references ≡ old.references
   pub failed : new.failed ≡ false
 
 pub Took-nil : (o : Order) (s : ReaderState) → s.failed ≡ false → Took o s [] s
@@ -64,7 +65,7 @@ Took-nil o s fine = record {
       omega arith;
   taken = omega arith;
   refusals = refl;
-  reference_names = refl;
+  references = refl;
   failed = fine;
 }
 
@@ -77,9 +78,9 @@ parts_left o a b u g h p = ap (λ w. a ++ w) (bits-append o g h) ∙ sym (append
 -- behind a word that was taken, what a call took until it was answered or lacked memory
 Took-behind : (o : Order) (u v rest : List Bool) (s t z : ReaderState) → Took o s u t → (gone : List ℕ)
     → Consumes t.bytes z.bytes gone → t.queue ++ bits o gone ≡ v ++ rest → z.fetched ≡ t.fetched + length gone
-    → z.taken ≡ t.taken + length v → z.refusals ≡ t.refusals → z.reference_names ≡ t.reference_names
+    → z.taken ≡ t.taken + length v → z.refusals ≡ t.refusals → z.references ≡ t.references
     → Took o s (u ++ v) (record z { queue = rest; failed = false })
-Took-behind o u v rest s t z h gone loses parts fetched taken refusals reference_names = record {
+Took-behind o u v rest s t z h gone loses parts fetched taken refusals references = record {
   fine = h.fine;
   gone = h.gone ++ gone;
   loses = Consumes-trans s.bytes t.bytes z.bytes h.gone gone h.loses loses;
@@ -87,14 +88,14 @@ Took-behind o u v rest s t z h gone loses parts fetched taken refusals reference
   fetched = omega (arith, h.fetched, fetched, length-append h.gone gone);
   taken = omega (arith, h.taken, taken, length-append u v);
   refusals = refusals ∙ h.refusals;
-  reference_names = reference_names ∙ h.reference_names;
+  references = references ∙ h.references;
   failed = refl;
 }
 
 pub Took-trans : (o : Order) (u v : List Bool) (s t z : ReaderState) → Took o s u t → Took o t v z → Took o s (u ++ v) z
 Took-trans o u v s t z h k =
     subst (Took o s (u ++ v)) (ap (λ f. record z { failed = f }) (sym k.failed))
-    (Took-behind o u v z.queue s t z h k.gone k.loses k.parts k.fetched k.taken k.refusals k.reference_names)
+    (Took-behind o u v z.queue s t z h k.gone k.loses k.parts k.fetched k.taken k.refusals k.references)
 
 -- a call that answered with a value took its word
 pub took : {A : Type 0} (o : Order) (e : ReadEntry A) (a : A) (s t : ReaderState) (h : ReadDone o e s (Ok a) t)
@@ -107,7 +108,7 @@ took o e a s t h = record {
   fetched = h.fetched;
   taken = h.taken;
   refusals = h.refusals;
-  reference_names = h.reference_names;
+  references = h.references;
   failed = h.failed;
 }
 
@@ -130,7 +131,7 @@ Took-front o e r w s t h decides needs = record {
   fetched = h.fetched;
   taken = h.taken;
   refusals = h.refusals;
-  reference_names = h.reference_names;
+  references = h.references;
   failed = refl;
 }
 
@@ -149,7 +150,7 @@ Took-memory_refused o e w held s t h few = record {
   fetched = h.fetched;
   taken = h.taken;
   refusals = h.refusals;
-  reference_names = h.reference_names;
+  references = h.references;
   failed = refl;
 }
 
@@ -248,7 +249,7 @@ Reads-behind {K = K} e d w r x s t z b behind fails passes long decides (had_fai
     })
 Reads-behind {K = K} e d w r x s t z b behind fails passes long decides (was_done h) =
     let all = Took-behind K.order w h.word h.rest (K.state s) (K.state t) (K.state z) (Begun-took K s w t b h.fine)
-    h.gone h.loses h.parts h.fetched h.taken h.refusals h.reference_names in
+    h.gone h.loses h.parts h.fetched h.taken h.refusals h.references in
     was_done (subst (ReadDone K.order e (K.state s) r)
     (ap₂ (λ l f. record (K.state z) { queue = l; failed = f }) (ap (λ f. if f then [] else h.rest) long
     ∙ sym h.queue) (long ∙ sym h.failed))
@@ -276,12 +277,12 @@ Reads-behind {K = K} e d w r x s t z b behind fails passes long decides (was_ref
           ap (λ l. e.reads (K.state s).taken l) left.2
           ∙ behind.short ((K.state t).queue ++ bits K.order left.0) (h.ended end left.0 left.1);
       refusals = h.refusals ∙ ap (λ l. h.refusal ∷ l) was.refusals;
-      reference_names = h.reference_names ∙ was.reference_names;
+      references = h.references ∙ was.references;
       failed = h.failed;
     })
 Reads-behind {K = K} e d w r x s t z b behind fails passes long decides (memory_refused g h) =
     let all = Took-behind K.order w h.word h.rest (K.state s) (K.state t) (K.state z) (Begun-took K s w t b h.fine)
-    h.gone h.loses h.parts h.fetched h.taken h.refusals h.reference_names in
+    h.gone h.loses h.parts h.fetched h.taken h.refusals h.references in
     memory_refused g (rw (passes OutOfMemory h.answer) (subst (MemoryRefused K.order e (K.state s) (Err OutOfMemory))
     (ap (λ f. record (K.state z) { failed = f }) (sym h.failed))
     (Took-memory_refused K.order e (w ++ h.word) (K.state z).queue (K.state s) (record (K.state z) {
@@ -446,5 +447,9 @@ Reads-memory_refused {K = K} e s z fine some broken = memory_refused refl
     (rw broken (Took-memory_refused K.order e [] [] (K.state s) (K.state s) (Took-nil K.order (K.state s) fine) some))
 
 -- the first of the references through which a stream is reached
-pub first_name : {m n : GName} {k l : List GName} → m ∷ l ≡ n ∷ k → m ≡ n
-first_name e = cc
+abbrev name_at_front : GName → List Reference → GName
+name_at_front name [] = name
+name_at_front name (reference ∷ others) = reference.name
+
+pub first_name : {m n : GName} {k l : List Reference} → by_name m ∷ l ≡ by_name n ∷ k → m ≡ n
+first_name {m = m} same = ap (name_at_front m) same

@@ -118,7 +118,7 @@ lands K place at v old mid new begins h =
       fetched = fetched;
       queued = let whole = K.source.holds new h.failed in omega (arith, whole, taken, fetched);
       refusals = h.refusals ∙ begins.refusals;
-      reference_names = h.reference_names ∙ begins.reference_names;
+      references = h.references ∙ begins.references;
       left = λ xs told.
           let lost = Consumes-known (K.source.state mid).bytes (K.source.state new).bytes h.gone (drop (place / 8) xs)
           h.loses (rest_at K place at old mid xs begins told) in
@@ -140,7 +140,7 @@ skip_refused K place at old mid new x r same begins h = record {
     allowed = h.allowed;
     answer = same ∙ h.answer;
     refusals = h.refusals ∙ ap (λ l. h.refusal ∷ l) begins.refusals;
-    reference_names = h.reference_names ∙ begins.reference_names;
+    references = h.references ∙ begins.references;
     queue = K.source.empties new h.failed;
     failed = h.failed;
   };
@@ -194,7 +194,7 @@ goes_too_far r same begins (ReadOutcome.memory_refused g h) = cc
 pub asked : (o : Order) (p q : PortState) (queue queued taken : ℕ) (failed : Bool) → Placed p q
     → record (reader_state o q queue queued taken failed) { bytes = p.bytes }
     ≡ reader_state o p queue queued taken failed
-asked o p q queue queued taken failed h = rw (h.fetched, h.refusals, h.reference_names) refl
+asked o p q queue queued taken failed h = rw (h.fetched, h.refusals, h.references) refl
 
 -- a position that was answered
 abbrev pub ok_at : ℕ → Result ℕ Error
@@ -219,7 +219,7 @@ means_here K to old at queued place here answer size meant = record {
 -- ---- from one reader to another
 
 refused_from : {A : Type 0} (e : ErrorKind → Error) (may : Refusal → Type 0) (old mid new : ReaderState)
-    (r : Result A Error) → mid.refusals ≡ old.refusals → mid.reference_names ≡ old.reference_names
+    (r : Result A Error) → mid.refusals ≡ old.refusals → mid.references ≡ old.references
     → (h : RequestRefused e may mid r new) → (k : RequestRefused e may old r new) × (k.refusal ≡ h.refusal)
 refused_from e may old mid new r refusals names h = (
   record {
@@ -227,7 +227,7 @@ refused_from e may old mid new r refusals names h = (
     allowed = h.allowed;
     answer = h.answer;
     refusals = h.refusals ∙ ap (λ l. h.refusal ∷ l) refusals;
-    reference_names = h.reference_names ∙ names;
+    references = h.references ∙ names;
     queue = h.queue;
     failed = h.failed;
   },
@@ -235,8 +235,8 @@ refused_from e may old mid new r refusals names h = (
 )
 
 pub goes_from : {R : Type 0} {K : SeekerOf R} {place : ℕ} {old mid new : R} {r : Result ℕ Error}
-    → (K.source.state mid).refusals ≡ (K.source.state old).refusals → (K.source.state mid).reference_names
-    ≡ (K.source.state old).reference_names
+    → (K.source.state mid).refusals ≡ (K.source.state old).refusals → (K.source.state mid).references
+    ≡ (K.source.state old).references
     → ((xs : List ℕ) → Tells K old xs → Tells K mid xs) → GoesTo K place mid r new → GoesTo K place old r new
 unfolding refused_from
 goes_from refusals names told (GoesTo.was_done answer h) = GoesTo.was_done answer (record {
@@ -245,7 +245,7 @@ goes_from refusals names told (GoesTo.was_done answer h) = GoesTo.was_done answe
   fetched = h.fetched;
   queued = h.queued;
   refusals = h.refusals ∙ refusals;
-  reference_names = h.reference_names ∙ names;
+  references = h.references ∙ names;
   left = λ xs t. h.left xs (told xs t);
 })
 goes_from refusals names told (GoesTo.was_refused h) = GoesTo.was_refused (refused_from _ _ _ _ _ _ refusals names h).0
@@ -264,7 +264,7 @@ goes_on {K = K} {d = d} {place = place} {old = old} (AsksPlace.was_done at fine 
     let same : at ≡ place = cc in
     SeeksBits.was_meant place (λ _. fine) (subst (λ n. Means K (Current d) old (Some n)) same means)
     (goes_from (ap (λ (s : ReaderState). s.refusals) asked.same)
-    (ap (λ (s : ReaderState). s.reference_names) asked.same) (told_still asked) goes)
+    (ap (λ (s : ReaderState). s.references) asked.same) (told_still asked) goes)
 goes_on (AsksPlace.was_refused fine h) goes = let p = h.answer in cc
 goes_on (AsksPlace.was_rejected fine means answer asked) goes = cc
 
@@ -283,7 +283,7 @@ asks_in_vain {K = K} same (AsksPlace.was_refused fine h) =
       allowed = h.allowed;
       answer = same ∙ h.answer;
       refusals = h.refusals;
-      reference_names = h.reference_names;
+      references = h.references;
       queue = h.queue;
       failed = h.failed;
     })
@@ -309,7 +309,7 @@ pub goes_back : {R : Type 0} {K : SeekerOf R} {n : ℤ} {old mid new : R} {at pl
     → Begins K (End (pos 0)) old at mid → place_of (bit_meant at 0 (End n)) ≡ Some place → GoesTo K place mid r new
     → SeeksBits K (End n) old r new
 goes_back {n = n} {place = place} begins meant goes = SeeksBits.was_meant place (λ h. absurd h)
-    (end_means n begins meant) (goes_from begins.refusals begins.reference_names (told_anew begins) goes)
+    (end_means n begins meant) (goes_from begins.refusals begins.references (told_anew begins) goes)
 
 pub none_back : {R : Type 0} {K : SeekerOf R} {n : ℤ} {old mid new : R} {at : ℕ} → Begins K (End (pos 0)) old at mid
     → place_of (bit_meant at 0 (End n)) ≡ None → K.source.state new ≡ failed_reader (K.source.state mid)
@@ -318,7 +318,7 @@ none_back {n = n} begins meant fails = SeeksBits.was_rejected (λ h. absurd h) (
   failed = ap (λ (s : ReaderState). s.failed) fails;
   queue = ap (λ (s : ReaderState). s.queue) fails;
   refusals = ap (λ (s : ReaderState). s.refusals) fails ∙ begins.refusals;
-  reference_names = ap (λ (s : ReaderState). s.reference_names) fails ∙ begins.reference_names;
+  references = ap (λ (s : ReaderState). s.references) fails ∙ begins.references;
 })
 
 start_place : (x : ℕ) → x < 2 ^ 64 → place_of (pos x) ≡ Some x
@@ -340,7 +340,7 @@ near_place (Start n) near = omega (arith, near)
 near_place (End d) near = near
 near_place (Current d) near = near
 
-pub slice_refuses_none : (refusal : Refusal) → MaySeek (MayRefuseSeek slice_remaining slice_refuses_seek) refusal → ⊥
+pub slice_refuses_none : (refusal : Refusal) → MaySeek (MayRefuseSeek slice_remaining (λ _. []) slice_refuses_seek) refusal → ⊥
 slice_refuses_none refusal (to, near, may) = may.refused.1 (slice_in_range may.old to (near_place to near))
 
 pub slice_tells : (s : Slice) (at : ℕ) (xs : List ℕ) → Some (slice_place s) ≡ Some at → Some (slice_bytes s) ≡ Some xs

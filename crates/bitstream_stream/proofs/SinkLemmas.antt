@@ -1,8 +1,9 @@
 -- Write calls, seen another way.
-use Rattle.std.proofs.Common.{◌≡◌, ℕ, ◌+◌, ◌*◌, ◌%◌, ◌<◌, ◌≤◌, ◌≢◌, Bool, IsTrue, true, false, List, [], ◌∷◌, ◌++◌, length, Option, Some, None, Result, Ok, Err, refl, sym, ◌∙◌, ap, ap₂, inl, inr, arith}
+use Rattle.std.proofs.Common.{◌≡◌, ℕ, ◌+◌, ◌*◌, ◌%◌, ◌<◌, ◌≤◌, ◌≢◌, Bool, IsTrue, true, false, List, [], ◌∷◌, ◌++◌, length, Option, Some, None, Result, Ok, Err, refl, sym, ◌∙◌, ap, ap₂, inl, inr, arith, map}
 use Rattle.std.proofs.lemmas.Bool.{cases_lt}
 use Rattle.std.specs.Borrow.{GName, MutBor}
 use Rattle.std.specs.Result.{IsErrAnd}
+use Rattle.bitstream_order.specs.Reference.{Reference, by_name, capacity_of}
 use Rattle.bitstream_count.specs.Entry.{WriteEntry}
 use Rattle.bitstream_count.specs.declared.error.Error.{Error}
 use Rattle.bitstream_count.specs.declared.error.Error.TheVariants.{Failed}
@@ -49,14 +50,20 @@ no_zeros (Some most) full len within past off = last_byte most full.0 len full.1
 
 -- ---- a call on a sink that is seen another way
 
+-- references that only have names hold nothing
+same_capacity : (names : List GName) (others : List Reference) → capacity_of (map by_name names ++ others)
+    ≡ capacity_of others
+same_capacity [] others = refl
+same_capacity (name ∷ names) others = same_capacity names others
+
 module _ {R S : Type 0} (f : R → S) (names : R → List GName) (K : Sink S) where
   kept_seen : (a b : R) → names b ≡ names a → Kept K (f a) (f b) → Kept (seen_sink f names K) a b
   kept_seen a b same k = record {
     grown = k.grown;
     failed = k.failed;
     refusals = k.refusals;
-    reference_names =
-        ap₂ (λ (x y : List GName). x ++ y) same k.reference_names;
+    references =
+        ap₂ (λ (x : List GName) y. map by_name x ++ y) same k.references;
   }
 
   -- a call on a state that is seen as a state of the sink
@@ -78,17 +85,19 @@ module _ {R S : Type 0} (f : R → S) (names : R → List GName) (K : Sink S) wh
     whole = k.whole;
     least = k.least;
     most = k.most;
+    asked = k.asked;
+    capacity = k.capacity ∙ sym (same_capacity (names a) (K.references (f a)));
     refusals = k.refusals;
     failed = k.failed;
-    reference_names = ap₂ (λ (x y : List GName). x ++ y) same k.reference_names;
+    references = ap₂ (λ (x : List GName) y. map by_name x ++ y) same k.references;
   })
   seen e a r b same (was_done x t p en wi re k) =
       was_done x t p en wi re (record {
         grown = k.grown;
         sound = k.sound;
         refusals = k.refusals;
-        reference_names =
-            ap₂ (λ (x y : List GName). x ++ y) same k.reference_names;
+        references =
+            ap₂ (λ (x : List GName) y. map by_name x ++ y) same k.references;
       })
 
 -- a call on a sink inside a state
@@ -126,7 +135,7 @@ module _ {S : Type 0} (K : Sink S) where
 
   -- a state as it was
   pub kept : (s : S) → Kept K s s
-  kept s = record { grown = K.appends_nil s; failed = refl; refusals = refl; reference_names = refl }
+  kept s = record { grown = K.appends_nil s; failed = refl; refusals = refl; references = refl }
 
   -- a call on a sink that has failed, and one that is refused at once
   pub fails : {T : Type 0} (e : WriteEntry) (s : S) (r : Result T Error) → K.failed s ≡ true → r ≡ Err Failed

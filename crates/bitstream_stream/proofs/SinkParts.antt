@@ -3,6 +3,7 @@ use Rattle.std.proofs.Common.{◌≡◌, ℕ, ◌+◌, ◌^◌, ◌<◌, ◌≤�
 use Rattle.std.specs.Result.{IsErrAnd}
 use Rattle.std.proofs.lemmas.List.{replicate-append-replicate}
 use Rattle.bitstream_number.specs.Word.{Order, word}
+use Rattle.bitstream_order.specs.Reference.{capacity_of}
 use Rattle.bitstream_count.specs.Entry.{WriteEntry}
 use Rattle.bitstream_count.specs.declared.error.Error.{Error}
 use Rattle.bitstream_count.specs.declared.error.Error.TheVariants.{Failed, CounterOverflow}
@@ -19,7 +20,7 @@ pub record Begun {S : Type 0} (K : Sink S) (old : S) (x : List Bool) (new : S) :
 
 module _ {S : Type 0} (K : Sink S) where
   pub appended_none : (s : S) → K.failed s ≡ false → Appended K s [] s
-  appended_none s sound = record { grown = K.appends_nil s; sound = sound; refusals = refl; reference_names = refl }
+  appended_none s sound = record { grown = K.appends_nil s; sound = sound; refusals = refl; references = refl }
 
   pub appended_more : (s t z : S) (x y : List Bool) → Appended K s x t → Appended K t y z → Appended K s (x ++ y) z
   appended_more s t z x y h k =
@@ -27,14 +28,14 @@ module _ {S : Type 0} (K : Sink S) where
         grown = K.appends_trans s t z x y h.grown k.grown;
         sound = k.sound;
         refusals = k.refusals ∙ h.refusals;
-        reference_names = k.reference_names ∙ h.reference_names;
+        references = k.references ∙ h.references;
       }
 
   -- a fault of a part of a word, behind bits that were appended and before others, is a fault of the word
   pub WriteRefused-within : (old mid new : S) (d : Error) (x y z word : List Bool) → word ≡ x ++ (y ++ z)
-      → K.appends old x mid → K.refusals mid ≡ K.refusals old → K.reference_names mid ≡ K.reference_names old
+      → K.appends old x mid → K.refusals mid ≡ K.refusals old → K.references mid ≡ K.references old
       → WriteRefused K mid y d new → WriteRefused K old word d new
-  WriteRefused-within old mid new d x y z word whole grown refusals reference_names k =
+  WriteRefused-within old mid new d x y z word whole grown refusals references k =
       let at = K.appends_len old mid x grown in
       let size = length-append x k.front in
       let least = k.least in
@@ -60,16 +61,23 @@ module _ {S : Type 0} (K : Sink S) where
         whole = k.whole;
         least = omega arith;
         most = omega arith;
+        asked = let asked = k.asked in omega (
+          arith,
+          at,
+          ap length whole ∙ length-append x (y ++ z)
+              ∙ ap (λ (n : ℕ). length x + n) (length-append y z),
+        );
+        capacity = k.capacity ∙ ap capacity_of references;
         refusals = k.refusals ∙ ap (λ l. k.refusal ∷ l) refusals;
         failed = k.failed;
-        reference_names = k.reference_names ∙ reference_names;
+        references = k.references ∙ references;
       }
 
   -- of its last part, and of its front
   pub WriteRefused-behind : (old mid new : S) (d : Error) (x y : List Bool) → Appended K old x mid
       → WriteRefused K mid y d new → WriteRefused K old (x ++ y) d new
   WriteRefused-behind old mid new d x y h k = WriteRefused-within old mid new d x y [] (x
-      ++ y) (ap (λ (l : List Bool). x ++ l) (sym (append-nil y))) h.grown h.refusals h.reference_names k
+      ++ y) (ap (λ (l : List Bool). x ++ l) (sym (append-nil y))) h.grown h.refusals h.references k
 
   pub WriteRefused-longer : (old new : S) (d : Error) (y z : List Bool) → WriteRefused K old y d new
       → WriteRefused K old (y ++ z) d new
@@ -152,7 +160,7 @@ module _ {S : Type 0} (K : Sink S) where
     failed = b.done.sound ∙ sym b.was_sound;
     refusals =
         b.done.refusals;
-    reference_names = b.done.reference_names;
+    references = b.done.references;
   }
 
   -- a call of no bits that found it sound, before a refusal

@@ -148,7 +148,7 @@ module _ (o : Order) (stop : Bool) (old new : PortState) (queue queued before_ta
     fetched = h.fetched;
     taken = more ∙ ap (λ n. before_taken + n) (sym (length-unary stop count));
     refusals = h.refusals;
-    reference_names = h.reference_names;
+    references = h.references;
     failed = still;
   }
 
@@ -171,7 +171,7 @@ module _ (o : Order) (stop : Bool) (old new : PortState) (queue queued before_ta
     fetched = h.takes.fetched;
     taken = more ∙ ap (λ n. before_taken + n) (sym h.long ∙ sym (length-replicate h.count (not stop)));
     refusals = h.takes.refusals;
-    reference_names = h.takes.reference_names;
+    references = h.takes.references;
     failed = refl;
   }
 
@@ -211,7 +211,7 @@ module _ (o : Order) (stop : Bool) (old new : PortState) (queue queued before_ta
             ∙ append-nil t.bytes in
             ap (λ l. read_unary stop (x ++ bits o l)) same ∙ few;
         refusals = r.refusals ∙ ap (λ l. r.refusal ∷ l) t.refusals;
-        reference_names = r.reference_names ∙ t.reference_names;
+        references = r.references ∙ t.references;
         failed = refl;
       }
 

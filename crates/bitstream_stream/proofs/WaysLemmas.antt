@@ -1,6 +1,6 @@
 -- What a reader whose queue was dropped has read.
 use Rattle.std.proofs.Common.{◌≡◌, ℕ, ◌+◌, Bool, true, false, List, Option, Ok, refl, sym, ap₂, ◌∙◌, arith}
-use Rattle.std.specs.Borrow.{GName}
+use Rattle.bitstream_order.specs.Reference.{Reference}
 use Rattle.std.specs.declared.io.ErrorKind.{ErrorKind}
 use Rattle.bitstream_number.specs.Word.{Order}
 use Rattle.bitstream_order.specs.Port.{port_state}
@@ -12,14 +12,14 @@ use Rattle.bitstream_stream.specs.Ways.{aligned_reader}
 use Rattle.bitstream_stream.proofs.ReaderLemmas.{aligned}
 
 module _ {R E : Type 0} (remaining : R → Option (List ℕ)) (refuses : R → ℕ → ErrorKind → R → Type 0)
-    (reference_names : R → List GName) (o : Order) (r : BitReader R E) where
-  aligned_by : (failed : Bool) → r.failed ≡ failed → Reads (reader_source remaining refuses reference_names o)
+    (references : R → List Reference) (o : Order) (r : BitReader R E) where
+  aligned_by : (failed : Bool) → r.failed ≡ failed → Reads (reader_source remaining refuses references o)
       align_entry r (Ok tt) (aligned_reader r)
   unfolding align_entry
-  aligned_by false fine = was_done (aligned o (port_state remaining reference_names r.port) (queued_number o r) r.queued
+  aligned_by false fine = was_done (aligned o (port_state remaining references r.port) (queued_number o r) r.queued
       r.taken.count (r.taken.count + r.queued) (queued_number o (aligned_reader r)) r.failed fine r.few (r.back fine) refl)
   aligned_by true failed =
-      let K = reader_source remaining refuses reference_names o in
+      let K = reader_source remaining refuses references o in
       let held : (K.state (aligned_reader r)).queue ≡ (K.state r).queue = K.empties (aligned_reader r) failed
       ∙ sym (K.empties r failed) in
       let none = r.empty failed in
@@ -32,5 +32,5 @@ module _ {R E : Type 0} (remaining : R → Option (List ℕ)) (refuses : R → �
       })
 
   -- it read what an alignment takes
-  pub aligned_reads : Reads (reader_source remaining refuses reference_names o) align_entry r (Ok tt) (aligned_reader r)
+  pub aligned_reads : Reads (reader_source remaining refuses references o) align_entry r (Ok tt) (aligned_reader r)
   aligned_reads = aligned_by r.failed refl

@@ -22,7 +22,7 @@ use Rattle.bitstream_stream.specs.Writer.{writer_state, AddsBits, queue_sink, Pu
 use Rattle.bitstream_stream.specs.Ways as flushes
 use Rattle.bitstream_stream.specs.Ways.{Flushes}
 use Rattle.bitstream_stream.specs.declared.writer.BitWriter.{BitWriter}
-use Rattle.std.specs.Borrow.{GName}
+use Rattle.bitstream_order.specs.Reference.{Reference}
 
 -- a queue with a word behind it
 pub queue_small : (o : Order) (queued queue n v part q : ℕ) → queue < 2 ^ queued → part ≡ piece o n v 0 n → q
@@ -58,7 +58,7 @@ pushed_queue may o queued queue n v part q p old new below cut put sound =
       };
       sound = sound;
       refusals = refl;
-      reference_names = refl;
+      references = refl;
     }
 
 -- bytes that went, and the bits behind them
@@ -80,21 +80,25 @@ pushed_bytes may o queued queue n v gone q p r old new h le cut sound = record {
   };
   sound = sound;
   refusals = h.refusals;
-  reference_names = h.reference_names;
+  references = h.references;
 }
 
 -- a request was refused, and the queue was emptied
-fault_lengths : (a b queued n : ℕ) → b ≡ a → queued < 8 → 8 ≤ queued + n → (8 ≤ (8 * a + queued) % 8 + n)
+fault_lengths : (a b queued n k wanted : ℕ) → b ≡ a → wanted ≡ k → queued < 8 → 8 ≤ queued + n → 8 * k ≤ queued + n
+    → (8 ≤ (8 * a + queued) % 8 + n)
     × ((8 * b + 0) % 8 ≡ 0) × (8 * a + queued + 0 < 8 * b + 0 + 8) × (8 * b + 0 ≤ 8 * a + queued + 0)
-fault_lengths a b queued n sent few full = (omega arith, omega arith, omega arith, omega arith)
+    × (8 * b + 0 + 8 * wanted ≤ 8 * a + queued + n)
+fault_lengths a b queued n k wanted sent same few full room =
+    (omega arith, omega arith, omega arith, omega arith, omega arith)
 
 pub pushed_fault : (may : Refusal → Type 0) (o : Order) (queued queue n v k : ℕ) (error : Error)
-    (p r : PortState) (old new : Bool) (q : ℕ) → SendRefused may error p k r → queued < 8 → 8 ≤ queued + n → new ≡ true
+    (p r : PortState) (old new : Bool) (q : ℕ) → SendRefused may error p k r → queued < 8 → 8 ≤ queued + n
+    → 8 * k ≤ queued + n → new ≡ true
     → WriteRefused (queue_sink may o) (record { port = p; queued = queued; queue = queue; failed = old }) (word o n v)
     error (record { port = r; queued = 0; queue = q; failed = new })
-pushed_fault may o queued queue n v k error p r old new q h few full broken =
+pushed_fault may o queued queue n v k error p r old new q h few full room broken =
     let is = length-word o n v in
-    let lengths = fault_lengths p.sent r.sent queued n h.sent few full in
+    let lengths = fault_lengths p.sent r.sent queued n k h.refusal.wanted h.sent h.wanted few full room in
     record {
       refusal = h.refusal;
       allowed = h.allowed;
@@ -114,9 +118,11 @@ pushed_fault may o queued queue n v k error p r old new q h few full broken =
       whole = lengths.1;
       least = lengths.2;
       most = lengths.3;
+      asked = rw is lengths.4;
+      capacity = h.capacity;
       refusals = h.refusals;
       failed = broken;
-      reference_names = h.reference_names;
+      references = h.references;
     }
 
 -- a push whose request was refused, and the writer was made to fail
@@ -145,12 +151,12 @@ pushes_writes may o x e old (Ok done) new sound is h = was_done x done sound is 
 pushes_writes may o x e old (Err error) new sound is h = was_refused x error sound is tt refl h
 
 -- what an aligned writer added to its stream, from the first bit on
-pub adds_bits : {W E : Type 0} (contents : W → Option (List ℕ)) (reference_names : W → List GName) (o : Order)
-    (a b : BitWriter W E) (x : List Bool) → Carries o (writer_state contents reference_names a) x
-    (writer_state contents reference_names b) → a.queued ≡ 0
-    → (8 * (writer_state contents reference_names b).port.sent + b.queued) % 8 ≡ 0
+pub adds_bits : {W E : Type 0} (contents : W → Option (List ℕ)) (references : W → List Reference) (o : Order)
+    (a b : BitWriter W E) (x : List Bool) → Carries o (writer_state contents references a) x
+    (writer_state contents references b) → a.queued ≡ 0
+    → (8 * (writer_state contents references b).port.sent + b.queued) % 8 ≡ 0
     → AddsBits o (contents a.port.stream) x (contents b.port.stream)
-adds_bits contents reference_names o a b x h none aligned =
+adds_bits contents references o a b x h none aligned =
     let few : b.queued < 8 = b.few in
     let all : b.queued ≡ 0 = omega arith in
     record {

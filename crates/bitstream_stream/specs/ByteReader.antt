@@ -3,7 +3,7 @@ use Rattle.std.specs.Prelude.{◌≡◌, ℕ, List, Option, Result, Ok, Err}
 use Rattle.std.specs.declared.io.ErrorKind.{ErrorKind}
 use Rattle.std.specs.IoError.{error_kind}
 use Rattle.std.specs.declared.io.Error.{Error as IoError}
-use Rattle.std.specs.Borrow.{GName}
+use Rattle.bitstream_order.specs.Reference.{Reference}
 use Rattle.bitstream_number.specs.Word.{Order}
 use Rattle.bitstream_count.specs.Kind.{kind_of}
 use Rattle.bitstream_count.specs.declared.error.Error.{Error}
@@ -18,21 +18,21 @@ byte_reader_state port = record {
   bytes = port.bytes;
   taken = port.fetched;
   refusals = port.refusals;
-  reference_names = port.reference_names;
+  references = port.references;
 }
 
 -- what the states of a reader of bytes mean
 abbrev pub byte_reader_source : {R E : Type 0} → (R → Option (List ℕ)) → (R → ℕ → ErrorKind → R → Type 0)
-    → (R → List GName) → Order → ByteSource (ByteReader R E)
-byte_reader_source remaining refuses reference_names o = record {
+    → (R → List Reference) → Order → ByteSource (ByteReader R E)
+byte_reader_source remaining refuses references o = record {
   order = o;
-  state = λ r. byte_reader_state (port_state remaining reference_names r.port);
-  may = MayRefuse remaining refuses;
+  state = λ r. byte_reader_state (port_state remaining references r.port);
+  may = MayRefuse remaining references refuses;
 }
 
 -- a reader, by what its stream tells
-abbrev pub byte_reader_port : {R E : Type 0} → (R → Option (List ℕ)) → (R → List GName) → ByteReader R E → PortState
-byte_reader_port remaining reference_names r = port_state remaining reference_names r.port
+abbrev pub byte_reader_port : {R E : Type 0} → (R → Option (List ℕ)) → (R → List Reference) → ByteReader R E → PortState
+byte_reader_port remaining references r = port_state remaining references r.port
 
 -- A seek by one request, from which on the fetched bytes are counted anew. If the stream refused it, the `io::Error` is
 -- of the kind of that refusal, and what was fetched stays counted.

@@ -2,6 +2,7 @@
 use Rattle.std.specs.Prelude.{◌≡◌, ℕ, ◌+◌, Bool, true, false, List, ◌∷◌, ◌++◌, length, take, nat_le, if◌then◌else◌, Option, Some, Result, Ok, Err}
 use Rattle.std.specs.Borrow.{GName, MutBor}
 use Rattle.std.specs.Io.KnownBytes.{Consumes}
+use Rattle.bitstream_order.specs.Reference.{Reference, by_name}
 use Rattle.bitstream_count.specs.declared.error.Error.{Error}
 use Rattle.bitstream_count.specs.declared.error.Error.TheVariants.{OutOfMemory}
 use Rattle.bitstream_count.specs.Entry.{Front, TooFew, Takes}
@@ -16,8 +17,8 @@ pub record ByteReaderState : Type 0 where
   pub taken : ℕ
   -- the requests of the stream that were refused, the last one first
   pub refusals : List Refusal
-  -- the names of the references through which the stream is reached
-  pub reference_names : List GName
+  -- the references through which the stream is reached
+  pub references : List Reference
 
 -- what the states of a reader of bytes mean
 pub record ByteSource (R : Type 0) : Type 1 where
@@ -47,7 +48,7 @@ pub record BytesTaken (old : ByteReaderState) (bytes : List ℕ) (new : ByteRead
   pub loses : Consumes old.bytes new.bytes bytes
   pub taken : new.taken ≡ old.taken + length bytes
   pub refusals : new.refusals ≡ old.refusals
-  pub reference_names : new.reference_names ≡ old.reference_names
+  pub references : new.references ≡ old.references
 
 -- The call takes its front, some bytes, and gives the front's answer. They alone decide it, whatever bytes
 -- follow, and no proper beginning of them has a front.
@@ -72,7 +73,7 @@ pub record ByteReadRefused {A : Type 0} (may : Refusal → Type 0) (entry : Byte
   pub few : entry gone ≡ TooFew
   pub ended : IsTrueEnd refusal → (xs : List ℕ) → old.bytes ≡ Some xs → entry xs ≡ TooFew
   pub refusals : new.refusals ≡ refusal ∷ old.refusals
-  pub reference_names : new.reference_names ≡ old.reference_names
+  pub references : new.references ≡ old.references
 
 -- Memory that the call asked for itself was refused. The bytes that were taken until then were too few for the
 -- call, so a call for no bytes is never refused memory.
@@ -102,7 +103,7 @@ ByteReadsGrowing K entry old result new = ByteReadOutcome K true entry old resul
 
 -- a state, seen through a reference of this name
 abbrev pub lent_bytes : GName → ByteReaderState → ByteReaderState
-lent_bytes name s = record s { reference_names = name ∷ s.reference_names }
+lent_bytes name s = record s { references = by_name name ∷ s.references }
 
 -- a reader of bytes behind a `&mut`
 abbrev pub lent_byte_source : {R : Type 0} → ByteSource R → ByteSource (MutBor R)

@@ -1,7 +1,8 @@
 -- What a sink of bytes is, and what one write call does to it.
-use Rattle.std.specs.Prelude.{◌≡◌, ℕ, ◌+◌, ◌<◌, List, [], ◌∷◌, ◌++◌, length, Option, Result, Ok, Err}
-use Rattle.std.specs.Borrow.{GName, MutBor}
+use Rattle.std.specs.Prelude.{◌≡◌, ℕ, ◌+◌, ◌<◌, ◌≤◌, List, [], ◌∷◌, ◌++◌, length, Option, Result, Ok, Err}
+use Rattle.std.specs.Borrow.{MutBor}
 use Rattle.std.specs.Io.KnownBytes.{Appends}
+use Rattle.bitstream_order.specs.Reference.{Reference, by_name, capacity_of}
 use Rattle.bitstream_number.specs.Word.{Order}
 use Rattle.bitstream_count.specs.declared.error.Error.{Error}
 use Rattle.bitstream_count.specs.declared.error.Error.TheVariants.{CounterOverflow}
@@ -24,8 +25,8 @@ pub record ByteSink (S : Type 0) : Type 1 where
   pub refusals : S → List Refusal
   -- the refusals that its stream may make
   pub may : Refusal → Type 0
-  -- the names of the references through which the sink and its stream are reached
-  pub reference_names : S → List GName
+  -- the references through which the sink and its stream are reached
+  pub references : S → List Reference
   pub appends_nil : (s : S) → appends s [] s
   pub appends_trans : (s t u : S) (x y : List ℕ) → appends s x t → appends t y u → appends s (x ++ y) u
   pub grows : (s t : S) (x : List ℕ) → appends s x t → Appends (contents s) (contents t) x
@@ -36,10 +37,10 @@ pub record ByteSink (S : Type 0) : Type 1 where
 pub record BytesAppended {S : Type 0} (K : ByteSink S) (old : S) (bytes : List ℕ) (new : S) : Type 0 where
   pub grown : K.appends old bytes new
   pub refusals : K.refusals new ≡ K.refusals old
-  pub reference_names : K.reference_names new ≡ K.reference_names old
+  pub references : K.references new ≡ K.references old
 
--- A request was refused, as the stream may refuse. A beginning of the bytes, and not all, was sent before, and the
--- stream is as the refusal left it.
+-- A request was refused, as the stream may refuse. A beginning of the bytes, and not all, was sent before, and as many
+-- as the others at most were asked for. The stream is as the refusal left it.
 pub record ByteWriteRefused {S : Type 0} (K : ByteSink S) (old : S) (bytes : List ℕ) (error : Error) (new : S) :
     Type 0 where
   pub refusal : Refusal
@@ -49,11 +50,13 @@ pub record ByteWriteRefused {S : Type 0} (K : ByteSink S) (old : S) (bytes : Lis
   pub back : List ℕ
   pub parts : bytes ≡ front ++ back
   pub some : 0 < length back
+  pub asked : refusal.wanted ≤ length back
+  pub capacity : refusal.capacity ≡ capacity_of (K.references old)
   pub before : Appends (K.contents old) refusal.before front
   pub after : K.contents new ≡ refusal.after
   pub sent : K.len new ≡ K.len old + length front
   pub refusals : K.refusals new ≡ refusal ∷ K.refusals old
-  pub reference_names : K.reference_names new ≡ K.reference_names old
+  pub references : K.references new ≡ K.references old
 
 -- what one call does that writes these bytes
 pub data ByteWrites {S T : Type 0} (K : ByteSink S) (bytes : List ℕ) (old : S) (result : Result T Error) (new : S) :
@@ -77,7 +80,7 @@ lent_byte_sink K = record {
   limit = K.limit;
   refusals = λ a. K.refusals a.now;
   may = K.may;
-  reference_names = λ a. a.ghost_name ∷ K.reference_names a.now;
+  references = λ a. by_name a.ghost_name ∷ K.references a.now;
   appends_nil = λ a. K.appends_nil a.now;
   appends_trans = λ a b c x y p q. K.appends_trans a.now b.now c.now x y p q;
   grows = λ a b x p. K.grows a.now b.now x p;

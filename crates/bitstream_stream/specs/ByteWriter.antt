@@ -1,7 +1,7 @@
 -- What the states of a `ByteWriter` mean.
 use Rattle.std.specs.Prelude.{◌≡◌, ℕ, ◌+◌, List, [], ◌++◌, length, Option, None}
 use Rattle.std.specs.declared.io.ErrorKind.{ErrorKind}
-use Rattle.std.specs.Borrow.{GName}
+use Rattle.bitstream_order.specs.Reference.{Reference}
 use Rattle.std.specs.Io.KnownBytes.{Appends}
 use Rattle.std.proofs.Common.{sym, ap, ◌∙◌, add_assoc, add-zero, length-append}
 use Rattle.std.proofs.KnownBytes.{Appends-nil, Appends-trans}
@@ -27,14 +27,14 @@ SentBytes-trans s t u x y p q = record {
 }
 
 -- a writer, by what its stream tells
-abbrev pub byte_writer_state : {W E : Type 0} → (W → Option (List ℕ)) → (W → List GName) → ByteWriter W E → PortState
-byte_writer_state contents reference_names w = port_state contents reference_names w.port
+abbrev pub byte_writer_state : {W E : Type 0} → (W → Option (List ℕ)) → (W → List Reference) → ByteWriter W E → PortState
+byte_writer_state contents references w = port_state contents references w.port
 
 -- a writer as a sink of bytes
 abbrev pub byte_writer_sink : {W E : Type 0} → (W → Option (List ℕ)) → (W → ℕ → ErrorKind → W → Type 0)
-    → (W → List GName) → Order → ByteSink (ByteWriter W E)
-byte_writer_sink {W} {E} contents refuses reference_names o =
-    let state : ByteWriter W E → PortState = byte_writer_state contents reference_names in
+    → (W → List Reference) → Order → ByteSink (ByteWriter W E)
+byte_writer_sink {W} {E} contents refuses references o =
+    let state : ByteWriter W E → PortState = byte_writer_state contents references in
     record {
       order = o;
       appends = λ a x b. SentBytes (state a) x (state b);
@@ -42,8 +42,8 @@ byte_writer_sink {W} {E} contents refuses reference_names o =
       len = λ a. (state a).sent;
       limit = None;
       refusals = λ a. (state a).refusals;
-      may = MayRefuse contents refuses;
-      reference_names = λ a. (state a).reference_names;
+      may = MayRefuse contents references refuses;
+      references = λ a. (state a).references;
       appends_nil = λ a. SentBytes-nil (state a);
       appends_trans = λ a b c x y p q. SentBytes-trans (state a) (state b) (state c) x y p q;
       grows = λ a b x p. p.grows;

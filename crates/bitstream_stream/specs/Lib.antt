@@ -9,6 +9,7 @@ pub mod Place
 pub mod ReadTable
 pub mod Reader
 pub mod Reads
+pub mod Room
 pub mod Run
 pub mod Seek
 pub mod Sink

@@ -3,6 +3,7 @@ use Rattle.std.specs.Prelude.{◌≡◌, ℕ, ◌+◌, ◌*◌, ◌/◌, Bool, t
 use Rattle.std.specs.Borrow.{GName, MutBor}
 use Rattle.std.specs.Result.{IsErrAnd}
 use Rattle.std.specs.Io.KnownBytes.{Consumes}
+use Rattle.bitstream_order.specs.Reference.{Reference, by_name}
 use Rattle.bitstream_count.specs.declared.error.Error.{Error}
 use Rattle.bitstream_count.specs.declared.error.Error.TheVariants.{RunTooLong, OutOfMemory, EndOfInput}
 use Rattle.bitstream_count.specs.Entry.{ReadEntry, Front, TooFew, Takes}
@@ -21,8 +22,8 @@ pub record ReaderState : Type 0 where
   pub failed : Bool
   -- the requests of the stream that were refused, the last one first
   pub refusals : List Refusal
-  -- the names of the references through which the stream is reached
-  pub reference_names : List GName
+  -- the references through which the stream is reached
+  pub references : List Reference
 
 -- a reader has fetched the bytes of the bits taken, and no more
 abbrev pub Demands : ReaderState → Type 0
@@ -80,7 +81,7 @@ pub record ReadDone {A : Type 0} (o : Order) (entry : ReadEntry A) (old : Reader
   pub fetched : new.fetched ≡ old.fetched + length gone
   pub taken : new.taken ≡ old.taken + length word
   pub refusals : new.refusals ≡ old.refusals
-  pub reference_names : new.reference_names ≡ old.reference_names
+  pub references : new.references ≡ old.references
   pub failed : new.failed ≡ is_run_too_long result
 
 -- A request was refused, as the stream may refuse, and the reader has failed. The queue was too short for the
@@ -101,7 +102,7 @@ pub record ReadRefused {A : Type 0} (o : Order) (may : Refusal → Type 0) (entr
   pub ended : IsTrueEnd refusal → (xs : List ℕ) → old.bytes ≡ Some xs → entry.reads old.taken (old.queue ++ bits o xs)
       ≡ TooFew
   pub refusals : new.refusals ≡ refusal ∷ old.refusals
-  pub reference_names : new.reference_names ≡ old.reference_names
+  pub references : new.references ≡ old.references
   pub failed : new.failed ≡ true
 
 -- Memory that the call asked for itself was refused, and the reader has failed. The bits that were taken
@@ -119,7 +120,7 @@ pub record MemoryRefused {A : Type 0} (o : Order) (entry : ReadEntry A) (old : R
   pub fetched : new.fetched ≡ old.fetched + length gone
   pub taken : new.taken ≡ old.taken + length word
   pub refusals : new.refusals ≡ old.refusals
-  pub reference_names : new.reference_names ≡ old.reference_names
+  pub references : new.references ≡ old.references
   pub failed : new.failed ≡ true
 
 -- one read, by what the call means; `grows` says whether the call asks for memory of its own
@@ -146,7 +147,7 @@ failed_reader s = record s { failed = true; queue = [] }
 
 -- the same reader, seen through a reference of this name
 abbrev pub lent : GName → ReaderState → ReaderState
-lent name s = record s { reference_names = name ∷ s.reference_names }
+lent name s = record s { references = by_name name ∷ s.references }
 
 -- a reader behind a `&mut`
 abbrev pub lent_source : {R : Type 0} → BitSource R → BitSource (MutBor R)

@@ -75,7 +75,7 @@ pub record Lands {R : Type 0} (K : SeekerOf R) (place : ℕ) (old new : R) : Typ
   pub fetched : (K.source.state new).fetched ≡ (place % 8 + 7) / 8
   pub queued : length (K.source.state new).queue ≡ to_boundary place
   pub refusals : (K.source.state new).refusals ≡ (K.source.state old).refusals
-  pub reference_names : (K.source.state new).reference_names ≡ (K.source.state old).reference_names
+  pub references : (K.source.state new).references ≡ (K.source.state old).references
   pub left : (xs : List ℕ) → Tells K old xs → bits_left K.source.order (K.source.state new)
       ≡ Some (drop place (bits K.source.order xs))
 
@@ -86,7 +86,7 @@ pub record RequestRefused {A : Type 0} (error_of : ErrorKind → Error) (may : R
   pub allowed : may refusal
   pub answer : result ≡ Err (error_of refusal.kind)
   pub refusals : new.refusals ≡ refusal ∷ old.refusals
-  pub reference_names : new.reference_names ≡ old.reference_names
+  pub references : new.references ≡ old.references
   pub queue : new.queue ≡ []
   pub failed : new.failed ≡ true
 
@@ -138,7 +138,7 @@ pub record Fails (old new : ReaderState) : Type 0 where
   pub failed : new.failed ≡ true
   pub queue : new.queue ≡ []
   pub refusals : new.refusals ≡ old.refusals
-  pub reference_names : new.reference_names ≡ old.reference_names
+  pub references : new.references ≡ old.references
 
 -- what a reader becomes whose place is out of range: from `Current` it stays as it was, from `End` it has failed
 abbrev pub Stops : {R : Type 0} → SeekerOf R → SeekFrom → R → R → Type 0
@@ -175,7 +175,7 @@ pub record Begins {R : Type 0} (K : SeekerOf R) (to : SeekFrom) (old : R) (at : 
   pub taken : (K.source.state new).taken ≡ 0
   pub fetched : (K.source.state new).fetched ≡ 0
   pub refusals : (K.source.state new).refusals ≡ (K.source.state old).refusals
-  pub reference_names : (K.source.state new).reference_names ≡ (K.source.state old).reference_names
+  pub references : (K.source.state new).references ≡ (K.source.state old).references
   pub moves : SeekMoves {E = Error} (K.position old) (K.position new) (K.bytes old) to (Ok at)
   pub bytes : Keeps (K.bytes old) (K.bytes new)
 

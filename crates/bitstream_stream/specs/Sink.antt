@@ -1,6 +1,7 @@
 -- What a sink of bits is, and what one write call does to it.
-use Rattle.std.specs.Prelude.{◌≡◌, ◌⊎◌, ℕ, ◌+◌, ◌*◌, ◌%◌, ◌<◌, ◌≤◌, Bool, true, false, List, [], ◌∷◌, ◌++◌, length, Option, Some, None, Result, Ok, Err, IsErr, ⊤}
+use Rattle.std.specs.Prelude.{◌≡◌, ◌⊎◌, ℕ, ◌+◌, ◌*◌, ◌%◌, ◌<◌, ◌≤◌, Bool, true, false, List, [], ◌∷◌, ◌++◌, length, map, Option, Some, None, Result, Ok, Err, IsErr, ⊤}
 use Rattle.std.specs.Borrow.{GName, MutBor}
+use Rattle.bitstream_order.specs.Reference.{Reference, by_name, capacity_of}
 use Rattle.bitstream_number.specs.Word.{Order}
 use Rattle.bitstream_count.specs.Entry.{WriteEntry}
 use Rattle.bitstream_count.specs.declared.error.Error.{Error}
@@ -41,8 +42,8 @@ pub record Sink (S : Type 0) : Type 1 where
   pub refusals : S → List Refusal
   -- the refusals that its stream may make
   pub may : Refusal → Type 0
-  -- the names of the references through which the sink and its stream are reached
-  pub reference_names : S → List GName
+  -- the references through which the sink and its stream are reached
+  pub references : S → List Reference
   pub appends_nil : (s : S) → appends s [] s
   pub appends_trans : (s t u : S) (x y : List Bool) → appends s x t → appends t y u → appends s (x ++ y) u
   pub fills_behind : (s t : S) (x y : List Bool) (known : Option (List ℕ)) → appends s x t → fills t y known
@@ -56,18 +57,18 @@ pub record Appended {S : Type 0} (K : Sink S) (old : S) (x : List Bool) (new : S
   pub grown : K.appends old x new
   pub sound : K.failed new ≡ false
   pub refusals : K.refusals new ≡ K.refusals old
-  pub reference_names : K.reference_names new ≡ K.reference_names old
+  pub references : K.references new ≡ K.references old
 
 -- nothing was appended, and no request was refused
 pub record Kept {S : Type 0} (K : Sink S) (old new : S) : Type 0 where
   pub grown : K.appends old [] new
   pub failed : K.failed new ≡ K.failed old
   pub refusals : K.refusals new ≡ K.refusals old
-  pub reference_names : K.reference_names new ≡ K.reference_names old
+  pub references : K.references new ≡ K.references old
 
 -- A request was refused, as the stream may refuse, and the sink has failed. The word x would have filled a
--- byte. Only bytes that a beginning of it filled were sent before, the queue is empty, and the stream is as the
--- refusal left it.
+-- byte. Only bytes that a beginning of it filled were sent before, and those asked for are others that it fills. The
+-- queue is empty, and the stream is as the refusal left it.
 pub record WriteRefused {S : Type 0} (K : Sink S) (old : S) (x : List Bool) (error : Error) (new : S) : Type 0 where
   pub refusal : Refusal
   pub allowed : K.may refusal
@@ -81,9 +82,11 @@ pub record WriteRefused {S : Type 0} (K : Sink S) (old : S) (x : List Bool) (err
   pub whole : K.len new % 8 ≡ 0
   pub least : K.len old + length front < K.len new + 8
   pub most : K.len new ≤ K.len old + length front
+  pub asked : K.len new + 8 * refusal.wanted ≤ K.len old + length x
+  pub capacity : refusal.capacity ≡ capacity_of (K.references old)
   pub refusals : K.refusals new ≡ refusal ∷ K.refusals old
   pub failed : K.failed new ≡ true
-  pub reference_names : K.reference_names new ≡ K.reference_names old
+  pub references : K.references new ≡ K.references old
 
 -- what one write call does, by what it means
 pub data Writes {S T : Type 0} (K : Sink S) (entry : WriteEntry) (old : S) (result : Result T Error) (new : S) :
@@ -121,7 +124,7 @@ seen_sink f names K = record {
   failed = λ a. K.failed (f a);
   refusals = λ a. K.refusals (f a);
   may = K.may;
-  reference_names = λ a. names a ++ K.reference_names (f a);
+  references = λ a. map by_name (names a) ++ K.references (f a);
   appends_nil = λ a. K.appends_nil (f a);
   appends_trans = λ a b c x y p q. K.appends_trans (f a) (f b) (f c) x y p q;
   fills_behind = λ a b x y known p q. K.fills_behind (f a) (f b) x y known p q;

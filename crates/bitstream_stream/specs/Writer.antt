@@ -1,6 +1,6 @@
 -- What the states of a writer mean.
 use Rattle.std.specs.Prelude.{◌≡◌, ℕ, ◌+◌, ◌*◌, ◌≤◌, ◌<◌, Bool, false, List, Option, None, OnOk, Result, Ok, Err}
-use Rattle.std.specs.Borrow.{GName}
+use Rattle.bitstream_order.specs.Reference.{Reference}
 use Rattle.std.specs.declared.io.ErrorKind.{ErrorKind}
 use Rattle.std.specs.Io.KnownBytes.{Appends}
 use Rattle.bitstream_number.specs.Word.{Order, bits}
@@ -13,9 +13,9 @@ use Rattle.bitstream_stream.specs.Sink.{Sink, Appended, WriteRefused, inner_sink
 use Rattle.bitstream_stream.specs.declared.writer.BitWriter.{BitWriter}
 
 -- a writer, by what its stream tells
-abbrev pub writer_state : {W E : Type 0} → (W → Option (List ℕ)) → (W → List GName) → BitWriter W E → WriterState
-writer_state contents reference_names w = record {
-  port = port_state contents reference_names w.port;
+abbrev pub writer_state : {W E : Type 0} → (W → Option (List ℕ)) → (W → List Reference) → BitWriter W E → WriterState
+writer_state contents references w = record {
+  port = port_state contents references w.port;
   queued = w.queued;
   queue = w.queue;
   failed = w.failed;
@@ -48,9 +48,9 @@ AsksForBytes most n old result new = OnOk result (requests_made new
     ≡ requests_made old + pieces most (queued_bits old) n)
 
 -- a new writer, by what its stream tells
-abbrev pub new_writer_state : Option (List ℕ) → List GName → WriterState
-new_writer_state contents reference_names = record {
-  port = new_port_state contents reference_names;
+abbrev pub new_writer_state : Option (List ℕ) → List Reference → WriterState
+new_writer_state contents references = record {
+  port = new_port_state contents references;
   queued = 0;
   queue = 0;
   failed = false;
@@ -68,7 +68,7 @@ queue_sink may o = record {
   failed = λ a. a.failed;
   refusals = λ a. a.port.refusals;
   may = may;
-  reference_names = λ a. a.port.reference_names;
+  references = λ a. a.port.references;
   appends_nil = Carries-nil o;
   appends_trans = Carries-trans o;
   fills_behind = Fills-behind o;
@@ -90,7 +90,7 @@ Pushes may o x old (Ok done) new = Appended (queue_sink may o) old x new
 Pushes may o x old (Err error) new = WriteRefused (queue_sink may o) old x error new
 
 -- a writer as a sink
-abbrev pub writer_sink : {W E : Type 0} → (W → Option (List ℕ)) → (W → ℕ → ErrorKind → W → Type 0) → (W → List GName)
+abbrev pub writer_sink : {W E : Type 0} → (W → Option (List ℕ)) → (W → ℕ → ErrorKind → W → Type 0) → (W → List Reference)
     → Order → Sink (BitWriter W E)
-writer_sink contents refuses reference_names o = inner_sink (writer_state contents reference_names)
-    (queue_sink (MayRefuse contents refuses) o)
+writer_sink contents refuses references o = inner_sink (writer_state contents references)
+    (queue_sink (MayRefuse contents references refuses) o)

@@ -45,7 +45,7 @@ impl<R: Source, E: Endianness> ByteReader<R, E> {
     /// Returns a reader of a stream's bytes. No request is made yet.
     pub fn new(reader: R) -> ByteReader<R, E>
         ensures { ⟦<Self as ByteRead>⟧.source.state result
-            ≡ byte_reader_state (new_port_state (R.remaining reader) (R.reference_names reader)) }
+            ≡ byte_reader_state (new_port_state (R.remaining reader) (R.references reader)) }
     {
         ByteReader {
             port: Port::new(reader),
@@ -58,7 +58,7 @@ impl<R: Source, E: Endianness> ByteReader<R, E> {
     where
         E: Drop,
         ensures { ⟦<Self as ByteRead>⟧.source.state result
-            ≡ byte_reader_state (new_port_state (R.remaining reader) (R.reference_names reader)) }
+            ≡ byte_reader_state (new_port_state (R.remaining reader) (R.references reader)) }
     {
         ByteReader::new(reader)
     }
@@ -67,7 +67,7 @@ impl<R: Source, E: Endianness> ByteReader<R, E> {
 impl<R: Source, E: Endianness> ByteRead for ByteReader<R, E> {
     ghost use Rattle.bitstream_stream.specs.ByteReader.{byte_reader_source};
 
-    ghost source = { byte_reader_source R.remaining R.refuses R.reference_names E.order };
+    ghost source = { byte_reader_source R.remaining R.refuses R.references E.order };
 
     #[inline(always)]
     fn read<V: Primitive>(&mut self) -> Result<V, Error> {
@@ -114,9 +114,9 @@ impl<R: SeekSource, E: Endianness> Seek for ByteReader<R, E> {
         ensures moves { SeekMoves (R.position (byte_reader_stream self.old))
             (R.position (byte_reader_stream self.new)) (R.bytes (byte_reader_stream self.old)) to result }
         ensures bytes { Keeps (R.bytes (byte_reader_stream self.old)) (R.bytes (byte_reader_stream self.new)) }
-        ensures seeks { ByteSeeks (MayRefuseSeek R.remaining R.refuses_seek to)
-            (byte_reader_port R.remaining R.reference_names self.old) result
-            (byte_reader_port R.remaining R.reference_names self.new) }
+        ensures seeks { ByteSeeks (MayRefuseSeek R.remaining R.references R.refuses_seek to)
+            (byte_reader_port R.remaining R.references self.old) result
+            (byte_reader_port R.remaining R.references self.new) }
     {
         match self.port.seek(to) {
             Ok(at) => Ok(at),

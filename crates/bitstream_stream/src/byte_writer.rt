@@ -37,8 +37,8 @@ impl<W: Target, E: Endianness> ByteWriter<W, E> {
 
     /// Returns a writer to a stream. No request is made yet.
     pub fn new(stream: W) -> ByteWriter<W, E>
-        ensures { byte_writer_state W.contents W.reference_names result
-            ≡ new_port_state (W.contents stream) (W.reference_names stream) }
+        ensures { byte_writer_state W.contents W.references result
+            ≡ new_port_state (W.contents stream) (W.references stream) }
     {
         ByteWriter {
             port: Port::new(stream),
@@ -50,8 +50,8 @@ impl<W: Target, E: Endianness> ByteWriter<W, E> {
     pub fn endian(stream: W, _endian: E) -> ByteWriter<W, E>
     where
         E: Drop,
-        ensures { byte_writer_state W.contents W.reference_names result
-            ≡ new_port_state (W.contents stream) (W.reference_names stream) }
+        ensures { byte_writer_state W.contents W.references result
+            ≡ new_port_state (W.contents stream) (W.references stream) }
     {
         ByteWriter::new(stream)
     }
@@ -60,7 +60,7 @@ impl<W: Target, E: Endianness> ByteWriter<W, E> {
 impl<W: Target, E: Endianness> ByteWrite for ByteWriter<W, E> {
     ghost use Rattle.bitstream_stream.specs.ByteWriter.{byte_writer_sink};
 
-    ghost sink = { byte_writer_sink W.contents W.refuses W.reference_names E.order };
+    ghost sink = { byte_writer_sink W.contents W.refuses W.references E.order };
 
     fn write<V: Primitive>(&mut self, value: V) -> Result<(), Error> {
         self.write_as::<E, V>(value)

@@ -2,21 +2,27 @@
 //!
 //! The contract of each function is a law. Its body is empty.
 
-ghost use Rattle.std.specs.Prelude.{◌≡◌, ℕ, ◌+◌, ◌*◌, ◌^◌, ◌<◌, ◌≤◌, ◌++◌, Bool, false, List, Some, Result, Ok};
+ghost use Rattle.std.specs.Prelude.{◌≡◌, ℕ, ◌+◌, ◌*◌, ◌^◌, ◌<◌, ◌≤◌, ◌++◌, Bool, false, List, [], length, Some, None, Result, Ok};
 ghost use Rattle.bitstream_number.specs.Word.{Order, High, Low, bits as bits_of, bytes as bytes_in};
-ghost use Rattle.bitstream_count.specs.Entry.{ReadEntry, chain, gives};
+ghost use Rattle.bitstream_count.specs.Entry.{ReadEntry, WriteEntry, chain, gives};
 ghost use Rattle.bitstream_count.specs.declared.error.Error.{Error};
 ghost use Rattle.bitstream_count.specs.declared.error.Error.TheVariants.{OutOfMemory, Stream};
 ghost use Rattle.std.specs.declared.io.ErrorKind.TheVariants.{WriteZero};
-ghost use Rattle.bitstream_order.specs.Refusal.{Refusal, TrueEnds, MayRefuseSeek};
+ghost use Rattle.bitstream_order.specs.Reference.{capacity_of};
+ghost use Rattle.bitstream_order.specs.Refusal.{Refusal, TrueEnds, AllLackRoom, MayRefuseSeek};
 ghost use Rattle.bitstream_order.specs.Slice.{slice_bytes, slice_place, slice_remaining, slice_refuses_seek};
 ghost use Rattle.bitstream_stream.specs.Reads.{Reads, sure_answer};
 ghost use Rattle.bitstream_stream.specs.ReadTable.{unsigned_entry, bytes_entry, align_entry};
 ghost use Rattle.bitstream_stream.specs.Seek.{reader_seeker, MaySeek, TellsRest};
-ghost use Rattle.bitstream_stream.specs.Sink.{WriteRefused};
+ghost use Rattle.bitstream_stream.specs.Sink.{WriteRefused, WritesAll};
+ghost use Rattle.bitstream_stream.specs.ByteSink.{ByteWrites};
+ghost use Rattle.bitstream_stream.specs.Room.{HasRoom, AllAccepted};
+ghost use Rattle.bitstream_stream.specs.Run.{write_run};
 ghost use Rattle.bitstream_stream.specs.Ways.{aligned_reader};
 ghost use Rattle.bitstream_stream.specs.WriteTable.{unsigned, buffer};
+ghost use Rattle.bitstream_stream.specs.Writer.{writer_state};
 
+use crate::byte_write::ByteWrite;
 use crate::read::BitRead;
 use crate::reader::BitReader;
 use crate::write::BitWrite;
@@ -26,6 +32,7 @@ use bitstream_order::order::Endianness;
 use bitstream_order::slice::Slice;
 use bitstream_order::slice_mut::SliceMut;
 use bitstream_order::source::Source;
+use bitstream_order::target::Target;
 use std::alloc::Allocator;
 
 /// Reading two numbers, one after the other, is reading one number of the bits of both. The first
@@ -73,6 +80,31 @@ pub fn slices_end<E: Endianness>()
     ensures { TrueEnds ⟦<BitReader<Slice<'static>, E> as BitRead>⟧.source.may }
 {}
 
+/// Calls of a writer whose target refuses only for want of room are all done if they are accepted and
+/// there is room for their words.
+pub fn rooms_are_known<W: Target, E: Endianness>()
+    ensures { (entries : List WriteEntry) (old new : BitWriter W E) (answer : Result (Unit {0}) Error)
+        → AllLackRoom ⟦<BitWriter<W, E> as BitWrite>⟧.sink.may
+        → ⟦<BitWriter<W, E> as BitWrite>⟧.sink.failed old ≡ false
+        → AllAccepted entries (⟦<BitWriter<W, E> as BitWrite>⟧.sink.len old)
+        → HasRoom (writer_state W.contents W.references old)
+        (length (write_run entries (⟦<BitWriter<W, E> as BitWrite>⟧.sink.len old)))
+        → WritesAll ⟦<BitWriter<W, E> as BitWrite>⟧.sink entries old answer new → answer ≡ Ok tt }
+{}
+
+/// A write of bytes, to a sink whose stream refuses only for want of room, is done if there is room.
+pub fn rooms_of_bytes_are_known<W: ByteWrite, A>()
+    ensures { (bytes held : List ℕ) (capacity : ℕ) (old new : W) (answer : Result A Error)
+        → AllLackRoom W.sink.may → W.sink.limit ≡ None → W.sink.contents old ≡ Some held
+        → capacity_of (W.sink.references old) ≡ Some capacity → length held + length bytes ≤ capacity
+        → ByteWrites W.sink bytes old answer new → (done : A) × (answer ≡ Ok done) }
+{}
+
+/// A [`SliceMut`] refuses only for want of room.
+pub fn slices_tell_their_room<E: Endianness>()
+    ensures { AllLackRoom ⟦<BitWriter<SliceMut<'static>, E> as BitWrite>⟧.sink.may }
+{}
+
 /// A writer over a [`SliceMut`] fails if it lacks room, and never else.
 pub fn slices_lack_room<E: Endianness>()
     ensures { (old new : BitWriter SliceMut E) (x : List Bool) (error : Error) →
@@ -91,10 +123,10 @@ pub fn vectors_lack_memory<E: Endianness, A: Allocator>()
 pub fn slices_tell_their_rest<E: Endianness>()
     ensures { TellsRest (reader_seeker ⟦<BitReader<Slice<'static>, E> as BitRead>⟧.source
         (λ slice. Some (slice_place slice)) (λ slice. Some (slice_bytes slice))
-        (MayRefuseSeek slice_remaining slice_refuses_seek)) }
+        (MayRefuseSeek slice_remaining (λ _. []) slice_refuses_seek)) }
 {}
 
 /// A [`Slice`] refuses none of the seeks that a seek of a reader makes.
 pub fn slices_refuse_no_seek()
-    ensures { (refusal : Refusal) → MaySeek (MayRefuseSeek slice_remaining slice_refuses_seek) refusal → ⊥ }
+    ensures { (refusal : Refusal) → MaySeek (MayRefuseSeek slice_remaining (λ _. []) slice_refuses_seek) refusal → ⊥ }
 {}

@@ -1,5 +1,6 @@
 //! Readers and writers over bytes in memory.
-ghost use Rattle.std.specs.Prelude.{◌≡◌, ◌∷◌, [], Some};
+ghost use Rattle.std.specs.Prelude.{◌≡◌, ◌∷◌, [], length, Some};
+ghost use Rattle.bitstream_order.specs.Reference.{to_slice};
 ghost use Rattle.bitstream_order.specs.Port.{new_port_state};
 
 use crate::byte_read::ByteRead;
@@ -48,7 +49,7 @@ impl<'a, E: Endianness> ByteReader<Slice<'a>, E> {
 }
 
 impl<'a, E: Endianness> BitWriter<SliceMut<'a>, E> {
-    ghost use Rattle.bitstream_order.specs.SliceMut.{slice_name, written_contents};
+    ghost use Rattle.bitstream_order.specs.SliceMut.{slice_reference, written_contents};
     ghost use Rattle.bitstream_stream.specs.Writer.{writer_state, new_writer_state};
 
     /// Returns a writer to bytes in memory, from their front, as a [`SliceMut`].
@@ -65,21 +66,21 @@ impl<'a, E: Endianness> BitWriter<SliceMut<'a>, E> {
     /// assert_eq!(rt; writer.into_writer().as_slice(), [0xb1, 0xe0].as_slice());
     /// ```
     pub fn over(bytes: &'a mut [u8]) -> BitWriter<SliceMut<'a>, E>
-        ensures { writer_state written_contents (λ target. slice_name target ∷ []) result
-            ≡ new_writer_state (Some []) (bytes.entry.ghost_name ∷ []) }
+        ensures { writer_state written_contents (λ target. slice_reference target ∷ []) result
+            ≡ new_writer_state (Some []) (to_slice bytes.entry.ghost_name (length bytes.old) ∷ []) }
     {
         BitWriter::new(SliceMut::new(bytes))
     }
 }
 
 impl<'a, E: Endianness> ByteWriter<SliceMut<'a>, E> {
-    ghost use Rattle.bitstream_order.specs.SliceMut.{slice_name, written_contents};
+    ghost use Rattle.bitstream_order.specs.SliceMut.{slice_reference, written_contents};
     ghost use Rattle.bitstream_stream.specs.ByteWriter.{byte_writer_state};
 
     /// Returns a writer of whole bytes to bytes in memory, from their front, as a [`SliceMut`].
     pub fn over(bytes: &'a mut [u8]) -> ByteWriter<SliceMut<'a>, E>
-        ensures { byte_writer_state written_contents (λ target. slice_name target ∷ []) result
-            ≡ new_port_state (Some []) (bytes.entry.ghost_name ∷ []) }
+        ensures { byte_writer_state written_contents (λ target. slice_reference target ∷ []) result
+            ≡ new_port_state (Some []) (to_slice bytes.entry.ghost_name (length bytes.old) ∷ []) }
     {
         ByteWriter::new(SliceMut::new(bytes))
     }

@@ -69,7 +69,7 @@ impl<R: Source, E: Endianness> BitReader<R, E> {
     /// Returns a reader of a stream's bytes. No request is made yet.
     pub fn new(reader: R) -> BitReader<R, E>
         ensures state { ⟦<Self as BitRead>⟧.source.state result
-            ≡ new_reader_state (R.remaining reader) (R.reference_names reader) }
+            ≡ new_reader_state (R.remaining reader) (R.references reader) }
         ensures requests { requests_made result ≡ 0 }
         ensures turns { turns_made result ≡ 0 }
     {
@@ -89,16 +89,17 @@ impl<R: Source, E: Endianness> BitReader<R, E> {
     where
         E: Drop,
         ensures state { ⟦<Self as BitRead>⟧.source.state result
-            ≡ new_reader_state (R.remaining reader) (R.reference_names reader) }
+            ≡ new_reader_state (R.remaining reader) (R.references reader) }
         ensures requests { requests_made result ≡ 0 }
         ensures turns { turns_made result ≡ 0 }
     {
         BitReader::new(reader)
     }
 
-    /// Reads a word that needs more bits than are queued.
+    /// Reads a word that needs more bits than are queued. Here and below `known` tells whether `bits` is
+    /// known as the program is compiled.
     #[inline(always)]
-    fn fetch_word<U: UnsignedInteger>(&mut self, bits: u32) -> Result<U, Error>
+    fn fetch_word<U: UnsignedInteger>(&mut self, bits: u32, known: bool) -> Result<U, Error>
         requires fine { self.old.failed ≡ false }
         requires more { self.old.queued < bits }
         requires room { bits ≤ U.BITS_SIZE }
@@ -115,7 +116,7 @@ impl<R: Source, E: Endianness> BitReader<R, E> {
         self.failed = true;
         self.taken.add(queued as u64);
         let more = bits - queued;
-        let (value, left) = take_bits::<R, E, U>(&mut self.port, queue, queued, more)?;
+        let (value, left) = take_bits::<R, E, U>(&mut self.port, queue, queued, more, known)?;
         self.failed = false;
         self.taken.add(more as u64);
         self.queue = left;
@@ -126,7 +127,7 @@ impl<R: Source, E: Endianness> BitReader<R, E> {
     /// Reads a word of at most as many bits as the type has: from the queue if that is enough, else
     /// by one request.
     #[inline(always)]
-    fn take_word<U: UnsignedInteger>(&mut self, bits: u32) -> Result<U, Error>
+    fn take_word<U: UnsignedInteger>(&mut self, bits: u32, known: bool) -> Result<U, Error>
         requires fine { self.old.failed ≡ false }
         requires room { bits ≤ U.BITS_SIZE }
         ensures reads { Reads ⟦<Self as BitRead>⟧.source
@@ -135,13 +136,46 @@ impl<R: Source, E: Endianness> BitReader<R, E> {
     {
         let queued = self.queued;
         if bits > queued {
-            return self.fetch_word(bits);
+            return self.fetch_word(bits, known);
         }
         let first = E::first(self.queue, bits);
         self.taken.add(bits as u64);
         self.queue = E::rest(self.queue, bits);
         self.queued = queued - bits;
         Ok(U::from_u8(first))
+    }
+
+    /// Reads a word, if the reader has not failed and the type has as many bits.
+    #[inline(always)]
+    fn read_word<U: UnsignedInteger>(&mut self, bits: u32, known: bool) -> Result<U, Error>
+        ensures reads { Reads ⟦<Self as BitRead>⟧.source
+            (unsigned_entry E.order U.BITS_SIZE bits) self.old (seen U.value result) self.new }
+        ensures asks { AsksForWord bits self.old self.new }
+    {
+        if self.failed {
+            return Err(Error::Failed);
+        }
+        if bits > U::BITS_SIZE {
+            return Err(Error::ReadBits);
+        }
+        self.take_word(bits, known)
+    }
+
+    /// Reads the two's complement of a number.
+    #[inline(always)]
+    fn read_signed_word<S: SignedInteger>(&mut self, bits: u32, known: bool) -> Result<S, Error>
+        ensures reads { Reads ⟦<Self as BitRead>⟧.source
+            (signed_entry E.order S.BITS_SIZE bits) self.old (seen S.integer result) self.new }
+        ensures asks { AsksForWord bits self.old self.new }
+    {
+        if self.failed {
+            return Err(Error::Failed);
+        }
+        if bits == 0 {
+            return Err(Error::NoSignBit);
+        }
+        let word: S::Unsigned = self.read_word(bits, known)?;
+        Ok(signed_of(word, bits))
     }
 
     /// Reads bytes by one request. The queue must be empty.
@@ -266,7 +300,7 @@ impl<R: Source, E: Endianness> BitReader<R, E> {
 impl<R: Source, E: Endianness> BitRead for BitReader<R, E> {
     ghost use Rattle.bitstream_stream.specs.Reader.{reader_source, requests_made, AsksForBytes, AsksForWord, TurnsByBytes};
 
-    ghost source = { reader_source R.remaining R.refuses R.reference_names E.order };
+    ghost source = { reader_source R.remaining R.refuses R.references E.order };
 
     #[inline(always)]
     fn read_unsigned_counted<C: Count, U: UnsignedInteger>(&mut self, bits: C) -> Result<U, Error>
@@ -293,7 +327,7 @@ impl<R: Source, E: Endianness> BitRead for BitReader<R, E> {
         ensures reads { Reads ⟦<Self as BitRead>⟧.source bit_entry self.old result self.new }
         ensures asks { AsksForWord 1 self.old self.new }
     {
-        let bit: u8 = self.read_unsigned_var(1)?;
+        let bit: u8 = self.read_word(1, true)?;
         Ok(bit % 2 == 1)
     }
 
@@ -304,13 +338,7 @@ impl<R: Source, E: Endianness> BitRead for BitReader<R, E> {
             self.old (seen U.value result) self.new }
         ensures asks { AsksForWord bits self.old self.new }
     {
-        if self.failed {
-            return Err(Error::Failed);
-        }
-        if bits > U::BITS_SIZE {
-            return Err(Error::ReadBits);
-        }
-        self.take_word(bits)
+        self.read_word(bits, false)
     }
 
     #[inline(always)]
@@ -319,7 +347,7 @@ impl<R: Source, E: Endianness> BitRead for BitReader<R, E> {
             (unsigned_entry E.order U.BITS_SIZE B.BITS) self.old (seen U.value result) self.new }
         ensures asks { AsksForWord B.BITS self.old self.new }
     {
-        self.read_unsigned_var(B::BITS)
+        self.read_word(B::BITS, true)
     }
 
     #[inline(always)]
@@ -328,14 +356,7 @@ impl<R: Source, E: Endianness> BitRead for BitReader<R, E> {
             (signed_entry E.order S.BITS_SIZE bits) self.old (seen S.integer result) self.new }
         ensures asks { AsksForWord bits self.old self.new }
     {
-        if self.failed {
-            return Err(Error::Failed);
-        }
-        if bits == 0 {
-            return Err(Error::NoSignBit);
-        }
-        let word: S::Unsigned = self.read_unsigned_var(bits)?;
-        Ok(signed_of(word, bits))
+        self.read_signed_word(bits, false)
     }
 
     #[inline(always)]
@@ -344,7 +365,7 @@ impl<R: Source, E: Endianness> BitRead for BitReader<R, E> {
             (signed_entry E.order S.BITS_SIZE B.BITS) self.old (seen S.integer result) self.new }
         ensures asks { AsksForWord B.BITS self.old self.new }
     {
-        self.read_signed_var(B::BITS)
+        self.read_signed_word(B::BITS, true)
     }
 
     fn read_const<B: Width, V: Width, F: From<Error> + Drop>(&mut self, err: F) -> Result<(), F>

@@ -57,8 +57,8 @@ impl<W: Target, E: Endianness> BitWriter<W, E> {
 
     /// Returns a writer to a stream. No request is made yet.
     pub fn new(stream: W) -> BitWriter<W, E>
-        ensures { writer_state W.contents W.reference_names result
-            ≡ new_writer_state (W.contents stream) (W.reference_names stream) }
+        ensures { writer_state W.contents W.references result
+            ≡ new_writer_state (W.contents stream) (W.references stream) }
     {
         BitWriter {
             port: Port::new(stream),
@@ -73,8 +73,8 @@ impl<W: Target, E: Endianness> BitWriter<W, E> {
     pub fn endian(stream: W, _order: E) -> BitWriter<W, E>
     where
         E: Drop,
-        ensures { writer_state W.contents W.reference_names result
-            ≡ new_writer_state (W.contents stream) (W.reference_names stream) }
+        ensures { writer_state W.contents W.references result
+            ≡ new_writer_state (W.contents stream) (W.references stream) }
     {
         BitWriter::new(stream)
     }
@@ -82,8 +82,8 @@ impl<W: Target, E: Endianness> BitWriter<W, E> {
     /// Makes the writer fail, drops its queue, and answers the error of the refused request.
     fn refuse(&mut self, error: Error) -> Result<(), Error>
         ensures answer { result ≡ Err error }
-        ensures fails { writer_state W.contents W.reference_names self.new
-            ≡ failed_writer (writer_state W.contents W.reference_names self.old) }
+        ensures fails { writer_state W.contents W.references self.new
+            ≡ failed_writer (writer_state W.contents W.references self.old) }
         ensures requests { requests_made self.new ≡ requests_made self.old }
     {
         self.queue = 0;
@@ -97,9 +97,9 @@ impl<W: Target, E: Endianness> BitWriter<W, E> {
     fn push<U: UnsignedInteger>(&mut self, value: U, n: u32) -> Result<(), Error>
         requires sound { self.old.failed ≡ false }
         requires room { n ≤ U.BITS_SIZE }
-        ensures pushes { Pushes (MayRefuse W.contents W.refuses) E.order (word E.order n (U.value value))
-            (writer_state W.contents W.reference_names self.old) result
-            (writer_state W.contents W.reference_names self.new) }
+        ensures pushes { Pushes (MayRefuse W.contents W.references W.refuses) E.order (word E.order n (U.value value))
+            (writer_state W.contents W.references self.old) result
+            (writer_state W.contents W.references self.new) }
         ensures asks { AsksForWord n self.old self.new }
     {
         if self.queued + n < 8 {
@@ -124,9 +124,9 @@ impl<W: Target, E: Endianness> BitWriter<W, E> {
         requires sound { self.old.failed ≡ false }
         requires none { self.old.queued ≡ 0 }
         requires some { 1 ≤ length bytes.now }
-        ensures pushes { Pushes (MayRefuse W.contents W.refuses) E.order (bits E.order bytes.now)
-            (writer_state W.contents W.reference_names self.old) result
-            (writer_state W.contents W.reference_names self.new) }
+        ensures pushes { Pushes (MayRefuse W.contents W.references W.refuses) E.order (bits E.order bytes.now)
+            (writer_state W.contents W.references self.old) result
+            (writer_state W.contents W.references self.new) }
         ensures requests { requests_made self.new ≡ requests_made self.old + 1 }
     {
         match self.port.send(bytes) {
@@ -140,9 +140,9 @@ impl<W: Target, E: Endianness> BitWriter<W, E> {
         requires sound { self.old.failed ≡ false }
         requires queued { 1 ≤ self.old.queued }
         requires some { 1 ≤ length bytes.old }
-        ensures pushes { Pushes (MayRefuse W.contents W.refuses) E.order (bits E.order bytes.old)
-            (writer_state W.contents W.reference_names self.old) result
-            (writer_state W.contents W.reference_names self.new) }
+        ensures pushes { Pushes (MayRefuse W.contents W.references W.refuses) E.order (bits E.order bytes.old)
+            (writer_state W.contents W.references self.old) result
+            (writer_state W.contents W.references self.new) }
         ensures queued { OnOk result (queued_bits self.new ≡ queued_bits self.old) }
         ensures requests { requests_made self.new ≡ requests_made self.old + 1 }
     {
@@ -163,9 +163,9 @@ impl<W: Target, E: Endianness> BitWriter<W, E> {
         requires queued { 1 ≤ self.old.queued }
         requires some { 1 ≤ N }
         requires few { N ≤ 1024 }
-        ensures pushes { Pushes (MayRefuse W.contents W.refuses) E.order (bits E.order bytes.now)
-            (writer_state W.contents W.reference_names self.old) result
-            (writer_state W.contents W.reference_names self.new) }
+        ensures pushes { Pushes (MayRefuse W.contents W.references W.refuses) E.order (bits E.order bytes.now)
+            (writer_state W.contents W.references self.old) result
+            (writer_state W.contents W.references self.new) }
         ensures asks { AsksForBytes N (length bytes.now) self.old result self.new }
     {
         let mut scratch = [0u8; N];
@@ -186,9 +186,9 @@ impl<W: Target, E: Endianness> BitWriter<W, E> {
         requires sound { self.old.failed ≡ false }
         requires some { 1 ≤ N }
         requires few { N ≤ 1024 }
-        ensures pushes { Pushes (MayRefuse W.contents W.refuses) E.order (bits E.order bytes.now)
-            (writer_state W.contents W.reference_names self.old) result
-            (writer_state W.contents W.reference_names self.new) }
+        ensures pushes { Pushes (MayRefuse W.contents W.references W.refuses) E.order (bits E.order bytes.now)
+            (writer_state W.contents W.references self.old) result
+            (writer_state W.contents W.references self.new) }
         ensures asks { AsksForBytes N (length bytes.now) self.old result self.new }
     {
         if self.queued > 0 {
@@ -203,9 +203,9 @@ impl<W: Target, E: Endianness> BitWriter<W, E> {
     /// Writes the given number of zero bytes, in pieces.
     fn push_zeros(&mut self, bytes: usize) -> Result<(), Error>
         requires { self.old.failed ≡ false }
-        ensures { Pushes (MayRefuse W.contents W.refuses) E.order (replicate (8 * bytes) false)
-            (writer_state W.contents W.reference_names self.old) result
-            (writer_state W.contents W.reference_names self.new) }
+        ensures { Pushes (MayRefuse W.contents W.references W.refuses) E.order (replicate (8 * bytes) false)
+            (writer_state W.contents W.references self.old) result
+            (writer_state W.contents W.references self.new) }
     {
         let zeros = [0u8; PIECE];
         let mut left = bytes;
@@ -225,7 +225,7 @@ impl<W: Target, E: Endianness> BitWrite for BitWriter<W, E> {
     ghost use Rattle.bitstream_stream.specs.Sink.{Writes};
     ghost use Rattle.bitstream_stream.specs.WriteTable.{unsigned, signed, plain, unary_word, bit as one_bit, count as count_entry, buffer};
 
-    ghost sink = { writer_sink W.contents W.refuses W.reference_names E.order };
+    ghost sink = { writer_sink W.contents W.refuses W.references E.order };
 
     #[inline(always)]
     fn write_unsigned_counted<C: Count, U: UnsignedInteger>(

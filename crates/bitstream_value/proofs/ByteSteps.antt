@@ -95,7 +95,7 @@ module _ {R A B : Type 0} {K : ByteSource R} (e : ByteReadEntry A) (f : A → By
             subst (λ w. byte_chain e f w ≡ TooFew) (sym left.2)
             (chain-ok e f u left.0 a TooFew (h.decides left.0) (k.ended end left.0 left.1));
         refusals = k.refusals ∙ ap (λ l. k.refusal ∷ l) took.refusals;
-        reference_names = k.reference_names ∙ took.reference_names;
+        references = k.references ∙ took.references;
       })
   chain_reads (was_done h) (memory_refused g k) = cc
   chain_reads (was_refused h) k = let p = h.answer in cc
@@ -119,7 +119,7 @@ module _ {R A B : Type 0} {K : ByteSource R} (e : ByteReadEntry A) (f : A → By
     few = chain-none e f h.gone h.few;
     ended = λ end xs known. chain-none e f xs (h.ended end xs known);
     refusals = h.refusals;
-    reference_names = h.reference_names;
+    references = h.references;
   })
   chain_stops (memory_refused g h) = cc
 

@@ -61,7 +61,7 @@ module _ {S : Type 0} (count : S → ℕ) (greatest : ℕ) (fits : (s : S) → c
         grown = omega (arith, len, sum);
         refusals =
             refl;
-        reference_names = refl;
+        references = refl;
       })
 
   pub overflowed : {T : Type 0} (buffer : List ℕ) (n : ℕ) (old : S) (result : Result T Error) (new : S) → length buffer
@@ -71,7 +71,7 @@ module _ {S : Type 0} (count : S → ℕ) (greatest : ℕ) (fits : (s : S) → c
       past_limit (omega (arith, len, over)) answer (record {
         grown = omega (arith, same);
         refusals = refl;
-        reference_names = refl;
+        references = refl;
       })
 
 -- ---- calls on a sink

@@ -7,7 +7,7 @@ use Rattle.std.proofs.lemmas.Bool.{le-leb, lt-leb, cases_lt}
 use Rattle.std.proofs.lemmas.Bool.Decides.{nat_tests}
 use Rattle.std.proofs.lemmas.List.{drop-drop}
 use Rattle.std.proofs.lemmas.Int.{to_z-of_z}
-use Rattle.std.specs.Borrow.{GName}
+use Rattle.bitstream_order.specs.Reference.{Reference}
 use Rattle.std.specs.Int.{Width, w8, w16, w32, w64, w128}
 use Rattle.std.specs.Result.{IsErrAnd, result_from_control_flow}
 use Rattle.std.specs.declared.ops.ControlFlow.{ControlFlow}
@@ -157,19 +157,19 @@ pub ruleset finds = (unsigned-finds, signed-finds, non_zero-finds, option-finds,
 -- ---- what a new reader answers then, over a stream that refuses at true ends alone
 
 module _ {R A : Type 0} {K : BitSource R} {e : ReadEntry A} {s t : R} {n : ℕ} {xs : List ℕ}
-    {x r : Result A Error} {known : Option (List ℕ)} {reference_names : List GName} where
+    {x r : Result A Error} {known : Option (List ℕ)} {references : List Reference} where
   -- the bits are there
-  pub fields_there : TrueEnds K.may → K.state s ≡ new_reader_state known reference_names → known ≡ Some xs
+  pub fields_there : TrueEnds K.may → K.state s ≡ new_reader_state known references → known ≡ Some xs
       → Reads K e s r t → Finds (bits K.order xs) 0 e n x → n ≤ 8 * length xs → r ≡ x
   fields_there ends new told h found enough =
       let le : 0 + n ≤ length (bits K.order xs) = let len = length-bits K.order xs in omega arith in
-      new_answer ends xs reference_names (new ∙ ap (λ z. new_reader_state z reference_names) told) h
+      new_answer ends xs references (new ∙ ap (λ z. new_reader_state z references) told) h
       ∙ ap sure_answer (found.there 0 le)
 
   -- they are not
-  pub fields_short : TrueEnds K.may → K.state s ≡ new_reader_state known reference_names → known ≡ Some xs
+  pub fields_short : TrueEnds K.may → K.state s ≡ new_reader_state known references → known ≡ Some xs
       → Reads K e s r t → Finds (bits K.order xs) 0 e n x → 8 * length xs < n → r ≡ Err EndOfInput
   fields_short ends new told h found few =
       let less : length (bits K.order xs) < 0 + n = let len = length-bits K.order xs in omega arith in
-      new_answer ends xs reference_names (new ∙ ap (λ z. new_reader_state z reference_names) told) h
+      new_answer ends xs references (new ∙ ap (λ z. new_reader_state z references) told) h
       ∙ ap sure_answer (found.short 0 (omega arith) less)

@@ -4,7 +4,7 @@ use Rattle.std.proofs.Common.{◌≡◌, ℕ, zero, suc, ◌+◌, ◌*◌, ◌<�
 use Rattle.std.proofs.Math.Seq.{take-length}
 use Rattle.std.proofs.lemmas.Bool.{le-leb, lt-leb, lt-ltb}
 use Rattle.std.proofs.lemmas.List.{drop-append-le, drop-take, take-take, map-append, nil_from_length, take-append-le}
-use Rattle.std.specs.Borrow.{GName}
+use Rattle.bitstream_order.specs.Reference.{Reference}
 use Rattle.bitstream_count.specs.declared.error.Error.{Error}
 use Rattle.bitstream_count.specs.declared.error.Error.TheVariants.{EndOfInput}
 use Rattle.bitstream_count.specs.Entry.{ReadEntry, Front, TooFew, Takes, word_front, front_then, longer, chain, gives}
@@ -109,31 +109,31 @@ items-word {e = e} {n = n} {g = g} h (suc k) = record {
 -- ---- what a new reader answers, over a stream that refuses at true ends alone
 
 module _ {R A : Type 0} {K : BitSource R} {e : ReadEntry A} {n : ℕ} {g : List Bool → Result A Error}
-    {r : Result A Error} {s t : R} {xs : List ℕ} {reference_names : List GName} where
+    {r : Result A Error} {s t : R} {xs : List ℕ} {references : List Reference} where
   -- the bits are there
-  pub word_there : IsWord e n g → TrueEnds K.may → K.state s ≡ new_reader_state (Some xs) reference_names
+  pub word_there : IsWord e n g → TrueEnds K.may → K.state s ≡ new_reader_state (Some xs) references
       → Reads K e s r t → n ≤ 8 * length xs → r ≡ g (take n (bits K.order xs))
   word_there word ends new h enough =
       let le : n ≤ length (bits K.order xs) = let len = length-bits K.order xs in omega arith in
-      new_answer ends xs reference_names new h ∙ rw (
+      new_answer ends xs references new h ∙ rw (
         word.reads 0 (bits K.order xs),
         le-leb n (length (bits K.order xs)) le,
       ) refl
 
   -- they are not
-  pub word_short : IsWord e n g → TrueEnds K.may → K.state s ≡ new_reader_state (Some xs) reference_names
+  pub word_short : IsWord e n g → TrueEnds K.may → K.state s ≡ new_reader_state (Some xs) references
       → Reads K e s r t → 8 * length xs < n → r ≡ Err EndOfInput
   word_short word ends new h few =
       let less : length (bits K.order xs) < n = let len = length-bits K.order xs in omega arith in
-      new_answer ends xs reference_names new h ∙ rw (
+      new_answer ends xs references new h ∙ rw (
         word.reads 0 (bits K.order xs),
         lt-leb n (length (bits K.order xs)) less,
       ) refl
 
 -- the items are there
 pub items_there : {R A : Type 0} {K : BitSource R} {e : ReadEntry A} {n : ℕ} {g : List Bool → A}
-    {r : Result (List A) Error} {s t : R} {xs : List ℕ} {reference_names : List GName}
-    → IsWord e n (λ w. Ok (g w)) → (k : ℕ) → TrueEnds K.may → K.state s ≡ new_reader_state (Some xs) reference_names
+    {r : Result (List A) Error} {s t : R} {xs : List ℕ} {references : List Reference}
+    → IsWord e n (λ w. Ok (g w)) → (k : ℕ) → TrueEnds K.may → K.state s ≡ new_reader_state (Some xs) references
     → Reads K (items_entry e k) s r t → k * n ≤ 8 * length xs → r ≡ Ok (map g (words n k (bits K.order xs)))
 items_there {K = K} {n = n} {g = g} {xs = xs} word k ends new h enough =
     word_there (items-word word k) ends new h enough ∙ ap (λ l. Ok (map g l)) (words-take n k (bits K.order xs))

@@ -3,7 +3,7 @@
 use borrow.Author.Rules.{sfits_of}
 use Rattle.std.proofs.Common.{◌≡◌, ℕ, ℤ, SFits, to_z, of_z, Continue, Break, ◌+◌, ◌*◌, ◌%◌, Bool, List, [], ◌∷◌, ◌++◌, length, Option, Some, Result, Ok, Err, replicate, refl, sym, ap, ◌∙◌, subst, inl, inr, false}
 use Rattle.std.proofs.lemmas.Int.{to_z-of_z}
-use Rattle.std.specs.Borrow.{GName}
+use Rattle.bitstream_order.specs.Reference.{Reference}
 use Rattle.std.specs.Int.{Width}
 use Rattle.std.specs.Result.{IsErrAnd, result_from_control_flow}
 use Rattle.std.specs.declared.ops.ControlFlow.{ControlFlow}
@@ -188,7 +188,7 @@ run_appended K [] s t sound p = subst (λ z. Appended K s [] z) (sym p.1) (recor
   sound =
       sound;
   refusals = refl;
-  reference_names = refl;
+  references = refl;
 })
 run_appended K (e ∷ es) s t sound (inl p) = let z = p.0 in cc
 run_appended K (e ∷ es) s t sound (inr p) =
@@ -201,7 +201,7 @@ run_appended K (e ∷ es) s t sound (inr p) =
           (subst (λ n. K.appends p.0 (write_run es n) t) far b.grown);
       sound = b.sound;
       refusals = b.refusals ∙ a.refusals;
-      reference_names = b.reference_names ∙ a.reference_names;
+      references = b.references ∙ a.references;
     }
 
 -- ---- what a new writer's stream holds then, behind a last alignment
@@ -212,37 +212,37 @@ aligned K s t h =
     let far : K.len t ≡ K.len s + length zeros = K.appends_len s t zeros (wrote K align s t h).grown in
     rw (far, length-replicate (to_boundary (K.len s)) false) (padded (K.len s))
 
-module _ {W E : Type 0} (held : W → Option (List ℕ)) (refuses : W → ℕ → ErrorKind → W → Type 0) (reference_names : W
-    → List GName) (o : Order) (es : List WriteEntry) (known : Option (List ℕ)) (names : List GName)
+module _ {W E : Type 0} (held : W → Option (List ℕ)) (refuses : W → ℕ → ErrorKind → W → Type 0) (references : W
+    → List Reference) (o : Order) (es : List WriteEntry) (known : Option (List ℕ)) (names : List Reference)
     (a m b : BitWriter W E) where
-  packed : writer_state held reference_names a ≡ new_writer_state known names
-      → WritesAll (writer_sink held refuses reference_names o) es a (Ok tt) m
-      → Writes {T = Unit {0}} (writer_sink held refuses reference_names o) align m (Ok tt) b
-      → Appended (writer_sink held refuses reference_names o) a (write_run (es ++ align ∷ []) 0) b
+  packed : writer_state held references a ≡ new_writer_state known names
+      → WritesAll (writer_sink held refuses references o) es a (Ok tt) m
+      → Writes {T = Unit {0}} (writer_sink held refuses references o) align m (Ok tt) b
+      → Appended (writer_sink held refuses references o) a (write_run (es ++ align ∷ []) 0) b
   packed fresh h k =
-      let K = writer_sink held refuses reference_names o in
+      let K = writer_sink held refuses references o in
       let start : K.len a ≡ 0 = ap (λ (s : WriterState). 8 * s.port.sent + s.queued) fresh in
       let all = all_append K es (align ∷ []) a m (Ok tt) b h (all_one K align m (Ok tt) b k) in
       subst (λ n. Appended K a (write_run (es ++ align ∷ []) n) b) start
       (run_appended K (es ++ align ∷ []) a b (ap (λ (s : WriterState). s.failed) fresh) all)
 
   -- the bits of the bytes that were added are the write run
-  pub bytes_added : writer_state held reference_names a ≡ new_writer_state known names
-      → WritesAll (writer_sink held refuses reference_names o) es a (Ok tt) m
-      → Writes {T = Unit {0}} (writer_sink held refuses reference_names o) align m (Ok tt) b
+  pub bytes_added : writer_state held references a ≡ new_writer_state known names
+      → WritesAll (writer_sink held refuses references o) es a (Ok tt) m
+      → Writes {T = Unit {0}} (writer_sink held refuses references o) align m (Ok tt) b
       → AddsBits o known (write_run (es ++ align ∷ []) 0) (held b.port.stream)
   bytes_added fresh h k =
       subst (λ z. AddsBits o z (write_run (es ++ align ∷ []) 0) (held b.port.stream))
       (ap (λ (s : WriterState). s.port.bytes) fresh)
-      (adds_bits held reference_names o a b (write_run (es ++ align ∷ []) 0) (packed fresh h k).grown
-      (ap (λ (s : WriterState). s.queued) fresh) (aligned (writer_sink held refuses reference_names o) m b k))
+      (adds_bits held references o a b (write_run (es ++ align ∷ []) 0) (packed fresh h k).grown
+      (ap (λ (s : WriterState). s.queued) fresh) (aligned (writer_sink held refuses references o) m b k))
 
   -- and the stream is reached as it was
-  pub names_kept : writer_state held reference_names a ≡ new_writer_state known names
-      → WritesAll (writer_sink held refuses reference_names o) es a (Ok tt) m
-      → Writes {T = Unit {0}} (writer_sink held refuses reference_names o) align m (Ok tt) b
-      → reference_names b.port.stream ≡ names
-  names_kept fresh h k = (packed fresh h k).reference_names ∙ ap (λ (s : WriterState). s.port.reference_names) fresh
+  pub names_kept : writer_state held references a ≡ new_writer_state known names
+      → WritesAll (writer_sink held refuses references o) es a (Ok tt) m
+      → Writes {T = Unit {0}} (writer_sink held refuses references o) align m (Ok tt) b
+      → references b.port.stream ≡ names
+  names_kept fresh h k = (packed fresh h k).references ∙ ap (λ (s : WriterState). s.port.references) fresh
 
 -- the bytes of a stream that held none
 pub whole_bytes : {o : Order} {known : Option (List ℕ)} {x : List Bool} {xs : List ℕ} → known ≡ Some []
@@ -251,21 +251,21 @@ whole_bytes {o = o} {x = x} {xs = xs} none h = let k = subst (λ z. AddsBits o z
     ap (bits o) k.grows ∙ k.bits
 
 -- what a stream holds then that held no bytes, and through which references it is reached
-pub record Packed (held : Option (List ℕ)) (reached : List GName) (o : Order) (x : List Bool) (names : List GName) :
+pub record Packed (held : Option (List ℕ)) (reached : List Reference) (o : Order) (x : List Bool) (names : List Reference) :
     Type 0 where
   pub whole : {xs : List ℕ} → held ≡ Some xs → bits o xs ≡ x
   pub reached_as : reached ≡ names
 
 pub packed_stream : {W E : Type 0} (held : W → Option (List ℕ)) {refuses : W → ℕ → ErrorKind → W
-    → Type 0} (reference_names : W → List GName) {o : Order} (es : List WriteEntry) {known : Option (List ℕ)}
-    {names : List GName} (a : BitWriter W E) {m b : BitWriter W E}
-    → known ≡ Some [] → writer_state held reference_names a ≡ new_writer_state known names
-    → WritesAll (writer_sink held refuses reference_names o) es a (Ok tt) m
-    → Writes {T = Unit {0}} (writer_sink held refuses reference_names o) align m (Ok tt) b
-    → Packed (held b.port.stream) (reference_names b.port.stream) o (write_run (es ++ align ∷ []) 0) names
-packed_stream held {refuses = refuses} reference_names {o = o} es {known = known} {names = names} a {m = m} {b =
+    → Type 0} (references : W → List Reference) {o : Order} (es : List WriteEntry) {known : Option (List ℕ)}
+    {names : List Reference} (a : BitWriter W E) {m b : BitWriter W E}
+    → known ≡ Some [] → writer_state held references a ≡ new_writer_state known names
+    → WritesAll (writer_sink held refuses references o) es a (Ok tt) m
+    → Writes {T = Unit {0}} (writer_sink held refuses references o) align m (Ok tt) b
+    → Packed (held b.port.stream) (references b.port.stream) o (write_run (es ++ align ∷ []) 0) names
+packed_stream held {refuses = refuses} references {o = o} es {known = known} {names = names} a {m = m} {b =
     b} none fresh h k = record {
       whole = λ {xs} is. whole_bytes none (subst (AddsBits o known (write_run (es ++ align ∷ []) 0)) is
-          (bytes_added held refuses reference_names o es known names a m b fresh h k));
-      reached_as = names_kept held refuses reference_names o es known names a m b fresh h k;
+          (bytes_added held refuses references o es known names a m b fresh h k));
+      reached_as = names_kept held refuses references o es known names a m b fresh h k;
     }

@@ -1,5 +1,6 @@
 //! The ways from a reader of bytes to its stream, and to a reader of bits over it.
 ghost use Rattle.std.specs.Prelude.{◌≡◌, ◌∷◌};
+ghost use Rattle.bitstream_order.specs.Reference.{by_name};
 
 use super::ByteReader;
 use crate::read::BitRead;
@@ -34,7 +35,7 @@ impl<R: Source, E: Endianness> ByteReader<R, E> {
     pub fn into_bitreader(self) -> BitReader<R, E>
         ensures state { ⟦<BitReader<R, E> as BitRead>⟧.source.state result
             ≡ new_reader_state (R.remaining (byte_reader_stream self))
-            (R.reference_names (byte_reader_stream self)) }
+            (R.references (byte_reader_stream self)) }
         ensures requests { requests_made result ≡ 0 }
     {
         BitReader::new(self.into_reader())
@@ -44,7 +45,7 @@ impl<R: Source, E: Endianness> ByteReader<R, E> {
     pub fn bitreader<'a>(&'a mut self) -> BitReader<Lent<'a, R>, E>
         ensures state { ⟦<BitReader<Lent<'a, R>, E> as BitRead>⟧.source.state result
             ≡ new_reader_state (R.remaining (byte_reader_stream self.old))
-            (reader_name result ∷ R.reference_names (byte_reader_stream self.old)) }
+            (by_name (reader_name result) ∷ R.references (byte_reader_stream self.old)) }
         ensures requests { requests_made result ≡ 0 }
         ensures* writes_back { sem 𝓛 (follows (the_row R.row E.row) R.row self.entry.ghost_name
             (reader_name result) (byte_reader_with self.old)) }

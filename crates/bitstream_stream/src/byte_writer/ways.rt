@@ -1,5 +1,6 @@
 //! The ways from a writer of bytes to its stream, and to a writer of bits to it.
 ghost use Rattle.std.specs.Prelude.{◌≡◌, ◌∷◌};
+ghost use Rattle.bitstream_order.specs.Reference.{by_name};
 ghost use Rattle.bitstream_order.specs.Port.{new_port_state};
 
 use super::ByteWriter;
@@ -32,9 +33,9 @@ impl<W: Target, E: Endianness> ByteWriter<W, E> {
 
     /// Returns a new writer of bits to the stream, in the same order.
     pub fn into_bitwriter(self) -> BitWriter<W, E>
-        ensures { writer_state W.contents W.reference_names result
+        ensures { writer_state W.contents W.references result
             ≡ new_writer_state (W.contents (byte_writer_stream self))
-            (W.reference_names (byte_writer_stream self)) }
+            (W.references (byte_writer_stream self)) }
     {
         BitWriter::new(self.into_writer())
     }
@@ -42,9 +43,9 @@ impl<W: Target, E: Endianness> ByteWriter<W, E> {
     /// Returns a new writer of bits to the stream, in the same order.
     pub fn bitwriter<'a>(&'a mut self) -> BitWriter<Lent<'a, W>, E>
         ensures state { writer_state ⟦<Lent<'a, W> as Target>⟧.contents
-            ⟦<Lent<'a, W> as Target>⟧.reference_names result
+            ⟦<Lent<'a, W> as Target>⟧.references result
             ≡ new_writer_state (W.contents (byte_writer_stream self.old))
-            (writer_name result ∷ W.reference_names (byte_writer_stream self.old)) }
+            (by_name (writer_name result) ∷ W.references (byte_writer_stream self.old)) }
         ensures* writes_back { sem 𝓛 (follows (the_row W.row E.row) W.row self.entry.ghost_name
             (writer_name result) (byte_writer_with self.old)) }
     {

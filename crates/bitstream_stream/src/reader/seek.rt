@@ -46,7 +46,7 @@ impl<R: SeekSource, E: Endianness> BitReader<R, E> {
     /// ```
     pub fn seek_bits(&mut self, to: SeekFrom) -> Result<u64, Error>
         ensures { SeeksBits (reader_seeker ⟦<Self as BitRead>⟧.source R.position R.bytes
-            (MayRefuseSeek R.remaining R.refuses_seek)) to self.old result self.new }
+            (MayRefuseSeek R.remaining R.references R.refuses_seek)) to self.old result self.new }
     {
         match to {
             SeekFrom::Start(place) => self.go_to(place),
@@ -68,7 +68,7 @@ impl<R: SeekSource, E: Endianness> BitReader<R, E> {
     /// - `Failed` if the reader has failed.
     pub fn position_in_bits(&mut self) -> Result<u64, Error>
         ensures asks { AsksPlace (reader_seeker ⟦<Self as BitRead>⟧.source R.position R.bytes
-            (MayRefuseSeek R.remaining R.refuses_seek)) (Current (pos 0)) self.old result self.new }
+            (MayRefuseSeek R.remaining R.references R.refuses_seek)) (Current (pos 0)) self.old result self.new }
         ensures requests { (⟦<Self as BitRead>⟧.source.state self.old).failed ≡ false →
             requests_made self.new ≡ requests_made self.old + 1 }
     {
@@ -79,7 +79,7 @@ impl<R: SeekSource, E: Endianness> BitReader<R, E> {
     fn ask_place(&mut self, to: SeekFrom) -> Result<u64, Error>
         requires { IsFromHere to }
         ensures asks { AsksPlace (reader_seeker ⟦<Self as BitRead>⟧.source R.position R.bytes
-            (MayRefuseSeek R.remaining R.refuses_seek)) to self.old result self.new }
+            (MayRefuseSeek R.remaining R.references R.refuses_seek)) to self.old result self.new }
         ensures requests { self.old.failed ≡ false →
             requests_made self.new ≡ requests_made self.old + 1 }
     {
@@ -102,7 +102,7 @@ impl<R: SeekSource, E: Endianness> BitReader<R, E> {
     /// Goes n bits back from the end of the stream.
     fn go_back(&mut self, back: i64) -> Result<u64, Error>
         ensures { SeeksBits (reader_seeker ⟦<Self as BitRead>⟧.source R.position R.bytes
-            (MayRefuseSeek R.remaining R.refuses_seek)) (End back) self.old result self.new }
+            (MayRefuseSeek R.remaining R.references R.refuses_seek)) (End back) self.old result self.new }
     {
         let end = self.seek_bytes(SeekFrom::End(0))?;
         match bit_place(end, 0, SeekFrom::End(back)) {
@@ -117,7 +117,7 @@ impl<R: SeekSource, E: Endianness> BitReader<R, E> {
     /// Goes to a place in bits.
     fn go_to(&mut self, place: u64) -> Result<u64, Error>
         ensures { GoesTo (reader_seeker ⟦<Self as BitRead>⟧.source R.position R.bytes
-            (MayRefuseSeek R.remaining R.refuses_seek)) place self.old result self.new }
+            (MayRefuseSeek R.remaining R.references R.refuses_seek)) place self.old result self.new }
     {
         let _at = self.seek_bytes(SeekFrom::Start(place / 8))?;
         let _skipped: u8 = self.read_unsigned_var((place % 8) as u32)?;
@@ -127,7 +127,7 @@ impl<R: SeekSource, E: Endianness> BitReader<R, E> {
     /// Drops the queue, and seeks to a position in bytes. The counts begin anew there.
     fn seek_bytes(&mut self, to: SeekFrom) -> Result<u64, Error>
         ensures { SeeksBytes (reader_seeker ⟦<Self as BitRead>⟧.source R.position R.bytes
-            (MayRefuseSeek R.remaining R.refuses_seek)) to self.old result self.new }
+            (MayRefuseSeek R.remaining R.references R.refuses_seek)) to self.old result self.new }
     {
         self.drop_queue();
         match self.port.seek(to) {

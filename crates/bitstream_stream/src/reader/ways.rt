@@ -1,6 +1,7 @@
 //! The ways from a reader of bits to its stream, and to a reader of bytes over it.
 ghost use Rattle.std.specs.Prelude.{◌≡◌, ◌↔◌, ◌%◌, ◌∷◌, false, Ok, IsSome, IfSome};
 ghost use Rattle.std.specs.Option.{ghost_name_of};
+ghost use Rattle.bitstream_order.specs.Reference.{by_name};
 ghost use Rattle.bitstream_order.specs.Port.{new_port_state};
 ghost use Rattle.bitstream_stream.specs.ByteReader.{byte_reader_state};
 
@@ -62,7 +63,7 @@ impl<R: Source, E: Endianness> BitReader<R, E> {
         ensures state { IfSome result (λ reader.
             ⟦<ByteReader<Lent<'a, R>, E> as ByteRead>⟧.source.state reader
             ≡ byte_reader_state (new_port_state (R.remaining (reader_stream self.old))
-            (byte_reader_name reader ∷ R.reference_names (reader_stream self.old)))) }
+            (by_name (byte_reader_name reader) ∷ R.references (reader_stream self.old)))) }
         ensures* writes_back { sem 𝓛 (follows_if (the_row R.row E.row) R.row self.entry.ghost_name
             (name_if_some byte_reader_name result) (reader_with self.old) self.old) }
     {
@@ -75,7 +76,7 @@ impl<R: Source, E: Endianness> BitReader<R, E> {
         ensures state { IfSome stream.entry (λ lent. IfSome result (λ reader.
             ⟦<ByteReader<Lent<'a, R>, E> as ByteRead>⟧.source.state reader
             ≡ byte_reader_state (new_port_state (R.remaining lent.now)
-            (byte_reader_name reader ∷ R.reference_names lent.now)))) }
+            (by_name (byte_reader_name reader) ∷ R.references lent.now)))) }
     {
         match stream {
             Some(stream) => Some(ByteReader::new(Lent::new(stream))),
@@ -88,7 +89,7 @@ impl<R: Source, E: Endianness> BitReader<R, E> {
     pub fn into_bytereader(self) -> ByteReader<R, E>
         ensures { ⟦<ByteReader<R, E> as ByteRead>⟧.source.state result
             ≡ byte_reader_state (new_port_state (R.remaining (reader_stream self))
-            (R.reference_names (reader_stream self))) }
+            (R.references (reader_stream self))) }
     {
         ByteReader::new(self.into_reader())
     }

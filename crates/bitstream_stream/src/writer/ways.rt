@@ -1,6 +1,7 @@
 //! The ways from a writer of bits to its stream, and to a writer of bytes to it.
 ghost use Rattle.std.specs.Prelude.{◌≡◌, ◌↔◌, ◌%◌, ◌∷◌, false, Ok, IsSome, IfSome, IfOk, OnOk};
 ghost use Rattle.std.specs.Option.{ghost_name_of};
+ghost use Rattle.bitstream_order.specs.Reference.{by_name};
 ghost use Rattle.bitstream_order.specs.Port.{new_port_state};
 ghost use Rattle.bitstream_order.specs.Refusal.{MayRefuse};
 
@@ -66,9 +67,9 @@ impl<W: Target, E: Endianness> BitWriter<W, E> {
             × (⟦<Self as BitWrite>⟧.sink.len self.old % 8 ≡ 0)) }
         ensures state { IfSome result (λ writer.
             byte_writer_state ⟦<Lent<'a, W> as Target>⟧.contents
-            ⟦<Lent<'a, W> as Target>⟧.reference_names writer
+            ⟦<Lent<'a, W> as Target>⟧.references writer
             ≡ new_port_state (W.contents (writer_stream self.old))
-            (byte_writer_name writer ∷ W.reference_names (writer_stream self.old))) }
+            (by_name (byte_writer_name writer) ∷ W.references (writer_stream self.old))) }
         ensures* writes_back { sem 𝓛 (follows_if (the_row W.row E.row) W.row self.entry.ghost_name
             (name_if_some byte_writer_name result) (writer_with self.old) self.old) }
     {
@@ -80,8 +81,8 @@ impl<W: Target, E: Endianness> BitWriter<W, E> {
         ensures name { name_if_some byte_writer_name result ≡ ghost_name_of stream.entry }
         ensures state { IfSome stream.entry (λ lent. IfSome result (λ writer.
             byte_writer_state ⟦<Lent<'a, W> as Target>⟧.contents
-            ⟦<Lent<'a, W> as Target>⟧.reference_names writer
-            ≡ new_port_state (W.contents lent.now) (byte_writer_name writer ∷ W.reference_names lent.now))) }
+            ⟦<Lent<'a, W> as Target>⟧.references writer
+            ≡ new_port_state (W.contents lent.now) (by_name (byte_writer_name writer) ∷ W.references lent.now))) }
     {
         match stream {
             Some(stream) => Some(ByteWriter::new(Lent::new(stream))),
@@ -91,9 +92,9 @@ impl<W: Target, E: Endianness> BitWriter<W, E> {
 
     /// Returns a new writer of bytes to the stream, in the same order. The queued bits are dropped.
     pub fn into_bytewriter(self) -> ByteWriter<W, E>
-        ensures { byte_writer_state W.contents W.reference_names result
+        ensures { byte_writer_state W.contents W.references result
             ≡ new_port_state (W.contents (writer_stream self))
-            (W.reference_names (writer_stream self)) }
+            (W.references (writer_stream self)) }
     {
         ByteWriter::new(self.into_writer())
     }
@@ -106,9 +107,9 @@ impl<W: Target, E: Endianness> BitWriter<W, E> {
     /// As of the calls of [`BitWrite`]: if the stream refuses, the writer has failed, and its
     /// queued bits are lost.
     pub fn flush(&mut self) -> Result<(), Error>
-        ensures flushes { Flushes (MayRefuse W.contents W.refuses)
-            (writer_state W.contents W.reference_names self.old) result
-            (writer_state W.contents W.reference_names self.new) }
+        ensures flushes { Flushes (MayRefuse W.contents W.references W.refuses)
+            (writer_state W.contents W.references self.old) result
+            (writer_state W.contents W.references self.new) }
         ensures flushed { OnOk result (W.flushes (writer_stream self.old) (writer_stream self.new)) }
     {
         if self.failed {

@@ -18,6 +18,14 @@ impl<I: Integer + Copy + Default, const SIZE: usize> Integer for [I; SIZE] {
 
     ghost Fits = { λ n items. All (I.Fits n) items };
 
+    fn read<B: Width, R: BitRead>(reader: &mut R) -> Result<[I; SIZE], Error> {
+        let mut items = [I::default(); SIZE];
+        for i in 0..SIZE {
+            items[i] = I::read::<B, R>(reader)?;
+        }
+        Ok(items)
+    }
+
     fn read_var<C: Count, R: BitRead>(reader: &mut R, bits: C) -> Result<[I; SIZE], Error> {
         let mut items = [I::default(); SIZE];
         for i in 0..SIZE {

@@ -1,4 +1,5 @@
 use Rattle.std.proofs.Common.{◌∷◌, ◌∙◌, ◌+◌, ◌*◌, sym, ap, refl, rules, subst}
+use Rattle.bitstream_io.specs.Reference.{by_name}
 use Rattle.bitstream_io.specs.Refusal.{MayRefuse}
 use Rattle.bitstream_io.specs.Carries.{WriterState}
 use Rattle.bitstream_io.specs.Writer.{writer_state}
@@ -14,10 +15,10 @@ returns-in-Ok g c =
     let w = c.pack_to.new.writer in
     let fresh = c.new-writer.ensures in
     let added = c.in-Ok.ensures.adds (ap (λ (s : WriterState). s.failed) fresh) refl in
-    let place = first_name {m = w.port.stream.at.ghost_name} {n = c.new.result.at.ghost_name} (added.reference_names
-    ∙ ap (λ (s : WriterState). s.port.reference_names) fresh) in
+    let place = first_name {m = w.port.stream.at.ghost_name} {n = c.new.result.at.ghost_name} (added.references
+    ∙ ap (λ (s : WriterState). s.port.references) fresh) in
     let bytes = PackedBytes-from g.E.Endianness.order c.args.layout.now c.args.values.now _ _ _
-    (writer_state (λ l. g.W.Target.contents l.at.now) (λ l. l.at.ghost_name ∷ g.W.Target.reference_names l.at.now)
+    (writer_state (λ l. g.W.Target.contents l.at.now) (λ l. by_name l.at.ghost_name ∷ g.W.Target.references l.at.now)
     w) w.few fresh added.grown in
     let names = c.new.ensures.name in
     rw (← c.new.ensures.value)
@@ -31,11 +32,12 @@ returns-in-Err g c =
     let fresh = c.new-writer.ensures in
     let fault = c.in-Err.ensures.adds (ap (λ (s : WriterState). s.failed) fresh) refl in
     let none = ap (λ (s : WriterState). 8 * s.port.sent + s.queued) fresh in
-    let place = first_name {m = w.port.stream.at.ghost_name} {n = c.new.result.at.ghost_name} (fault.reference_names
-    ∙ ap (λ (s : WriterState). s.port.reference_names) fresh) in
+    let place = first_name {m = w.port.stream.at.ghost_name} {n = c.new.result.at.ghost_name} (fault.references
+    ∙ ap (λ (s : WriterState). s.port.references) fresh) in
     let tied = c.output-1.given.1 (sym c.new.ensures.name ∙ sym place) in
-    let seen = MayRefuse-seen (λ l. l.at.now) g.W.Target.contents g.W.Target.refuses in
-    let refused = PackingRefused-from _ (MayRefuse g.W.Target.contents g.W.Target.refuses) c.args.layout.now
+    let seen = MayRefuse-seen (λ l. l.at.now) (λ l. l.at.ghost_name) g.W.Target.contents g.W.Target.references
+    g.W.Target.refuses in
+    let refused = PackingRefused-from _ (MayRefuse g.W.Target.contents g.W.Target.references g.W.Target.refuses) c.args.layout.now
     c.args.values.now _ _ _ c.in-Err.error _ seen none (filled o _ _ _ fresh) fault (c.new-in-Err.ensures
     ∙ ap (fault_of 0) c.write_reason.ensures) in
     rw (tied, ← c.new.ensures.value) refused

@@ -1,4 +1,5 @@
 use Rattle.std.proofs.Common.{rules, ◌∷◌, subst}
+use Rattle.bitstream_io.specs.Reference.{by_name}
 use Rattle.bitstream_io.specs.Gather.{seen}
 use Rattle.bitstream_io.specs.Refusal.{MayRefuse}
 use Rattle.bitstream_io.proofs.ReadsLemmas.{first_name}
@@ -11,15 +12,15 @@ pub returns : goal.returns
 returns g c =
     let o = g.E.Endianness.order in
     let source = g.R.Source in
-    let may = MayRefuse source.remaining source.refuses in
+    let may = MayRefuse source.remaining source.references source.refuses in
     let fields = c.args.layout.now in
     let first = c.new.result in
     let last = c.read_packed_from.new.reader.port.stream in
     let result = seen (λ v. v.items) c.read_packed_from.result in
-    let inside = MayRefuse-seen (λ l. l.at.now) source.remaining source.refuses in
+    let inside = MayRefuse-seen (λ l. l.at.now) (λ l. l.at.ghost_name) source.remaining source.references source.refuses in
     let calls = rw c.fields.ensures.fields at c.read_packed_from.ensures in
     let all = Fields-from exact_read _ may (with_alignment fields) (source.remaining first.at.now)
-    (first.at.ghost_name ∷ source.reference_names first.at.now) _ _ calls.answer inside c.new-reader.ensures.state
+    (by_name first.at.ghost_name ∷ source.references first.at.now) _ _ calls.answer inside c.new-reader.ensures.state
     calls.reads in
     let place = first_name {m = last.at.ghost_name} {n = first.at.ghost_name} all.1 in
     let names = c.new.ensures.name in

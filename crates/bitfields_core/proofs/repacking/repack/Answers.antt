@@ -29,6 +29,7 @@ returns-in_err-expect_end-clause-repacks g c =
 pub returns-clause-repacks : goal.returns-clause-repacks
 returns-clause-repacks g c =
     let known = g.R.Source.remaining in
+    let references = g.R.Source.references in
     let refuses = g.R.Source.refuses in
     let o = g.E.Endianness.order in
     let fields = c.args.layout.now in
@@ -41,7 +42,7 @@ returns-clause-repacks g c =
       ended = c.in_ok-expect_end.ensures;
     }
     in
-    packed_again known refuses g.W.Target.contents (MayRefuse g.W.Target.contents g.W.Target.refuses) o fields _ _ _ _
+    packed_again known references refuses g.W.Target.contents (MayRefuse g.W.Target.contents g.W.Target.references g.W.Target.refuses) o fields _ _ _ _
     vs c.pack_values.result layout read (rw c.deref.ensures.value at c.pack_values.ensures)
 
 pub returns-clause-repacked : goal.returns-clause-repacked
@@ -59,5 +60,5 @@ returns-clause-repacked g c =
     }
     in
     λ ends xs told. was_ended ends o fields told g.W.Target.contents
-    (MayRefuse g.W.Target.contents g.W.Target.refuses) _ _ c.pack_values.result read
+    (MayRefuse g.W.Target.contents g.W.Target.references g.W.Target.refuses) _ _ c.pack_values.result read
     (rw c.deref.ensures.value at c.pack_values.ensures)

@@ -1,4 +1,5 @@
 use Rattle.std.proofs.Common.{rules, ◌≡◌, ◌∷◌, subst, string_bytes, Ok}
+use Rattle.bitstream_io.specs.Reference.{by_name}
 use Rattle.bitstream_io.specs.Gather.{seen}
 use Rattle.bitstream_io.specs.Refusal.{MayRefuse}
 use Rattle.bitstream_io.proofs.ReadsLemmas.{first_name}
@@ -11,13 +12,13 @@ returns g c =
     let text : c.into_bytes.result.items ≡ string_bytes c.in_ok-lines.lines = search rules in
     let o = g.E.Endianness.order in
     let source = g.R.Source in
-    let may = MayRefuse source.remaining source.refuses in
+    let may = MayRefuse source.remaining source.references source.refuses in
     let fields = c.args.layout.now in
     let first = c.new.result in
     let last = c.unpack_from.new.reader.port.stream in
-    let inside = MayRefuse-seen (λ l. l.at.now) source.remaining source.refuses in
+    let inside = MayRefuse-seen (λ l. l.at.now) (λ l. l.at.ghost_name) source.remaining source.references source.refuses in
     let all = Unpacks-from _ may fields (source.remaining first.at.now)
-    (first.at.ghost_name ∷ source.reference_names first.at.now) _ _ _ inside c.new-reader.ensures.state
+    (by_name first.at.ghost_name ∷ source.references first.at.now) _ _ _ inside c.new-reader.ensures.state
     (rw c.fields.ensures.fields at c.in_ok-lines.ensures) in
     let place = first_name {m = last.at.ghost_name} {n = first.at.ghost_name} all.1 in
     let names = c.new.ensures.name in
@@ -33,13 +34,13 @@ pub returns-in_err-lines : goal.returns-in_err-lines
 returns-in_err-lines g c =
     let o = g.E.Endianness.order in
     let source = g.R.Source in
-    let may = MayRefuse source.remaining source.refuses in
+    let may = MayRefuse source.remaining source.references source.refuses in
     let fields = c.args.layout.now in
     let first = c.new.result in
     let last = c.unpack_from.new.reader.port.stream in
-    let inside = MayRefuse-seen (λ l. l.at.now) source.remaining source.refuses in
+    let inside = MayRefuse-seen (λ l. l.at.now) (λ l. l.at.ghost_name) source.remaining source.references source.refuses in
     let all = Unpacks-from _ may fields (source.remaining first.at.now)
-    (first.at.ghost_name ∷ source.reference_names first.at.now) _ _ _ inside c.new-reader.ensures.state
+    (by_name first.at.ghost_name ∷ source.references first.at.now) _ _ _ inside c.new-reader.ensures.state
     (rw c.fields.ensures.fields at c.in_err-lines.ensures) in
     let place = first_name {m = last.at.ghost_name} {n = first.at.ghost_name} all.1 in
     let names = c.new.ensures.name in

@@ -32,7 +32,7 @@ returns-in_err-byte-clause-takes g c =
     lead_refused _ g.E.Endianness.order c.args.stop _ _ _ _ c.from_residual.result c.from_residual.ensures.1 (record {
       count = c.loop-byte.count;
       few = c.loop-byte.invariant.small;
-      mid = port_state g.S.Source.remaining g.S.Source.reference_names c.loop-byte.port;
+      mid = port_state g.S.Source.remaining g.S.Source.references c.loop-byte.port;
       takes = c.loop-byte.invariant.takes;
       refused = c.in_err-byte.ensures;
     })

@@ -10,8 +10,8 @@ use Rattle.bitstream_order.proofs.unary.take_unary.Given as goal
 abbrev pub invariant-loop-byte : goal.invariant-loop-byte
 invariant-loop-byte g l =
     let o = g.E.Endianness.order in
-    let first = port_state g.S.Source.remaining g.S.Source.reference_names l.fn.port in
-    let now = port_state g.S.Source.remaining g.S.Source.reference_names l.port in
+    let first = port_state g.S.Source.remaining g.S.Source.references l.fn.port in
+    let now = port_state g.S.Source.remaining g.S.Source.references l.port in
     record {
       small : l.count < 2 ^ 32;
       takes : TakesBetween o (word o l.queued (first_part o l.queue 8 l.queued)) first (replicate l.count (not l.stop))

@@ -14,10 +14,10 @@ pub returns : goal.returns
 returns g c =
     let len : length c.fetch.new.buf ≡ length c.args.buf.now = search rules in
     let some : 0 < length c.args.buf.now = search rules in
-    let before = port_state g.R.Source.remaining g.R.Source.reference_names c.args.self.now.port in
-    let after = port_state g.R.Source.remaining g.R.Source.reference_names c.fetch.new.self in
+    let before = port_state g.R.Source.remaining g.R.Source.references c.args.self.now.port in
+    let after = port_state g.R.Source.remaining g.R.Source.references c.fetch.new.self in
     record {
       reads = bytes_fetched {K = byte_reader_source g.R.Source.remaining g.R.Source.refuses
-          g.R.Source.reference_names g.E.Endianness.order} (length c.args.buf.now) c.fetch.new.buf c.fetch.result before
+          g.R.Source.references g.E.Endianness.order} (length c.args.buf.now) c.fetch.new.buf c.fetch.result before
           after _ _ refl refl len some c.fetch.ensures.fetches;
     }

@@ -44,7 +44,7 @@ returns-in-Err-clause-asks g c =
       allowed = (Current (pos 0), refl, refused.allowed);
       answer = ap Err refused.answer;
       refusals = ap (λ r. r.port.refusals.list) same ∙ refused.refusals;
-      reference_names = ap (λ r. g.R.Source.reference_names (port_stream r.port)) same ∙ refused.reference_names;
+      references = ap (λ r. g.R.Source.references (port_stream r.port)) same ∙ refused.references;
       queue = ap (λ r. word o r.queued (first_part o r.queue 8 r.queued)) same ∙ word-none o _;
       failed = refl;
     })

@@ -3,6 +3,7 @@ use Rattle.std.proofs.Common.{◌≡◌, [], ◌∷◌}
 use Rattle.std.proofs.raw_atomic.Walks.{proved}
 use Rattle.std.proofs.option.Option.TheLaws.{the_row_laws as option_laws}
 use Rattle.std.specs.Prelude.{◌%◌, false}
+use Rattle.bitstream_order.specs.Reference.{by_name}
 use Rattle.bitstream_order.specs.Port.{new_port_state}
 use Rattle.bitstream_order.specs.contracts.lent.Lent.{the_row as LentOf}
 use Rattle.bitstream_order.specs.contracts.source.LentSource.TheImpl as sources
@@ -48,7 +49,7 @@ bytereader_spec 𝓤 𝓛 𝓜 𝓡 wired X Y LX LY gs ds ge de gd dd ms me md =
     walk X Y R Self Made (λ reader. ((before reader).failed ≡ false) × ((before reader).taken % 8 ≡ 0)) reader_stream
     reader_with (λ κs. byte_reader_name)
     (λ κs reader stream. after reader ≡ byte_reader_state
-    (new_port_state (gs.remaining stream) (byte_reader_name reader ∷ gs.reference_names stream))) 𝓛 κs qs bounds a.0
+    (new_port_state (gs.remaining stream) (by_name (byte_reader_name reader) ∷ gs.references stream))) 𝓛 κs qs bounds a.0
     𝓜 𝓡
     -- [of the code: how many lifetimes, which outlives which, the kinds, how many givens; two lifetimes; five types]
     _ _ _ _ _ _ _ _ _ _ _

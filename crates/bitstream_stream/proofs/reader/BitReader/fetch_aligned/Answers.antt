@@ -14,8 +14,8 @@ use Rattle.bitstream_stream.proofs.reader.BitReader.fetch_aligned.Goals as goal
 pub returns-in-Ok-clause-reads : goal.returns-in-Ok-clause-reads
 returns-in-Ok-clause-reads g c =
     let o = g.E.Endianness.order in
-    let p = port_state g.R.Source.remaining g.R.Source.reference_names c.args.self.now.port in
-    let new = port_state g.R.Source.remaining g.R.Source.reference_names c.fetch.new.self in
+    let p = port_state g.R.Source.remaining g.R.Source.references c.args.self.now.port in
+    let new = port_state g.R.Source.remaining g.R.Source.references c.fetch.new.self in
     let n = length c.args.buf.now in
     let made = c.fetch.new.buf in
     let queued = c.args.self.now.queued in
@@ -32,8 +32,8 @@ returns-in-Ok-clause-reads g c =
 pub returns-in-Err-clause-reads : goal.returns-in-Err-clause-reads
 returns-in-Err-clause-reads g c =
     let o = g.E.Endianness.order in
-    let p = port_state g.R.Source.remaining g.R.Source.reference_names c.args.self.now.port in
-    let new = port_state g.R.Source.remaining g.R.Source.reference_names c.fetch.new.self in
+    let p = port_state g.R.Source.remaining g.R.Source.references c.args.self.now.port in
+    let new = port_state g.R.Source.remaining g.R.Source.references c.fetch.new.self in
     let n = length c.args.buf.now in
     let queued = c.args.self.now.queued in
     let few : queued < 8 = c.args.self.now.few in
@@ -50,7 +50,7 @@ returns-in-Err-clause-reads g c =
       loses = nothing.loses;
       fetched = nothing.fetched;
       refusals = nothing.refusals;
-      reference_names = nothing.reference_names;
+      references = nothing.references;
       word = ap (λ w. w ++ bits o nothing.bytes) empty ∙ nothing.word;
       below = nothing.below;
     }) c.in-Err.ensures.fetches))

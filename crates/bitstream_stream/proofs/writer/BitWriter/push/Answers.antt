@@ -1,4 +1,5 @@
 use Rattle.std.proofs.Common.{refl, arith}
+use Rattle.bitstream_number.proofs.WordLemmas.{length-word}
 use Rattle.bitstream_stream.proofs.WriterLemmas.{queue_small, pushed_queue, pushed_bytes, pushed_fault, pushes_lost}
 use Rattle.bitstream_stream.proofs.writer.BitWriter.push.Goals as goal
 
@@ -24,7 +25,9 @@ returns-in-Ok-clause-pushes g c =
 
 pub returns-in-Err-clause-pushes : goal.returns-in-Err-clause-pushes
 returns-in-Err-clause-pushes g c =
+    let queue = length-word g.E.Endianness.order c.args.self.now.queued c.args.self.now.queue in
+    let word = length-word g.E.Endianness.order c.args.n (g.U.UnsignedInteger.value c.args.value) in
     pushes_lost _ g.E.Endianness.order _ _ _ _ _ _ c.refuse.ensures.answer c.refuse.ensures.fails
     (pushed_fault _ g.E.Endianness.order c.args.self.now.queued c.args.self.now.queue c.args.n
     (g.U.UnsignedInteger.value c.args.value) _ _ _ _ _ _ _ c.in-Err.ensures.sends c.args.self.now.few (omega arith)
-    refl)
+    (omega (arith, queue, word)) refl)

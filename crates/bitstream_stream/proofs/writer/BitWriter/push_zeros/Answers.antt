@@ -8,7 +8,7 @@ pub loop-left-init : goal.loop-left-init
 loop-left-init g c = (
   0,
   omega arith,
-  appended_none (queue_sink (MayRefuse g.W.Target.contents g.W.Target.refuses)
+  appended_none (queue_sink (MayRefuse g.W.Target.contents g.W.Target.references g.W.Target.refuses)
       g.E.Endianness.order) _ c.requires,
 )
 

@@ -10,7 +10,7 @@ loop-at-init g c = (
   0,
   record {
     within = omega arith;
-    written = appended_none (queue_sink (MayRefuse g.W.Target.contents g.W.Target.refuses) g.E.Endianness.order) _
+    written = appended_none (queue_sink (MayRefuse g.W.Target.contents g.W.Target.references g.W.Target.refuses) g.E.Endianness.order) _
         c.requires.sound;
     queued = refl;
     requests = omega arith;

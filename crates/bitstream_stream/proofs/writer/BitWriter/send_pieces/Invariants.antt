@@ -12,9 +12,9 @@ invariant-loop-at g l =
     let o = g.E.Endianness.order in
     (k : ℕ) × record {
       within : l.at ≤ length l.bytes;
-      written : Appended (queue_sink (MayRefuse g.W.Target.contents g.W.Target.refuses) o)
-          (writer_state g.W.Target.contents g.W.Target.reference_names l.initial.self) (bits o (take l.at l.bytes))
-          (writer_state g.W.Target.contents g.W.Target.reference_names l.self);
+      written : Appended (queue_sink (MayRefuse g.W.Target.contents g.W.Target.references g.W.Target.refuses) o)
+          (writer_state g.W.Target.contents g.W.Target.references l.initial.self) (bits o (take l.at l.bytes))
+          (writer_state g.W.Target.contents g.W.Target.references l.self);
       queued : queued_bits l.self ≡ queued_bits l.initial.self;
       requests : requests_made l.self ≡ requests_made l.initial.self + k;
       reaches : Reaches g.row.N k l.at (length l.bytes);

@@ -1,4 +1,4 @@
-use Rattle.std.proofs.Common.{refl}
+use Rattle.std.proofs.Common.{refl, arith}
 use Rattle.bitstream_stream.proofs.BytesWritten.{sent_bytes, bytes_fault}
 use Rattle.bitstream_stream.proofs.WriterLemmas.{pushes_lost}
 use Rattle.bitstream_stream.proofs.writer.BitWriter.send_shifted.Goals as goal
@@ -13,4 +13,4 @@ returns-in-Err-clause-pushes g c =
     let o = g.E.Endianness.order in
     pushes_lost _ o _ _ _ _ _ _ c.refuse.ensures.answer c.refuse.ensures.fails
     (bytes_fault _ o c.args.self.now.queued c.args.self.now.queue c.args.bytes.now _ _ _ _ _ _ _ c.in-Err.ensures
-    c.args.self.now.few c.requires.some refl)
+    c.args.self.now.few c.requires.some (omega (arith, c.shift-left.ensures.len)) refl)

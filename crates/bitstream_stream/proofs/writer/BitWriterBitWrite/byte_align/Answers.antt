@@ -7,9 +7,9 @@ use Rattle.bitstream_stream.proofs.writer.BitWriterBitWrite.byte_align.Goals as 
 
 pub returns : goal.returns
 returns g c =
-    let may = MayRefuse g.W.Target.contents g.W.Target.refuses in
+    let may = MayRefuse g.W.Target.contents g.W.Target.references g.W.Target.refuses in
     let o = g.E.Endianness.order in
     record {
-      writes = inner (writer_state g.W.Target.contents g.W.Target.reference_names) (queue_sink may o) _ _ _ _
+      writes = inner (writer_state g.W.Target.contents g.W.Target.references) (queue_sink may o) _ _ _ _
           (pushes_align may o _ _ _ _ refl c.args.self.now.few c.if-self.false c.push.ensures.pushes);
     }

@@ -7,6 +7,6 @@ use Rattle.bitstream_stream.proofs.writer.BitWriterBitWrite.write_bit.Goals as g
 pub returns-clause-writes : goal.returns-clause-writes
 returns-clause-writes g c =
     let o = g.E.Endianness.order in
-    inner (writer_state g.W.Target.contents g.W.Target.reference_names)
-    (queue_sink (MayRefuse g.W.Target.contents g.W.Target.refuses) o) _ _ _ _
+    inner (writer_state g.W.Target.contents g.W.Target.references)
+    (queue_sink (MayRefuse g.W.Target.contents g.W.Target.references g.W.Target.refuses) o) _ _ _ _
     (pushes_bit _ o c.args.bit _ _ _ _ c.from.ensures c.if-self.false c.push.ensures.pushes)

@@ -8,19 +8,19 @@ use Rattle.bitstream_stream.proofs.writer.BitWriterBitWrite.write_signed_var.Goa
 
 pub returns-then-self-clause-writes : goal.returns-then-self-clause-writes
 returns-then-self-clause-writes g c =
-    fails (writer_sink g.W.Target.contents g.W.Target.refuses g.W.Target.reference_names g.E.Endianness.order) _ _ _
+    fails (writer_sink g.W.Target.contents g.W.Target.refuses g.W.Target.references g.E.Endianness.order) _ _ _
     c.if-self.true refl
 
 pub returns-in_err-check_signed-clause-writes : goal.returns-in_err-check_signed-clause-writes
 returns-in_err-check_signed-clause-writes g c =
-    refuses (writer_sink g.W.Target.contents g.W.Target.refuses g.W.Target.reference_names g.E.Endianness.order) _ _ _ _
+    refuses (writer_sink g.W.Target.contents g.W.Target.refuses g.W.Target.references g.E.Endianness.order) _ _ _ _
     c.if-self.false (c.in_err-check_signed.ensures.refusal _ _) (exit_is _ c.from_residual.ensures.1)
 
 pub returns-clause-writes : goal.returns-clause-writes
 returns-clause-writes g c =
     let o = g.E.Endianness.order in
-    inner (writer_state g.W.Target.contents g.W.Target.reference_names)
-    (queue_sink (MayRefuse g.W.Target.contents g.W.Target.refuses) o) _ _ _ _
+    inner (writer_state g.W.Target.contents g.W.Target.references)
+    (queue_sink (MayRefuse g.W.Target.contents g.W.Target.references g.W.Target.refuses) o) _ _ _ _
     (pushes_writes _ o _ _ _ _ _ c.if-self.false (c.in_ok-check_signed.ensures.word _ _
     ∙ ap (λ n. Ok (word o c.args.bits n)) (sym c.complement.ensures))
     c.push.ensures.pushes)

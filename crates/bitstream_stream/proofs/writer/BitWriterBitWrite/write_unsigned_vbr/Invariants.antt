@@ -8,11 +8,11 @@ use Rattle.bitstream_stream.proofs.writer.BitWriterBitWrite.write_unsigned_vbr.G
 abbrev pub invariant-loop-group : goal.invariant-loop-group
 invariant-loop-group g l =
     let target = g.W.Target in
-    let state = writer_state target.contents target.reference_names in
+    let state = writer_state target.contents target.references in
     let u = g.U.UnsignedInteger in
     record {
       room : l.bits + g.F.Width.BITS ≤ g.U.Numeric.BITS_SIZE;
-      groups : GroupsGathered (queue_sink (MayRefuse target.contents target.refuses) g.E.Endianness.order)
+      groups : GroupsGathered (queue_sink (MayRefuse target.contents target.references target.refuses) g.E.Endianness.order)
           g.F.Width.BITS (u.value l.fn.value) (state l.fn.self) (u.value l.rest) (state l.self) l.bits (u.value l.word);
     }
 

@@ -1,6 +1,6 @@
 use Rattle.std.proofs.Common.{arith, refl}
 use Rattle.bitstream_stream.proofs.ReaderLemmas.{unsigned-failed, unsigned-refused}
-use Rattle.bitstream_stream.proofs.reader.BitReaderBitRead.read_unsigned_var.Goals as goal
+use Rattle.bitstream_stream.proofs.reader.BitReader.read_word.Goals as goal
 
 pub returns-then-self-clause-reads : goal.returns-then-self-clause-reads
 returns-then-self-clause-reads g c = unsigned-failed _ _ _ _ c.if-self.true

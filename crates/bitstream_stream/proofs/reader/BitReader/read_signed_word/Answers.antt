@@ -1,6 +1,6 @@
 use Rattle.std.proofs.Common.{arith, refl}
 use Rattle.bitstream_stream.proofs.SignedLemmas.{signed-failed, signed-bare, signed-stops, signed-was_done, unsigned-below, unsigned-within, seen_is}
-use Rattle.bitstream_stream.proofs.reader.BitReaderBitRead.read_signed_var.Goals as goal
+use Rattle.bitstream_stream.proofs.reader.BitReader.read_signed_word.Goals as goal
 
 pub returns-then-self-clause-reads : goal.returns-then-self-clause-reads
 returns-then-self-clause-reads g c = signed-failed _ _ _ _ c.if-self.true

@@ -1,0 +1,8 @@
+use Rattle.bitstream_order.proofs.TailLemmas.{tail_part, none_left}
+use Rattle.bitstream_order.proofs.slice.SliceSource.read_front.Goals as goal
+
+pub invariant_of-self-clause-tail : goal.invariant_of-self-clause-tail
+invariant_of-self-clause-tail c = tail_part _ _ _ _ c.args.self.now.tail c.split_at.ensures.back
+
+pub invariant_of-self-clause-ended : goal.invariant_of-self-clause-ended
+invariant_of-self-clause-ended c = λ past. none_left _ _ _ (c.args.self.now.ended past) c.split_at.ensures.back

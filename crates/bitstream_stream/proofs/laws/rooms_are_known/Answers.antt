@@ -1,0 +1,10 @@
+use Rattle.bitstream_order.specs.Refusal.{MayRefuse}
+use Rattle.bitstream_stream.specs.Writer.{writer_state}
+use Rattle.bitstream_stream.proofs.RoomLemmas.{room-all}
+use Rattle.bitstream_stream.proofs.laws.rooms_are_known.Goals as goal
+
+pub returns : goal.returns
+returns g c =
+    let target = g.W.Target in
+    room-all (writer_state target.contents target.references) (MayRefuse target.contents target.references target.refuses)
+    g.E.Endianness.order

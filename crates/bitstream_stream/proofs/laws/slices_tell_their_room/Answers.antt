@@ -1,0 +1,5 @@
+use Rattle.bitstream_order.proofs.SliceMutLemmas.{slice_lacks_room}
+use Rattle.bitstream_stream.proofs.laws.slices_tell_their_room.Goals as goal
+
+pub returns : goal.returns
+returns g c = slice_lacks_room
