@@ -83,6 +83,11 @@ pub fn bytes_of(alloc: Global, text: &str) -> Result<Vec<u8>, Objection> {
     Ok(bytes)
 }
 
+/// Whether hexadecimal digits spell these bytes, as [`bytes_of`] reads them.
+pub fn are_bytes(alloc: Global, want: &str, bytes: &[u8]) -> Result<bool, Objection> {
+    Ok(bytes_of(alloc, want)?.as_slice() == bytes)
+}
+
 fn byte_of(pair: &[u8]) -> Option<u8> {
     match pair {
         [high, low] => Some((digit_of(*high)? << 4) | digit_of(*low)?),

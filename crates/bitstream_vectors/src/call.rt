@@ -30,33 +30,30 @@ impl<'a> Call<'a> {
             return Call::of_calls(name.trim(), calls.trim(), answer.unwrap_or("ok"));
         }
         let words: Vec<&'a str> = call.split_whitespace().collect(alloc)?;
-        let form = form_of(word_at(&words, 0), word_at(&words, 1))?;
-        let (reads, writes) = form.arguments();
-        let (arguments, usual) = match kind {
-            Kind::Read => (reads, None),
-            Kind::Write => (writes, Some("ok")),
+        Call::of_words(kind, words.as_slice(), answer)
+    }
+
+    /// The call that words spell, with its answer. A write call that has none is accepted.
+    fn of_words(
+        kind: Kind,
+        words: &[&'a str],
+        answer: Option<&'a str>,
+    ) -> Result<Call<'a>, Objection> {
+        let form = form_of(word_at(words, 0), word_at(words, 1))?;
+        let (bits, value) = bits_and_value(form, kind, words)?;
+        let usual = match kind {
+            Kind::Read => None,
+            Kind::Write => Some("ok"),
         };
-        let Some(answer) = answer.or(usual) else {
-            return Err(Objection::BAD_FORM);
-        };
-        if words.len() != arguments.saturating_add(1) {
-            return Err(Objection::BAD_FORM);
+        match answer.or(usual) {
+            Some(answer) => Ok(Call {
+                form,
+                bits,
+                value,
+                answer,
+            }),
+            None => Err(Objection::BAD_FORM),
         }
-        let (bits, value) = match (form, kind) {
-            (Form::Bytes | Form::Bit | Form::Unary(_), Kind::Write) => (0, word_at(&words, 1)),
-            (Form::Whole(_, _), _) => (0, word_at(&words, 2)),
-            (Form::Seek(_) | Form::Cursor, _) => (0, word_at(&words, 1)),
-            (Form::Variable(_, _, _) | Form::VariablePair(_), _) => (0, word_at(&words, 2)),
-            (Form::Prefix(_) | Form::Limited(_, _), _) => (0, word_at(&words, 2)),
-            _ if arguments == 0 => (0, ""),
-            _ => (number(word_at(&words, 1))?, word_at(&words, 2)),
-        };
-        Ok(Call {
-            form,
-            bits,
-            value,
-            answer,
-        })
     }
 
     /// The call of this name that is given calls, which end with a bracket.
@@ -172,6 +169,26 @@ fn is_among(symbols: &[&'static str], text: &str) -> bool {
     found
 }
 
+/// The number of bits and the value of a call of this form that words spell.
+fn bits_and_value<'a>(
+    form: Form,
+    kind: Kind,
+    words: &[&'a str],
+) -> Result<(u32, &'a str), Objection> {
+    let (reads, writes) = form.arguments();
+    let arguments = match kind {
+        Kind::Read => reads,
+        Kind::Write => writes,
+    };
+    if words.len() != arguments.saturating_add(1) {
+        return Err(Objection::BAD_FORM);
+    }
+    match form.place_of_value(kind) {
+        Some(place) => Ok((0, word_at(words, place))),
+        None => Ok((number(word_at(words, 1))?, word_at(words, 2))),
+    }
+}
+
 /// A word of a call, or none.
 fn word_at<'a>(words: &[&'a str], at: usize) -> &'a str {
     words.get(at).copied().unwrap_or("")
@@ -182,5 +199,14 @@ pub fn number<T: FromStr<Err = ParseIntError>>(text: &str) -> Result<T, Objectio
     match text.parse() {
         Ok(number) => Ok(number),
         Err(_) => Err(Objection::BAD_FORM),
+    }
+}
+
+/// The value that a text spells, or none where it spells 0.
+pub fn optional<N: FromStr<Err = ParseIntError>>(text: &str) -> Result<Option<N>, Objection> {
+    if text == "0" {
+        Ok(None)
+    } else {
+        Ok(Some(number(text)?))
     }
 }

@@ -4,8 +4,8 @@ use crate::call::number;
 use crate::form::{Number, Size};
 use crate::objection::Objection;
 use bitstream_io::{
-    BitCount, BitRead, BitReadExt, BitWrite, BitWriteExt, CheckedSigned, CheckedUnsigned, Error,
-    SignedInteger, UnsignedInteger,
+    BitCount, BitRead, BitReadExt, BitWrite, BitWriteExt, Checkable, Checked, CheckedError,
+    CheckedSigned, CheckedUnsigned, Error, Holds, SignedInteger, UnsignedInteger,
 };
 use std::num::ParseIntError;
 use std::str::FromStr;
@@ -13,26 +13,32 @@ use std::str::FromStr;
 /// The greatest number of a count.
 const MOST: u32 = u32::MAX;
 
+/// Whether a text is what a call answered: the number of a checked value, or the name of the error.
+fn is_checked<C: Holds<T> + Copy, T>(want: &str, answer: Result<Checked<C, T>, Error>) -> bool
+where
+    T: Copy + FromStr<Err = ParseIntError> + PartialEq + Drop,
+{
+    match answer {
+        Ok(checked) => is_number(want, Ok(checked.into_value())),
+        Err(error) => want == error_name(&error),
+    }
+}
+
 fn read_unsigned<U, R: BitRead>(reader: &mut R, bits: u32, want: &str) -> bool
 where
     U: UnsignedInteger + FromStr<Err = ParseIntError> + PartialEq,
 {
-    match reader.read_checked::<CheckedUnsigned<MOST, U>>(BitCount::unknown(bits)) {
-        Ok(checked) => is_number(want, Ok(checked.into_value())),
-        Err(error) => want == error_name(&error),
-    }
+    let count = BitCount::unknown(bits);
+    is_checked(want, reader.read_checked::<CheckedUnsigned<MOST, U>>(count))
 }
 
 fn read_signed<S, R: BitRead>(reader: &mut R, bits: u32, want: &str) -> bool
 where
     S: SignedInteger + FromStr<Err = ParseIntError> + PartialEq,
 {
-    let Some(count) = BitCount::unknown(bits).signed_count() else {
-        return want == error_name(&Error::NoSignBit);
-    };
-    match reader.read_checked::<CheckedSigned<MOST, S>>(count) {
-        Ok(checked) => is_number(want, Ok(checked.into_value())),
-        Err(error) => want == error_name(&error),
+    match BitCount::unknown(bits).signed_count() {
+        Some(count) => is_checked(want, reader.read_checked::<CheckedSigned<MOST, S>>(count)),
+        None => want == error_name(&Error::NoSignBit),
     }
 }
 
@@ -44,17 +50,24 @@ pub fn read_checked<R: BitRead>(reader: &mut R, number: Number, bits: u32, want:
     }
 }
 
+/// Writes a checked value, if there is one.
+fn write_made<C: Checkable, W: BitWrite>(
+    writer: &mut W,
+    made: Result<C, CheckedError>,
+) -> Result<(), Error> {
+    match made {
+        Ok(checked) => writer.write_checked(checked),
+        Err(error) => Err(Error::from(error)),
+    }
+}
+
 fn write_unsigned<U: UnsignedInteger + FromStr<Err = ParseIntError>, W: BitWrite>(
     writer: &mut W,
     bits: u32,
     value: &str,
 ) -> Answer {
-    Ok(
-        match CheckedUnsigned::<MOST, U>::new(BitCount::unknown(bits), number(value)?) {
-            Ok(checked) => writer.write_checked(checked),
-            Err(error) => Err(Error::from(error)),
-        },
-    )
+    let made = CheckedUnsigned::<MOST, U>::new(BitCount::unknown(bits), number(value)?);
+    Ok(write_made(writer, made))
 }
 
 fn write_signed<S: SignedInteger + FromStr<Err = ParseIntError>, W: BitWrite>(
@@ -62,13 +75,10 @@ fn write_signed<S: SignedInteger + FromStr<Err = ParseIntError>, W: BitWrite>(
     bits: u32,
     value: &str,
 ) -> Answer {
-    let Some(count) = BitCount::unknown(bits).signed_count() else {
-        return Ok(Err(Error::NoSignBit));
-    };
-    Ok(match CheckedSigned::<MOST, S>::new(count, number(value)?) {
-        Ok(checked) => writer.write_checked(checked),
-        Err(error) => Err(Error::from(error)),
-    })
+    match BitCount::unknown(bits).signed_count() {
+        Some(count) => Ok(write_made(writer, CheckedSigned::<MOST, S>::new(count, number(value)?))),
+        None => Ok(Err(Error::NoSignBit)),
+    }
 }
 
 /// Writes a number as a checked value, if it is one.

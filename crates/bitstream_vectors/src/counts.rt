@@ -2,7 +2,7 @@
 use crate::call::{Call, number};
 use crate::objection::{Difference, Objection, agrees};
 use crate::row::{Kind, calls_of};
-use crate::sinks::sink_call;
+use crate::sinks::call_three;
 use crate::trio::Trio;
 use bitstream_io::write::Counter;
 use bitstream_io::{BE, BitCounter, BitsWritten, LE};
@@ -20,10 +20,8 @@ where
     let (high, low) = (BitCounter::<N, BE>::new(), BitCounter::<N, LE>::new());
     let mut counters = Trio::new(BitsWritten::<N>::new(), high, low);
     for call in calls {
-        let same = sink_call(alloc, &mut counters, call, call.answer)?;
-        agrees(same, Difference::Answer)?;
+        call_three(alloc, &mut counters, call)?;
     }
-    agrees(counters.agree, Difference::Beside)?;
     let first = u128::from(counters.first.written());
     let high = u128::from(counters.second.written());
     let low = u128::from(counters.third.written());

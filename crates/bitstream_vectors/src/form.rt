@@ -1,6 +1,6 @@
 //! The forms of calls, as rows spell them.
 use crate::objection::Objection;
-use crate::row::Order;
+use crate::row::{Kind, Order};
 
 /// The number of bits of a type.
 #[derive(Clone, Copy, Drop)]
@@ -144,6 +144,18 @@ impl Form {
             _ => (1, 2),
         }
     }
+
+    /// At which word a call's value stands, if it has no number of bits.
+    pub fn place_of_value(self, kind: Kind) -> Option<usize> {
+        match (self, kind) {
+            (Form::Bytes, Kind::Write) => Some(1),
+            (Form::Align | Form::Aligned | Form::Bit | Form::Clear | Form::Unary(_), _) => Some(1),
+            (Form::Cursor | Form::Place | Form::PlaceIs(_) | Form::Seek(_), _) => Some(1),
+            (Form::Limited(_, _) | Form::Prefix(_) | Form::Whole(_, _), _) => Some(2),
+            (Form::Variable(_, _, _) | Form::VariablePair(_), _) => Some(2),
+            _ => None,
+        }
+    }
 }
 
 /// The form that a name spells, of a primitive with the word behind it.
@@ -285,15 +297,26 @@ fn symbol_form(name: &str, next: &str) -> Option<Form> {
 
 /// The form of a call whose name ends with a type.
 fn number_form(name: &str) -> Option<Form> {
-    if let Some(number) = name.strip_prefix("checked-") {
-        number_of(number).map(Form::Checked)
-    } else if let Some(number) = name.strip_prefix("counted-") {
-        number_of(number).map(Form::Counted)
-    } else if let Some(number) = name.strip_prefix("fixed-") {
-        number_of(number).map(Form::Fixed)
-    } else if let Some(number) = name.strip_prefix("word-") {
-        number_of(number).map(Form::Word)
-    } else if let Some(size) = name.strip_prefix("nonzero") {
+    match name.split_once('-') {
+        Some((call, number)) => word_form(call, number_of(number)?),
+        None => value_form(name),
+    }
+}
+
+/// The form of a call of a name for a number that is no plain value.
+fn word_form(call: &str, number: Number) -> Option<Form> {
+    match call {
+        "checked" => Some(Form::Checked(number)),
+        "counted" => Some(Form::Counted(number)),
+        "fixed" => Some(Form::Fixed(number)),
+        "word" => Some(Form::Word(number)),
+        _ => None,
+    }
+}
+
+/// The form of a call for a value of the type that a name spells.
+fn value_form(name: &str) -> Option<Form> {
+    if let Some(size) = name.strip_prefix("nonzero") {
         size_of(size).map(Form::NonZero)
     } else if let Some(size) = name.strip_prefix("optional") {
         size_of(size).map(Form::Optional)

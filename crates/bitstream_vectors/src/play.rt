@@ -14,7 +14,7 @@ use bitstream_io::{
     Endianness, Error, LE, SeekSource, Slice, Source, Target,
 };
 use std::alloc::Global;
-use std::io::{ErrorKind, SeekFrom};
+use std::io::{ErrorKind, Read, Seek, SeekFrom, Write};
 use test_streams::{Count, Drip, Refuse};
 
 /// A request that a stream refuses, as each later one.
@@ -81,6 +81,11 @@ impl Way {
             Way::Refused(fault) if fault.call < at => fault.later_answer(row, call),
             _ => call.answer,
         }
+    }
+
+    /// Whether the stream refuses requests.
+    fn refuses(self) -> bool {
+        matches!(self, Way::Refused(_))
     }
 
     /// What differs where an answer does.
@@ -186,6 +191,20 @@ fn stream_of<S>(inner: S, way: Way) -> Count<Refuse<Drip<S>>> {
     }
 }
 
+/// Makes read calls on a stream, by a reader of the row's layer.
+fn read_stream<R: Read + Seek, E: Endianness + Drop>(
+    alloc: Global,
+    stream: &mut R,
+    row: &Row<'_>,
+    calls: &[Call<'_>],
+    way: Way,
+) -> Result<(), Objection> {
+    match row.layer {
+        Layer::Bits => make_calls(alloc, &mut BitReader::<_, E>::new(stream), row, calls, way),
+        Layer::Bytes => make_calls(alloc, &mut ByteReader::<_, E>::new(stream), row, calls, way),
+    }
+}
+
 /// Makes read calls on a row's bytes.
 fn read_bytes<E: Endianness + Drop>(
     alloc: Global,
@@ -199,16 +218,7 @@ fn read_bytes<E: Endianness + Drop>(
         _ => Memory::cursor(bytes, calls)?,
     };
     let mut stream = stream_of(&mut memory, way);
-    match row.layer {
-        Layer::Bits => {
-            let mut reader = BitReader::<_, E>::new(&mut stream);
-            make_calls(alloc, &mut reader, row, calls, way)?;
-        }
-        Layer::Bytes => {
-            let mut reader = ByteReader::<_, E>::new(&mut stream);
-            make_calls(alloc, &mut reader, row, calls, way)?;
-        }
-    }
+    read_stream::<_, E>(alloc, &mut stream, row, calls, way)?;
     let (requests, refused) = (stream.requests, stream.refused);
     Ok(Moved {
         requests,
@@ -217,22 +227,50 @@ fn read_bytes<E: Endianness + Drop>(
     })
 }
 
-/// Objects where a counter and a recorder do not hold the bits that were written, of which these are
-/// the whole bytes.
-fn hold_bits<E: Endianness>(
-    alloc: Global,
-    counter: &BitsWritten<u32>,
-    recorder: &Recorder<E>,
-    written: &[u8],
-) -> Result<(), Objection> {
-    let bits = counter.written();
-    let recorded = matches!(recorder.written_checked(), Ok(recorded) if recorded == bits);
-    let mut played: Vec<u8> = Vec::new(alloc);
-    let mut writer = BitWriter::<_, E>::new(&mut played);
-    let answer = recorder.playback(&mut writer);
-    let same = is_done("ok", &answer) && played.as_slice() == written;
-    let counted = (bits / 8) as usize == written.len();
-    agrees(recorded && same && counted, Difference::Beside)
+/// A counter and a recorder, to which is written what a writer of bits writes.
+#[derive(Drop)]
+struct Beside<E: Endianness> {
+    counter: BitsWritten<u32>,
+    recorder: Recorder<E>,
+}
+
+impl<E: Endianness> Beside<E> {
+    /// A new counter and a new recorder.
+    fn new(alloc: Global) -> Beside<E> {
+        Beside {
+            counter: BitsWritten::new(),
+            recorder: BitRecorder::new(alloc),
+        }
+    }
+
+    /// Makes write calls on a writer of bits over a stream, and on the two.
+    fn write<W: Write>(
+        &mut self,
+        alloc: Global,
+        stream: &mut W,
+        row: &Row<'_>,
+        calls: &[Call<'_>],
+        way: Way,
+    ) -> Result<(), Objection> {
+        let writer = BitWriter::<_, E>::new(stream);
+        let mut sinks = Trio::new(writer, &mut self.counter, &mut self.recorder);
+        make_calls(alloc, &mut sinks, row, calls, way)?;
+        agrees(sinks.agree || way.refuses(), Difference::Beside)
+    }
+
+    /// Objects where the two do not hold the bits that were written, of which these are the whole
+    /// bytes.
+    fn hold(&self, alloc: Global, written: &[u8]) -> Result<(), Objection> {
+        let bits = self.counter.written();
+        let recorded = matches!(self.recorder.written_checked(), Ok(recorded) if recorded == bits);
+        let mut played: Vec<u8> = Vec::new(alloc);
+        let answer = self
+            .recorder
+            .playback(&mut BitWriter::<_, E>::new(&mut played));
+        let same = is_done("ok", &answer) && played.as_slice() == written;
+        let counted = (bits / 8) as usize == written.len();
+        agrees(recorded && same && counted, Difference::Beside)
+    }
 }
 
 /// Makes write calls on a writer of bits, on a counter and on a recorder. Gives how many requests they
@@ -244,16 +282,12 @@ fn write_beside<E: Endianness + Drop>(
     calls: &[Call<'_>],
     way: Way,
 ) -> Result<(u64, u64), Objection> {
+    let mut beside = Beside::<E>::new(alloc);
     let mut stream = stream_of(&mut *written, way);
-    let (mut counter, mut recorder) = (BitsWritten::<u32>::new(), Recorder::<E>::new(alloc));
-    let writer = BitWriter::<_, E>::new(&mut stream);
-    let mut sink = Trio::new(writer, &mut counter, &mut recorder);
-    make_calls(alloc, &mut sink, row, calls, way)?;
-    let agree = sink.agree;
+    beside.write(alloc, &mut stream, row, calls, way)?;
     let moved = (stream.requests, stream.refused);
-    if !matches!(way, Way::Refused(_)) {
-        agrees(agree, Difference::Beside)?;
-        hold_bits(alloc, &counter, &recorder, written.as_slice())?;
+    if !way.refuses() {
+        beside.hold(alloc, written.as_slice())?;
     }
     Ok(moved)
 }

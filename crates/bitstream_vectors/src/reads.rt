@@ -1,7 +1,7 @@
 //! Read calls of the rows.
 ghost use Rattle.std.specs.Prelude.{◌≡◌, ◌≤◌, ◌<◌, ◌^◌, ◌⊎◌};
 
-use crate::answer::{bytes_of, error_name, is_number, is_optional};
+use crate::answer::{are_bytes, error_name, is_number, is_optional};
 use crate::call::{Call, number};
 use crate::checked::read_checked;
 use crate::fixed::read_fixed;
@@ -23,33 +23,71 @@ pub fn read_call<R: BitRead + WholeRead>(
     call: &Call<'_>,
     want: &str,
 ) -> Result<bool, Objection> {
-    let bits = call.bits;
     match call.form {
-        Form::Align => {
-            reader.byte_align();
-            Ok(want == "ok")
+        Form::Array(items) => read_array(alloc, reader, items, call.bits, want),
+        Form::Bytes | Form::Skip | Form::Vector | Form::Whole(_, _) => {
+            read_whole(alloc, reader, call, want)
         }
-        Form::Aligned => Ok(want == if reader.byte_aligned() { "yes" } else { "no" }),
-        Form::Array(items) => read_array(alloc, reader, items, bits, want),
-        Form::Bit => Ok(is_truth(want, reader.read_bit())),
-        Form::Bool => Ok(is_truth(want, reader.read_var::<bool>(bits))),
+        Form::Const => read_const(reader, call.bits, number(call.value)?, want),
+        Form::Limited(stop, most) => read_limited(reader, stop, most, want),
+        Form::Prefix(tree) => read_symbol(alloc, reader, tree, want),
+        Form::Variable(value, size, field) => read_variable(reader, value, size, field, want),
+        Form::VariablePair(field) => read_variable_pair(reader, field, want),
+        form => read_in_bits(reader, form, call.bits, want),
+    }
+}
+
+/// Makes a call that reads a number or a truth in the given number of bits, or digits, or that asks
+/// or moves to the end of a byte.
+fn read_in_bits<R: BitRead>(
+    reader: &mut R,
+    form: Form,
+    bits: u32,
+    want: &str,
+) -> Result<bool, Objection> {
+    match form {
+        Form::Align => Ok(align(reader, want)),
+        Form::Aligned => Ok(is_aligned(reader, want)),
+        Form::Bit => Ok(read_bit(reader, want)),
+        Form::Bool => Ok(read_bool(reader, bits, want)),
         Form::Checked(number) => Ok(read_checked(reader, number, bits, want)),
-        Form::Const => read_const(reader, bits, number(call.value)?, want),
         Form::Count => read_count(reader, bits, want),
         Form::Counted(number) => read_counted(reader, number, bits, want),
         Form::Fixed(number) => read_fixed(reader, number, bits, want),
-        Form::Limited(stop, most) => read_limited(reader, stop, most, want),
         Form::NonZero(size) => Ok(read_non_zero(reader, size, bits, want)),
         Form::Optional(size) => Ok(read_optional(reader, size, bits, want)),
-        Form::Prefix(tree) => read_symbol(alloc, reader, tree, want),
-        Form::Unary(false) => Ok(is_number(want, reader.read_unary::<Bits<0>>())),
-        Form::Unary(true) => Ok(is_number(want, reader.read_unary::<Bits<1>>())),
+        Form::Unary(false) => Ok(read_unary::<Bits<0>, R>(reader, want)),
+        Form::Unary(true) => Ok(read_unary::<Bits<1>, R>(reader, want)),
         Form::Value(number) => Ok(read_number(reader, number, bits, want)),
-        Form::Variable(value, size, field) => read_variable(reader, value, size, field, want),
-        Form::VariablePair(field) => read_variable_pair(reader, field, want),
         Form::Word(number) => read_word(reader, number, bits, want),
-        _ => read_whole(alloc, reader, call, want),
+        _ => Err(Objection::BAD_FORM),
     }
+}
+
+/// Moves to the end of a byte, which is always done.
+fn align<R: BitRead>(reader: &mut R, want: &str) -> bool {
+    reader.byte_align();
+    want == "ok"
+}
+
+/// Whether a text is what a reader answers that is asked if it stands at the end of a byte.
+fn is_aligned<R: BitRead>(reader: &R, want: &str) -> bool {
+    want == if reader.byte_aligned() { "yes" } else { "no" }
+}
+
+fn read_bit<R: BitRead>(reader: &mut R, want: &str) -> bool {
+    is_truth(want, reader.read_bit())
+}
+
+fn read_bool<R: BitRead>(reader: &mut R, bits: u32, want: &str) -> bool {
+    is_truth(want, reader.read_var::<bool>(bits))
+}
+
+/// Reads digits up to the stop digit that S says.
+fn read_unary<S: Width, R: BitRead>(reader: &mut R, want: &str) -> bool
+    requires { S.BITS < 2 }
+{
+    is_number(want, reader.read_unary::<S>())
 }
 
 /// Whether a text is what a call answered: a binary digit, or the name of the error.
@@ -149,19 +187,34 @@ fn read_array<R: BitRead>(
     want: &str,
 ) -> Result<bool, Objection> {
     match items {
-        Items::Bytes => match reader.read_var::<[u8; 4]>(bits) {
-            Ok(bytes) => Ok(bytes_of(alloc, want)?.as_slice() == bytes.as_slice()),
-            Err(error) => Ok(want == error_name(&error)),
-        },
-        Items::None => match reader.read_var::<[u8; 0]>(bits) {
-            Ok(_) => Ok(want == "-"),
-            Err(error) => Ok(want == error_name(&error)),
-        },
+        Items::Bytes => are_four(alloc, want, reader.read_var::<[u8; 4]>(bits)),
+        Items::None => Ok(is_empty(want, reader.read_var::<[u8; 0]>(bits))),
         Items::Signed => is_pair(want, reader.read_var::<[i8; 2]>(bits)),
-        Items::Truths => match reader.read_var::<[bool; 4]>(bits) {
-            Ok(truths) => Ok(truths_of(want)? == truths),
-            Err(error) => Ok(want == error_name(&error)),
-        },
+        Items::Truths => are_truths(want, reader.read_var::<[bool; 4]>(bits)),
+    }
+}
+
+/// Whether a text is what a call answered: four bytes, or the name of the error.
+fn are_four(alloc: Global, want: &str, answer: Result<[u8; 4], Error>) -> Result<bool, Objection> {
+    match answer {
+        Ok(bytes) => are_bytes(alloc, want, bytes.as_slice()),
+        Err(error) => Ok(want == error_name(&error)),
+    }
+}
+
+/// Whether a text is what a call answered: `-` for no item, or the name of the error.
+fn is_empty(want: &str, answer: Result<[u8; 0], Error>) -> bool {
+    match answer {
+        Ok(_) => want == "-",
+        Err(error) => want == error_name(&error),
+    }
+}
+
+/// Whether a text is what a call answered: four truths, or the name of the error.
+fn are_truths(want: &str, answer: Result<[bool; 4], Error>) -> Result<bool, Objection> {
+    match answer {
+        Ok(truths) => Ok(truths_of(want)? == truths),
+        Err(error) => Ok(want == error_name(&error)),
     }
 }
 

@@ -4,7 +4,7 @@ use crate::call::{Call, number};
 use crate::form::Form;
 use crate::objection::{Difference, Objection, agrees};
 use crate::row::{Kind, Order, calls_of, order_of};
-use crate::sinks::{Recorder, beside_counters, give, sink_call};
+use crate::sinks::{Recorder, call_recorder, give};
 use bitstream_io::{BE, BitRecorder, BitWrite, BitWriter, Endianness, Error, LE};
 use std::alloc::Global;
 
@@ -19,6 +19,16 @@ struct Played {
     behind: (u32, u8),
 }
 
+/// The best of a recorder and a new one that is given calls.
+fn best_of<E: Endianness + Drop>(
+    alloc: Global,
+    recorder: Recorder<E>,
+    calls: &str,
+) -> Result<Recorder<E>, Objection> {
+    let mut candidate: Recorder<E> = BitRecorder::new(alloc);
+    recorder.best(&mut candidate, |candidate| give(alloc, candidate, calls))
+}
+
 /// Makes a call on a recorder, which is another one if it is `best`.
 fn record_call<E: Endianness + Drop>(
     alloc: Global,
@@ -26,34 +36,31 @@ fn record_call<E: Endianness + Drop>(
     call: &Call<'_>,
 ) -> Result<Recorder<E>, Objection> {
     match call.form {
+        Form::Best => return best_of(alloc, recorder, call.value),
         Form::Clear => recorder.clear(),
-        Form::Best => {
-            let mut candidate: Recorder<E> = BitRecorder::new(alloc);
-            return recorder.best(
-                &mut candidate,
-                |candidate| give(alloc, candidate, call.value),
-            );
-        }
-        _ => {
-            let mut sink = beside_counters(&mut recorder);
-            let same = sink_call(alloc, &mut sink, call, call.answer)?;
-            agrees(same, Difference::Answer)?;
-            agrees(sink.agree, Difference::Beside)?;
-        }
+        _ => call_recorder(alloc, &mut recorder, call)?,
     }
     Ok(recorder)
 }
 
 /// Plays a recorder to a writer behind some bits, and aligns it.
-fn play_behind<E: Endianness, F: Endianness>(
+fn play_behind<E: Endianness, W: BitWrite>(
+    recorder: &Recorder<E>,
+    writer: &mut W,
+    behind: (u32, u8),
+) -> Result<(), Error> {
+    writer.write_unsigned_var(behind.0, behind.1)?;
+    recorder.playback(writer)?;
+    writer.byte_align()
+}
+
+/// Plays a recorder to a new writer of an order, as [`play_behind`].
+fn play_to<E: Endianness, F: Endianness>(
     recorder: &Recorder<E>,
     written: &mut Vec<u8>,
     behind: (u32, u8),
 ) -> Result<(), Error> {
-    let mut writer = BitWriter::<_, F>::new(written);
-    writer.write_unsigned_var(behind.0, behind.1)?;
-    recorder.playback(&mut writer)?;
-    writer.byte_align()
+    play_behind(recorder, &mut BitWriter::<_, F>::new(written), behind)
 }
 
 /// Makes calls on a new recorder, and plays it.
@@ -71,8 +78,8 @@ fn record_in<E: Endianness + Drop>(
     agrees(recorded, Difference::Length)?;
     let mut written = Vec::new(alloc);
     let answer = match played.to {
-        Order::Big => play_behind::<E, BE>(&recorder, &mut written, played.behind),
-        Order::Little => play_behind::<E, LE>(&recorder, &mut written, played.behind),
+        Order::Big => play_to::<E, BE>(&recorder, &mut written, played.behind),
+        Order::Little => play_to::<E, LE>(&recorder, &mut written, played.behind),
     };
     agrees(is_done("ok", &answer), Difference::Answer)?;
     agrees(written.as_slice() == bytes, Difference::Bytes)

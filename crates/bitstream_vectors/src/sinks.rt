@@ -14,11 +14,39 @@ use std::alloc::Global;
 pub type Recorder<E> = BitRecorder<u32, E, Global>;
 
 /// A recorder, and beside it counters.
-pub type Recording<'a, E> = Trio<&'a mut Recorder<E>, BitsWritten<u32>, BitCounter<u32, E>>;
+type Recording<'a, E> = Trio<&'a mut Recorder<E>, BitsWritten<u32>, BitCounter<u32, E>>;
 
 /// A recorder, and beside it new counters.
-pub fn beside_counters<E: Endianness>(recorder: &mut Recorder<E>) -> Recording<'_, E> {
+fn beside_counters<E: Endianness>(recorder: &mut Recorder<E>) -> Recording<'_, E> {
     Trio::new(recorder, BitsWritten::new(), BitCounter::new())
+}
+
+/// Makes a call on three sinks. Objects where it answers otherwise, or where the sinks differ.
+pub fn call_three<P: BitWrite, Q: BitWrite, R: BitWrite>(
+    alloc: Global,
+    sinks: &mut Trio<P, Q, R>,
+    call: &Call<'_>,
+) -> Result<(), Objection> {
+    let same = sink_call(alloc, sinks, call, call.answer)?;
+    agrees(same, Difference::Answer)?;
+    agrees(sinks.agree, Difference::Beside)
+}
+
+/// Gives calls, with a stroke between them, to three sinks, whatever they answer. Objects where the
+/// sinks differ.
+fn give_three<P: BitWrite, Q: BitWrite, R: BitWrite>(
+    alloc: Global,
+    sinks: &mut Trio<P, Q, R>,
+    calls: &str,
+) -> Result<(), Objection> {
+    if calls.trim().is_empty() {
+        return Ok(());
+    }
+    for spelled in calls.split('|') {
+        let call = Call::parse(alloc, Kind::Write, spelled)?;
+        write_call(alloc, sinks, &call, call.answer)?;
+    }
+    agrees(sinks.agree, Difference::Beside)
 }
 
 /// Gives calls, with a stroke between them, to a recorder, whatever they answer.
@@ -27,15 +55,16 @@ pub fn give<E: Endianness>(
     recorder: &mut Recorder<E>,
     calls: &str,
 ) -> Result<(), Objection> {
-    if calls.trim().is_empty() {
-        return Ok(());
-    }
-    let mut sink = beside_counters(recorder);
-    for spelled in calls.split('|') {
-        let call = Call::parse(alloc, Kind::Write, spelled)?;
-        write_call(alloc, &mut sink, &call, call.answer)?;
-    }
-    agrees(sink.agree, Difference::Beside)
+    give_three(alloc, &mut beside_counters(recorder), calls)
+}
+
+/// Makes a call on a recorder, and objects where it answers otherwise.
+pub fn call_recorder<E: Endianness>(
+    alloc: Global,
+    recorder: &mut Recorder<E>,
+    call: &Call<'_>,
+) -> Result<(), Objection> {
+    call_three(alloc, &mut beside_counters(recorder), call)
 }
 
 /// Gives calls to a new recorder, and plays it.

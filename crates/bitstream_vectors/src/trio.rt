@@ -40,8 +40,12 @@ fn is_same(first: &Result<(), Error>, other: &Result<(), Error>) -> bool {
 }
 
 /// Notes whether others answered as the first did.
-pub fn note(agree: &mut bool, first: &Result<(), Error>, others: [Result<(), Error>; 2]) {
-    let [second, third] = others;
+pub fn note(
+    agree: &mut bool,
+    first: &Result<(), Error>,
+    second: Result<(), Error>,
+    third: Result<(), Error>,
+) {
     *agree = *agree && is_same(first, &second) && is_same(first, &third);
 }
 
@@ -55,11 +59,9 @@ impl<P: BitWrite, Q: BitWrite, R: BitWrite> BitWrite for Trio<P, Q, R> {
         value: U,
     ) -> Result<(), Error> {
         let answer = self.first.write_unsigned_counted(count, value);
-        let others = [
-            self.second.write_unsigned_counted(count, value),
-            self.third.write_unsigned_counted(count, value),
-        ];
-        note(&mut self.agree, &answer, others);
+        let second = self.second.write_unsigned_counted(count, value);
+        let third = self.third.write_unsigned_counted(count, value);
+        note(&mut self.agree, &answer, second, third);
         answer
     }
 
@@ -70,11 +72,9 @@ impl<P: BitWrite, Q: BitWrite, R: BitWrite> BitWrite for Trio<P, Q, R> {
         value: S,
     ) -> Result<(), Error> {
         let answer = self.first.write_signed_counted(count, value);
-        let others = [
-            self.second.write_signed_counted(count, value),
-            self.third.write_signed_counted(count, value),
-        ];
-        note(&mut self.agree, &answer, others);
+        let second = self.second.write_signed_counted(count, value);
+        let third = self.third.write_signed_counted(count, value);
+        note(&mut self.agree, &answer, second, third);
         answer
     }
 
@@ -97,134 +97,117 @@ impl<P: BitWrite, Q: BitWrite, R: BitWrite> BitWrite for Trio<P, Q, R> {
     #[inline(never)]
     fn write_unsigned_var<U: UnsignedInteger>(&mut self, bits: u32, value: U) -> Result<(), Error> {
         let answer = self.first.write_unsigned_var(bits, value);
-        let others = [
-            self.second.write_unsigned_var(bits, value),
-            self.third.write_unsigned_var(bits, value),
-        ];
-        note(&mut self.agree, &answer, others);
+        let second = self.second.write_unsigned_var(bits, value);
+        let third = self.third.write_unsigned_var(bits, value);
+        note(&mut self.agree, &answer, second, third);
         answer
     }
 
     #[inline(never)]
     fn write_unsigned<B: Width, U: UnsignedInteger>(&mut self, value: U) -> Result<(), Error> {
         let answer = self.first.write_unsigned::<B, U>(value);
-        let others = [
-            self.second.write_unsigned::<B, U>(value),
-            self.third.write_unsigned::<B, U>(value),
-        ];
-        note(&mut self.agree, &answer, others);
+        let second = self.second.write_unsigned::<B, U>(value);
+        let third = self.third.write_unsigned::<B, U>(value);
+        note(&mut self.agree, &answer, second, third);
         answer
     }
 
     #[inline(never)]
     fn write_signed_var<S: SignedInteger>(&mut self, bits: u32, value: S) -> Result<(), Error> {
         let answer = self.first.write_signed_var(bits, value);
-        let others = [
-            self.second.write_signed_var(bits, value),
-            self.third.write_signed_var(bits, value),
-        ];
-        note(&mut self.agree, &answer, others);
+        let second = self.second.write_signed_var(bits, value);
+        let third = self.third.write_signed_var(bits, value);
+        note(&mut self.agree, &answer, second, third);
         answer
     }
 
     #[inline(never)]
     fn write_signed<B: Width, S: SignedInteger>(&mut self, value: S) -> Result<(), Error> {
         let answer = self.first.write_signed::<B, S>(value);
-        let others = [
-            self.second.write_signed::<B, S>(value),
-            self.third.write_signed::<B, S>(value),
-        ];
-        note(&mut self.agree, &answer, others);
+        let second = self.second.write_signed::<B, S>(value);
+        let third = self.third.write_signed::<B, S>(value);
+        note(&mut self.agree, &answer, second, third);
         answer
     }
 
     #[inline(never)]
     fn write_const<B: Width, V: Width>(&mut self) -> Result<(), Error> {
         let answer = self.first.write_const::<B, V>();
-        let others = [
-            self.second.write_const::<B, V>(),
-            self.third.write_const::<B, V>(),
-        ];
-        note(&mut self.agree, &answer, others);
+        let second = self.second.write_const::<B, V>();
+        let third = self.third.write_const::<B, V>();
+        note(&mut self.agree, &answer, second, third);
         answer
     }
 
     #[inline(never)]
     fn write_unary<S: Width>(&mut self, value: u32) -> Result<(), Error> {
         let answer = self.first.write_unary::<S>(value);
-        let others = [
-            self.second.write_unary::<S>(value),
-            self.third.write_unary::<S>(value),
-        ];
-        note(&mut self.agree, &answer, others);
+        let second = self.second.write_unary::<S>(value);
+        let third = self.third.write_unary::<S>(value);
+        note(&mut self.agree, &answer, second, third);
         answer
     }
 
     #[inline(never)]
     fn write_count<C: Count>(&mut self, count: C) -> Result<(), Error> {
         let answer = self.first.write_count(count);
-        let others = [
-            self.second.write_count(count),
-            self.third.write_count(count),
-        ];
-        note(&mut self.agree, &answer, others);
+        let second = self.second.write_count(count);
+        let third = self.third.write_count(count);
+        note(&mut self.agree, &answer, second, third);
         answer
     }
 
     #[inline(never)]
     fn write_bit(&mut self, bit: bool) -> Result<(), Error> {
         let answer = self.first.write_bit(bit);
-        let others = [self.second.write_bit(bit), self.third.write_bit(bit)];
-        note(&mut self.agree, &answer, others);
+        let second = self.second.write_bit(bit);
+        let third = self.third.write_bit(bit);
+        note(&mut self.agree, &answer, second, third);
         answer
     }
 
     #[inline(never)]
     fn byte_align(&mut self) -> Result<(), Error> {
         let answer = self.first.byte_align();
-        let others = [self.second.byte_align(), self.third.byte_align()];
-        note(&mut self.agree, &answer, others);
+        let second = self.second.byte_align();
+        let third = self.third.byte_align();
+        note(&mut self.agree, &answer, second, third);
         answer
     }
 
     #[inline(never)]
     fn write_bytes(&mut self, bytes: &[u8]) -> Result<(), Error> {
         let answer = self.first.write_bytes(bytes);
-        let others = [
-            self.second.write_bytes(bytes),
-            self.third.write_bytes(bytes),
-        ];
-        note(&mut self.agree, &answer, others);
+        let second = self.second.write_bytes(bytes);
+        let third = self.third.write_bytes(bytes);
+        note(&mut self.agree, &answer, second, third);
         answer
     }
 
     #[inline(never)]
     fn pad(&mut self, bits: u32) -> Result<(), Error> {
         let answer = self.first.pad(bits);
-        let others = [self.second.pad(bits), self.third.pad(bits)];
-        note(&mut self.agree, &answer, others);
+        let second = self.second.pad(bits);
+        let third = self.third.pad(bits);
+        note(&mut self.agree, &answer, second, third);
         answer
     }
 
     #[inline(never)]
     fn write_unsigned_vbr<F: Width, U: UnsignedInteger>(&mut self, value: U) -> Result<(), Error> {
         let answer = self.first.write_unsigned_vbr::<F, U>(value);
-        let others = [
-            self.second.write_unsigned_vbr::<F, U>(value),
-            self.third.write_unsigned_vbr::<F, U>(value),
-        ];
-        note(&mut self.agree, &answer, others);
+        let second = self.second.write_unsigned_vbr::<F, U>(value);
+        let third = self.third.write_unsigned_vbr::<F, U>(value);
+        note(&mut self.agree, &answer, second, third);
         answer
     }
 
     #[inline(never)]
     fn write_signed_vbr<F: Width, S: SignedInteger>(&mut self, value: S) -> Result<(), Error> {
         let answer = self.first.write_signed_vbr::<F, S>(value);
-        let others = [
-            self.second.write_signed_vbr::<F, S>(value),
-            self.third.write_signed_vbr::<F, S>(value),
-        ];
-        note(&mut self.agree, &answer, others);
+        let second = self.second.write_signed_vbr::<F, S>(value);
+        let third = self.third.write_signed_vbr::<F, S>(value);
+        note(&mut self.agree, &answer, second, third);
         answer
     }
 }

@@ -1,5 +1,5 @@
 //! Calls for whole bytes, which readers and writers of bits and those of bytes have alike.
-use crate::answer::{Answer, bytes_of, error_name, is_done, is_number};
+use crate::answer::{Answer, are_bytes, bytes_of, error_name, is_done, is_number};
 use crate::call::{Call, number};
 use crate::form::{ByteOrder, Form, Number, Size};
 use crate::objection::Objection;
@@ -100,11 +100,8 @@ impl<P: BitWrite, Q: BitWrite, R: BitWrite> WholeWrite for Trio<P, Q, R> {
     fn primitive<V: Primitive + Copy>(&mut self, order: ByteOrder, value: V) -> Result<(), Error> {
         let answer = write_in(&mut self.first, order, value);
         let second = write_in(&mut self.second, order, value);
-        note(
-            &mut self.agree,
-            &answer,
-            [second, write_in(&mut self.third, order, value)],
-        );
+        let third = write_in(&mut self.third, order, value);
+        note(&mut self.agree, &answer, second, third);
         answer
     }
 
@@ -160,7 +157,7 @@ fn read_buffer<R: WholeRead>(
     let mut buf: Vec<u8> = Vec::new(alloc);
     buf.resize(bytes as usize, 0)?;
     match reader.fill(buf.as_mut_slice()) {
-        Ok(()) => Ok(bytes_of(alloc, want)?.as_slice() == buf.as_slice()),
+        Ok(()) => are_bytes(alloc, want, buf.as_slice()),
         Err(error) => Ok(want == error_name(&error)),
     }
 }
@@ -172,7 +169,7 @@ fn read_vector<R: WholeRead>(
     want: &str,
 ) -> Result<bool, Objection> {
     match reader.vector(alloc, bytes) {
-        Ok(buf) => Ok(bytes_of(alloc, want)?.as_slice() == buf.as_slice()),
+        Ok(buf) => are_bytes(alloc, want, buf.as_slice()),
         Err(error) => Ok(want == error_name(&error)),
     }
 }

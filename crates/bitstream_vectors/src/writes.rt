@@ -2,7 +2,7 @@
 ghost use Rattle.std.specs.Prelude.{◌≡◌, ◌≤◌, ◌<◌, ◌^◌, ◌⊎◌};
 
 use crate::answer::{Answer, bytes_of, is_done};
-use crate::call::{Call, number};
+use crate::call::{Call, number, optional};
 use crate::checked::write_checked;
 use crate::fixed::write_fixed;
 use crate::form::{Form, Items, Number, Size};
@@ -10,7 +10,9 @@ use crate::objection::Objection;
 use crate::symbols::{write_limited, write_symbol};
 use crate::variable::{write_variable, write_variable_pair};
 use crate::whole::{WholeWrite, write_whole};
-use bitstream_io::{BitCount, BitWrite, BitWriteExt, Bits, Integer, Width};
+use bitstream_io::{
+    BitCount, BitWrite, BitWriteExt, Bits, Integer, SignedInteger, UnsignedInteger, Width,
+};
 use std::alloc::Global;
 use std::num::{NonZero, ParseIntError};
 use std::str::FromStr;
@@ -22,33 +24,66 @@ pub fn write_call<W: BitWrite + WholeWrite>(
     call: &Call<'_>,
     want: &str,
 ) -> Result<bool, Objection> {
-    let (bits, value) = (call.bits, call.value);
-    let answer = match call.form {
-        Form::Align => Ok(writer.byte_align()),
-        Form::Aligned => {
-            return Ok(want == if writer.byte_aligned() { "yes" } else { "no" });
+    match call.form {
+        Form::Aligned => Ok(want == if writer.byte_aligned() { "yes" } else { "no" }),
+        Form::Fixed(number) => write_fixed(writer, number, call.bits, call.value, want),
+        Form::Variable(kind, size, field) => {
+            write_variable(writer, kind, size, field, call.value, want)
         }
-        Form::Array(items) => write_array(alloc, writer, items, bits, value),
-        Form::Bit => Ok(writer.write_bit(truth(value)?)),
-        Form::Bool => Ok(writer.write_var(bits, truth(value)?)),
-        Form::Checked(number) => write_checked(writer, number, bits, value),
-        Form::Const => write_const(writer, bits, number(value)?),
-        Form::Count => write_count(writer, bits, number(value)?),
-        Form::Counted(number) => write_counted(writer, number, bits, value),
-        Form::Fixed(number) => write_fixed(writer, number, bits, value),
+        _ => Ok(is_done(want, &write(alloc, writer, call)?)),
+    }
+}
+
+/// Makes a call that writes.
+fn write<W: BitWrite + WholeWrite>(alloc: Global, writer: &mut W, call: &Call<'_>) -> Answer {
+    let value = call.value;
+    match call.form {
+        Form::Array(items) => write_array(alloc, writer, items, call.bits, value),
+        Form::Bytes | Form::Pad | Form::Whole(_, _) => write_whole(alloc, writer, call),
         Form::Limited(stop, most) => write_limited(writer, stop, most, value),
+        Form::Prefix(tree) => write_symbol(alloc, writer, tree, value),
+        Form::VariablePair(field) => write_variable_pair(writer, field, value),
+        form => write_in_bits(writer, form, call.bits, value),
+    }
+}
+
+/// Makes a call that writes a number or a truth in the given number of bits, or digits.
+fn write_in_bits<W: BitWrite>(writer: &mut W, form: Form, bits: u32, value: &str) -> Answer {
+    match form {
+        Form::Align => Ok(writer.byte_align()),
+        Form::Bit => write_bit(writer, value),
+        Form::Bool => write_bool(writer, bits, value),
+        Form::Checked(number) => write_checked(writer, number, bits, value),
+        Form::Const => write_const(writer, bits, value),
+        Form::Count => write_count(writer, bits, value),
+        Form::Counted(number) => write_counted(writer, number, bits, value),
         Form::NonZero(size) => write_non_zero(writer, size, bits, value),
         Form::Optional(size) => write_optional(writer, size, bits, value),
-        Form::Prefix(tree) => write_symbol(alloc, writer, tree, value),
-        Form::Unary(false) => Ok(writer.write_unary::<Bits<0>>(number(value)?)),
-        Form::Unary(true) => Ok(writer.write_unary::<Bits<1>>(number(value)?)),
+        Form::Unary(stop) => write_unary(writer, stop, value),
         Form::Value(number) => write_number(writer, number, bits, value),
-        Form::Variable(kind, size, field) => write_variable(writer, kind, size, field, value),
-        Form::VariablePair(field) => write_variable_pair(writer, field, value),
         Form::Word(number) => write_word(writer, number, bits, value),
-        _ => write_whole(alloc, writer, call),
-    };
-    Ok(is_done(want, &answer?))
+        _ => Err(Objection::BAD_FORM),
+    }
+}
+
+/// Writes the bit that a binary digit spells.
+fn write_bit<W: BitWrite>(writer: &mut W, digit: &str) -> Answer {
+    Ok(writer.write_bit(truth(digit)?))
+}
+
+/// Writes the truth that a binary digit spells.
+fn write_bool<W: BitWrite>(writer: &mut W, bits: u32, digit: &str) -> Answer {
+    Ok(writer.write_var(bits, truth(digit)?))
+}
+
+/// Writes as many digits as a text spells, and a stop digit.
+fn write_unary<W: BitWrite>(writer: &mut W, stop: bool, value: &str) -> Answer {
+    let digits = number::<u32>(value)?;
+    Ok(if stop {
+        writer.write_unary::<Bits<1>>(digits)
+    } else {
+        writer.write_unary::<Bits<0>>(digits)
+    })
 }
 
 /// The truth that a binary digit spells.
@@ -90,18 +125,32 @@ fn write_counted<W: BitWrite>(writer: &mut W, kind: Number, bits: u32, value: &s
     }
 }
 
+/// Writes the word that a text spells.
+fn write_unsigned_word<U: UnsignedInteger + FromStr<Err = ParseIntError>, W: BitWrite>(
+    writer: &mut W,
+    bits: u32,
+    value: &str,
+) -> Answer {
+    Ok(writer.write_unsigned_var::<U>(bits, number(value)?))
+}
+
+/// Writes the word of a signed number that a text spells.
+fn write_signed_word<S: SignedInteger + FromStr<Err = ParseIntError>, W: BitWrite>(
+    writer: &mut W,
+    bits: u32,
+    value: &str,
+) -> Answer {
+    Ok(writer.write_signed_var::<S>(bits, number(value)?))
+}
+
 /// Writes a number by the calls for words alone, at the types that the rows have.
 fn write_word<W: BitWrite>(writer: &mut W, kind: Number, bits: u32, value: &str) -> Answer {
     match kind {
-        Number::Unsigned(Size::Bits8) => Ok(writer.write_unsigned_var::<u8>(bits, number(value)?)),
-        Number::Unsigned(Size::Bits32) => {
-            Ok(writer.write_unsigned_var::<u32>(bits, number(value)?))
-        }
-        Number::Unsigned(Size::Bits128) => {
-            Ok(writer.write_unsigned_var::<u128>(bits, number(value)?))
-        }
-        Number::Signed(Size::Bits8) => Ok(writer.write_signed_var::<i8>(bits, number(value)?)),
-        Number::Signed(Size::Bits32) => Ok(writer.write_signed_var::<i32>(bits, number(value)?)),
+        Number::Unsigned(Size::Bits8) => write_unsigned_word::<u8, W>(writer, bits, value),
+        Number::Unsigned(Size::Bits32) => write_unsigned_word::<u32, W>(writer, bits, value),
+        Number::Unsigned(Size::Bits128) => write_unsigned_word::<u128, W>(writer, bits, value),
+        Number::Signed(Size::Bits8) => write_signed_word::<i8, W>(writer, bits, value),
+        Number::Signed(Size::Bits32) => write_signed_word::<i32, W>(writer, bits, value),
         _ => Err(Objection::UNLISTED),
     }
 }
@@ -117,14 +166,25 @@ fn write_non_zero<W: BitWrite>(writer: &mut W, size: Size, bits: u32, value: &st
 }
 
 /// Writes a number that is not 0, or none where the text spells 0.
+fn write_any<N: FromStr<Err = ParseIntError>, W: BitWrite>(
+    writer: &mut W,
+    bits: u32,
+    value: &str,
+) -> Answer
+where
+    Option<N>: Integer,
+{
+    Ok(writer.write_var::<Option<N>>(bits, optional(value)?))
+}
+
 fn write_optional<W: BitWrite>(writer: &mut W, size: Size, bits: u32, value: &str) -> Answer {
-    Ok(match size {
-        Size::Bits8 => writer.write_var(bits, NonZero::<u8>::new(number(value)?)),
-        Size::Bits16 => writer.write_var(bits, NonZero::<u16>::new(number(value)?)),
-        Size::Bits32 => writer.write_var(bits, NonZero::<u32>::new(number(value)?)),
-        Size::Bits64 => writer.write_var(bits, NonZero::<u64>::new(number(value)?)),
-        Size::Bits128 => writer.write_var(bits, NonZero::<u128>::new(number(value)?)),
-    })
+    match size {
+        Size::Bits8 => write_any::<NonZero<u8>, W>(writer, bits, value),
+        Size::Bits16 => write_any::<NonZero<u16>, W>(writer, bits, value),
+        Size::Bits32 => write_any::<NonZero<u32>, W>(writer, bits, value),
+        Size::Bits64 => write_any::<NonZero<u64>, W>(writer, bits, value),
+        Size::Bits128 => write_any::<NonZero<u128>, W>(writer, bits, value),
+    }
 }
 
 fn write_array<W: BitWrite>(
@@ -177,7 +237,8 @@ fn write_count_below<const MAX: u32, W: BitWrite>(writer: &mut W, value: u32) ->
     }
 }
 
-fn write_count<W: BitWrite>(writer: &mut W, max: u32, value: u32) -> Answer {
+fn write_count<W: BitWrite>(writer: &mut W, max: u32, value: &str) -> Answer {
+    let value = number::<u32>(value)?;
     match max {
         1 => write_count_below::<1, W>(writer, value),
         3 => write_count_below::<3, W>(writer, value),
@@ -199,8 +260,8 @@ fn write_const_in<B: Width, V: Width, W: BitWrite>(writer: &mut W) -> Answer
     Ok(writer.write_const::<B, V>())
 }
 
-fn write_const<W: BitWrite>(writer: &mut W, bits: u32, value: u32) -> Answer {
-    match (bits, value) {
+fn write_const<W: BitWrite>(writer: &mut W, bits: u32, value: &str) -> Answer {
+    match (bits, number::<u32>(value)?) {
         (0, 0) => write_const_in::<Bits<0>, Bits<0>, W>(writer),
         (0, 1) => write_const_in::<Bits<0>, Bits<1>, W>(writer),
         (1, 1) => write_const_in::<Bits<1>, Bits<1>, W>(writer),
