@@ -1,85 +1,9 @@
-//! Counts of bits and checked values: each call once at each type, through the bound that it is proved
-//! from, and tables of their answers.
-ghost use Rattle.std.specs.Prelude.{◌≡◌, pos, negsuc, ◌≤◌};
-
+//! Counts of bits and checked values: tables of their answers.
 use crate::asserts::{each_holds, holds};
 use bitstream_io::{
-    BitCount, Checked, CheckedError, CheckedSigned, CheckedSignedFixed, CheckedUnsigned,
-    CheckedUnsignedFixed, SignedBitCount, SignedInteger, UnsignedInteger,
+    BitCount, CheckedError, CheckedSigned, SignedBitCount, SignedInteger, UnsignedInteger,
 };
 use std::alloc::Global;
-
-/// Whether counts give of 5 what they should.
-fn counts<U: UnsignedInteger>(five: U) -> bool
-    requires five { U.value five ≡ 5 }
-    requires size { 8 ≤ U.BITS_SIZE }
-{
-    let three = BitCount::<8>::new::<3>();
-    let range = three.range::<U>();
-    let (high, low) = BitCount::<8>::new::<2>().mask_lsb::<U>().split(five);
-    (three.none::<U>().into_value() == U::ZERO)
-        & (three.all::<U>().into_value() == U::from_u8(7))
-        & (*range.start() == U::ZERO)
-        & (*range.end() == U::from_u8(7))
-        & (high == U::ONE)
-        & (*low.as_ref() == U::ONE)
-}
-
-/// Whether the constructors take 5, and what they keep of it in no bits.
-fn checks<U: UnsignedInteger>(five: U) -> bool
-    requires five { U.value five ≡ 5 }
-    requires size { 8 ≤ U.BITS_SIZE }
-{
-    let nothing = CheckedUnsigned::<8, U>::new_fixed::<0>(five);
-    CheckedUnsigned::new(BitCount::<8>::new::<3>(), five).is_ok()
-        & CheckedUnsigned::<8, U>::new_fixed::<3>(five).is_ok()
-        & CheckedUnsigned::<8, U>::new_fixed::<2>(five).is_err()
-        & (nothing.map(Checked::into_value).ok() == Some(U::ZERO))
-        & CheckedUnsignedFixed::<3, U>::new_fixed(five).is_ok()
-        & CheckedUnsignedFixed::<2, U>::new_fixed(five).is_err()
-}
-
-/// Whether all of that holds of 5.
-fn unsigned<U: UnsignedInteger>(five: U) -> bool
-    requires five { U.value five ≡ 5 }
-    requires size { 8 ≤ U.BITS_SIZE }
-{
-    counts(five) & checks(five)
-}
-
-/// Whether the constructors take 5 and -3, and the range of three bits is between these.
-fn signed<S: SignedInteger>(five: S, less: S) -> bool
-    requires five { S.integer five ≡ pos 5 }
-    requires less { S.integer less ≡ negsuc 2 }
-    requires size { 8 ≤ S.BITS_SIZE }
-{
-    let three = SignedBitCount::<8>::new::<3>();
-    let range = three.range::<S>();
-    CheckedSigned::new(three, less).is_ok()
-        & CheckedSigned::new(three, five).is_err()
-        & CheckedSigned::<8, S>::new_fixed::<4>(five).is_ok()
-        & CheckedSignedFixed::<4, S>::new_fixed(five).is_ok()
-        & CheckedSignedFixed::<2, S>::new_fixed(less).is_err()
-        & (*range.start() < less)
-        & (*range.end() < five)
-}
-
-#[test]
-fn each_type(rt: HostRuntime) {
-    let right = [
-        unsigned::<u8>(5),
-        unsigned::<u16>(5),
-        unsigned::<u32>(5),
-        unsigned::<u64>(5),
-        unsigned::<u128>(5),
-        signed::<i8>(5, -3),
-        signed::<i16>(5, -3),
-        signed::<i32>(5, -3),
-        signed::<i64>(5, -3),
-        signed::<i128>(5, -3),
-    ];
-    each_holds(&rt, &right);
-}
 
 /// The sum and the difference of 5 bits and the given number, of at most 16 and 8 bits.
 fn sums(number: u32) -> (Option<u32>, Option<u32>, Option<u32>) {

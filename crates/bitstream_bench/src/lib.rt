@@ -10,8 +10,6 @@ mod bytes;
 #[cfg(test)]
 mod callers;
 #[cfg(test)]
-mod checked;
-#[cfg(test)]
 mod codes;
 #[cfg(test)]
 mod counts;
@@ -23,8 +21,6 @@ mod examples;
 mod faults;
 #[cfg(test)]
 mod formats;
-#[cfg(test)]
-mod numbers;
 #[cfg(test)]
 mod older;
 #[cfg(test)]

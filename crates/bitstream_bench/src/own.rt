@@ -255,31 +255,6 @@ fn inherits<E: Endianness + Drop>(alloc: Global, begins: &[u8]) -> [bool; 6] {
     ]
 }
 
-/// Whether a call answers that a number has groups that it does not need.
-fn is_redundant<T: Drop>(answer: Result<T, Error>) -> bool {
-    matches!(answer, Err(Error::RedundantGroup))
-}
-
-/// Takes a reader by value, reads numbers in two groups of which the last is 0, each by the strict call and
-/// then by the lenient one, and tells whether the lenient calls alone answer them.
-fn reads_redundant<R: BitRead + Drop>(mut reader: R) -> bool {
-    is_redundant(reader.read_unsigned_vbr::<Bits<4>, u8>())
-        & gives(reader.read_unsigned_vbr_any::<Bits<4>, u8>(), 1)
-        & is_redundant(reader.read_signed_vbr::<Bits<4>, i8>())
-        & gives(reader.read_signed_vbr_any::<Bits<4>, i8>(), -1)
-}
-
-#[test]
-fn redundant_groups_are_read_by_the_lenient_calls(rt: HostRuntime) {
-    let bytes = [0x90; 4];
-    let mut reader = BitReader::<_, BE>::new(Slice::new(&bytes));
-    let mut own = OwnReader {
-        inner: BitReader::<_, BE>::new(Slice::new(&bytes)),
-    };
-    holds(&rt, reads_redundant(&mut reader) & ends(&mut reader));
-    holds(&rt, reads_redundant(&mut own) & ends(&mut own));
-}
-
 /// A reader of bytes before another, to which it hands each required call.
 #[derive(Drop)]
 struct OwnBytes<R> {
