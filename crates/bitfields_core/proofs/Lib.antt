@@ -4,6 +4,7 @@ pub mod ExactRuns
 pub mod FieldAnswers
 pub mod FieldCalls
 pub mod LayoutLemmas
+pub mod LineLemmas
 pub mod MemoryLemmas
 pub mod OneWord
 pub mod PackingLemmas

@@ -1,8 +1,9 @@
-use Rattle.std.proofs.Common.{◌≡◌, ℕ, ◌<◌, ◌≤◌, List, [], ◌∷◌, length, get_or, map, Some, ap, arith, refl, string_bytes, sym, ◌∙◌}
+use Rattle.std.proofs.Common.{◌≡◌, ◌≢◌, ℕ, ◌<◌, ◌≤◌, List, [], ◌∷◌, length, get_or, map, None, Some, Err, ap, arith, refl, rules, string_bytes, sym, ◌∙◌}
 use Rattle.bitfields_core.specs.declared.run.Command.{Command}
 use Rattle.bitfields_core.specs.declared.run.NamedOrder.{NamedOrder}
 use Rattle.bitfields_core.specs.Call.{Request, bit_order, command_of, order_of, request_of}
 use Rattle.bitfields_core.proofs.run.call.Goals as goal
+use Rattle.bitfields_core.proofs.run.call.Goals.{in_default-via-then-words-lt3, in_default-via-else-words-lt3+else-words-lt4}
 
 -- three words, of which the first two name a command and an order
 asked : {S : Type 0} (text : S → List ℕ) (words : List S) {x y z : S} {command : Command}
@@ -26,3 +27,23 @@ returns g c =
     let order = ap order_of (sym c.as_str-2.ensures.value) ∙ sym c.parse_order.ensures ∙ c.in-Some-parse_order.is in
     rw (asked string_bytes c.args.words.now (omega arith) (omega arith) c.command-item.is c.order-item.is
     c.text-item.is command order) (rw c.as_str-3.ensures.value at c.follow.ensures)
+
+-- any number of words but three
+not_asked : {S : Type 0} (text : S → List ℕ) (words : List S) → length words ≢ 3 → request_of (map text words) ≡ None
+not_asked text [] other = refl
+not_asked text (u ∷ []) other = refl
+not_asked text (u ∷ v ∷ []) other = refl
+not_asked text (u ∷ v ∷ w ∷ []) other = absurd (other refl)
+not_asked text (u ∷ v ∷ w ∷ more ∷ words) other = refl
+
+pub returns-in_default : goal.returns-in_default
+returns-in_default g c =
+    let n = length c.args.words.now in
+    let other : n ≢ 3 =
+    elim c.in_default.branch [
+      | in_default-via-then-words-lt3 w ↦
+          (let few : n < 3 = search rules in λ three. absurd (omega (arith, few, three)))
+      | in_default-via-else-words-lt3+else-words-lt4 w ↦
+          (let many : 4 ≤ n = search rules in λ three. absurd (omega (arith, many, three)))
+    ] in
+    rw (not_asked string_bytes c.args.words.now other) (ap Err c.new.ensures, refl, refl)
