@@ -27,3 +27,12 @@ returns-in-Ok-clause-takes g c =
     (drop count buf) _ _ c.requires.below c.of_bytes-value.ensures.below
     (length-take-le count buf (omega arith)) (omega arith) c.in-Ok.ensures.fetches is c.front.ensures c.put.ensures
     (c.byte_behind-left.ensures (unused c.args.n) (omega arith) (omega arith))
+
+pub returns-in-Err-clause-takes : goal.returns-in-Err-clause-takes
+returns-in-Err-clause-takes g c =
+    let size = g.met.U.Numeric.size_law in
+    let room = c.requires.room in
+    let items = c.buffer-bytes.ensures in
+    let long : length c.fetch_front.new.buf ≡ g.U.Primitive.BYTES =
+    c.fetch_front.ensures.len ∙ ap length c.as_bytes_mut.ensures.value ∙ items in
+    rw (length-take-le ((c.args.n + 7) / 8) c.fetch_front.new.buf (omega arith)) at c.in-Err.ensures.fetches

@@ -47,6 +47,13 @@ returns-in_default-clause-takes g c =
     (lead_of_byte o c.args.stop c.in_ok-byte.byte _ lead) (omega arith) inv.small long
     (byte_waits o _ _ c.in_ok-byte.byte _ _ _ inv.takes c.in_ok-byte.ensures)
 
+pub returns-in_default-clause-turns : goal.returns-in_default-clause-turns
+returns-in_default-clause-turns g c =
+    let inv = c.loop-byte.invariant in
+    let byte = c.in_ok-byte.ensures.fetched in
+    let turn = c.add-in-loop-byte.ensures in
+    omega (arith, inv.turns, inv.fetched)
+
 pub returns-then-lead-lt8-clause-takes : goal.returns-then-lead-lt8-clause-takes
 returns-then-lead-lt8-clause-takes g c =
     let o = g.E.Endianness.order in
@@ -56,6 +63,13 @@ returns-then-lead-lt8-clause-takes g c =
     (omega arith) c.lead-lead.ensures less (omega arith) (search rules) c.rest-then-lead-lt8.ensures
     c.rest-then-lead-lt8-2.ensures (byte_waits o _ _ c.in_ok-byte.byte _ _ _ c.loop-byte.invariant.takes
     c.in_ok-byte.ensures)
+
+pub returns-then-lead-lt8-clause-turns : goal.returns-then-lead-lt8-clause-turns
+returns-then-lead-lt8-clause-turns g c =
+    let inv = c.loop-byte.invariant in
+    let byte = c.in_ok-byte.ensures.fetched in
+    let turn = c.add-in-loop-byte.ensures in
+    omega (arith, inv.turns, inv.fetched)
 
 pub loop-byte-preserved : goal.loop-byte-preserved
 loop-byte-preserved g c =

@@ -1,7 +1,10 @@
-use Rattle.std.proofs.Common.{rules, arith, ◌<◌}
+use Rattle.std.proofs.Common.{rules, arith, ap, ◌<◌, ◌-◌, ◌/◌, ◌^◌}
 use Rattle.bitstream_number.specs.Word.{High}
 use Rattle.bitstream_order.proofs.PartLemmas.{first_below}
 use Rattle.bitstream_order.proofs.order.BigEndianEndianness.first.Goals as goal
+
+pub returns-clause-value : goal.returns-clause-value
+returns-clause-value c = ap (λ byte. byte / 2 ^ (8 - c.args.n)) c.from.ensures
 
 pub returns-clause-below : goal.returns-clause-below
 returns-clause-below c =
