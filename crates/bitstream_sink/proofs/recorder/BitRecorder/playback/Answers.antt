@@ -1,4 +1,5 @@
-use Rattle.std.proofs.Common.{Err, ap, ◌∙◌}
+use Rattle.std.proofs.Common.{Err, ap, sym, ◌∙◌}
+use Rattle.std.proofs.lemmas.Bool.{false≢true}
 use Rattle.std.proofs.lemmas.Result.{err_from_is_err_and}
 use Rattle.bitstream_order.specs.Growing.{growing_bytes}
 use Rattle.bitstream_sink.proofs.RecorderLemmas.{play_stops, plays, played}
@@ -22,3 +23,10 @@ returns-clause-same_order g c same =
     c.queued.ensures.bits c.queue.ensures.number c.in_ok-write_bytes.ensures.writes
     c.write_unsigned_var.ensures.writes
     g.E.Endianness.order c.queued.ensures.few c.queue.ensures.small same
+
+pub returns-in_err-write_bytes-clause-failed : goal.returns-in_err-write_bytes-clause-failed
+returns-in_err-write_bytes-clause-failed g c fault =
+    absurd (false≢true (sym c.if-failed.false ∙ c.failed.ensures ∙ fault))
+
+pub returns-clause-failed : goal.returns-clause-failed
+returns-clause-failed g c fault = absurd (false≢true (sym c.if-failed.false ∙ c.failed.ensures ∙ fault))
