@@ -37,15 +37,14 @@ returns-in-None-clause-asks g c =
 pub returns-in-Err-clause-asks : goal.returns-in-Err-clause-asks
 returns-in-Err-clause-asks g c =
     let o = g.E.Endianness.order in
-    let same = c.drop_queue.ensures in
     let refused = c.in-Err.ensures.places in
     AsksPlace.was_refused c.if-self.false (record {
       refusal = refused.refusal;
       allowed = (Current (pos 0), refl, refused.allowed);
       answer = ap Err refused.answer;
-      refusals = ap (λ r. r.port.refusals.list) same ∙ refused.refusals;
-      references = ap (λ r. g.R.Source.references (port_stream r.port)) same ∙ refused.references;
-      queue = ap (λ r. word o r.queued (first_part o r.queue 8 r.queued)) same ∙ word-none o _;
+      refusals = ap (λ r. r.port.refusals.list) c.drop_queue.ensures ∙ refused.refusals;
+      references = ap (λ r. g.R.Source.references (port_stream r.port)) c.drop_queue.ensures ∙ refused.references;
+      queue = ap (λ r. word o r.queued (first_part o r.queue 8 r.queued)) c.drop_queue.ensures ∙ word-none o _;
       failed = refl;
     })
 
