@@ -22,6 +22,8 @@ mod faults;
 #[cfg(test)]
 mod formats;
 #[cfg(test)]
+mod numbers;
+#[cfg(test)]
 mod older;
 #[cfg(test)]
 mod own;
