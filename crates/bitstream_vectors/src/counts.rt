@@ -2,8 +2,7 @@
 use crate::call::{Call, number};
 use crate::objection::{Difference, Objection, agrees};
 use crate::row::{Kind, calls_of};
-use crate::sinks::call_three;
-use crate::trio::Trio;
+use crate::sinks::call_sink;
 use bitstream_io::write::Counter;
 use bitstream_io::{BE, BitCounter, BitsWritten, LE};
 use std::alloc::Global;
@@ -17,15 +16,15 @@ fn count_in<N: Counter + Drop>(
 where
     u128: From<N>,
 {
-    let (high, low) = (BitCounter::<N, BE>::new(), BitCounter::<N, LE>::new());
-    let mut counters = Trio::new(BitsWritten::<N>::new(), high, low);
-    for call in calls {
-        call_three(alloc, &mut counters, call)?;
-    }
-    let first = u128::from(counters.first.written());
-    let high = u128::from(counters.second.written());
-    let low = u128::from(counters.third.written());
-    agrees([first, high, low] == [bits; 3], Difference::Length)
+    let mut counter = BitsWritten::<N>::new();
+    let (mut high, mut low) = (BitCounter::<N, BE>::new(), BitCounter::<N, LE>::new());
+    call_sink(alloc, &mut counter, calls, Difference::Answer)?;
+    call_sink(alloc, &mut high, calls, Difference::Answer)?;
+    call_sink(alloc, &mut low, calls, Difference::Answer)?;
+    let counter = u128::from(counter.written());
+    let high = u128::from(high.written());
+    let low = u128::from(low.written());
+    agrees([counter, high, low] == [bits; 3], Difference::Length)
 }
 
 /// Plays a row of a counter's type, its calls, and what it holds after them.

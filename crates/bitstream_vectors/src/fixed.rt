@@ -41,6 +41,7 @@ pub struct Writing<'a, W> {
 }
 
 impl<W: BitWrite> FixedCall for Writing<'_, W> {
+    #[inline(never)]
     fn make<B: Width, I>(&mut self) -> Result<bool, Objection>
     where
         I: Integer + FromStr<Err = ParseIntError> + PartialEq + Drop,

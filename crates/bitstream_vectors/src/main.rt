@@ -51,7 +51,6 @@ mod replay;
 mod row;
 mod sinks;
 mod symbols;
-mod trio;
 mod variable;
 mod whole;
 mod writes;

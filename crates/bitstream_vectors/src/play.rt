@@ -6,15 +6,14 @@ use crate::memory::Memory;
 use crate::objection::{Difference, Objection, agrees};
 use crate::reads::read_call;
 use crate::row::{Kind, Layer, Order, Row};
-use crate::sinks::{Recorder, sink_call};
-use crate::trio::Trio;
+use crate::sinks::{Recorder, call_sink, sink_call};
 use crate::whole::{read_whole, write_whole};
 use bitstream_io::{
     BE, BitReader, BitRecorder, BitWrite, BitWriter, BitsWritten, ByteReader, ByteWriter,
     Endianness, Error, LE, SeekSource, Slice, Source, Target,
 };
 use std::alloc::Global;
-use std::io::{ErrorKind, Read, Seek, SeekFrom, Write};
+use std::io::{ErrorKind, Read, Seek, SeekFrom};
 use test_streams::{Count, Drip, Refuse};
 
 /// A request that a stream refuses, as each later one.
@@ -83,11 +82,6 @@ impl Way {
         }
     }
 
-    /// Whether the stream refuses requests.
-    fn refuses(self) -> bool {
-        matches!(self, Way::Refused(_))
-    }
-
     /// What differs where an answer does.
     fn difference(self) -> Difference {
         match self {
@@ -140,7 +134,7 @@ fn target(whence: Whence, value: &str) -> Result<SeekFrom, Objection> {
     }
 }
 
-impl<P: BitWrite, Q: BitWrite, R: BitWrite> Stage for Trio<P, Q, R> {
+impl<W: Target, E: Endianness> Stage for BitWriter<W, E> {
     fn call(&mut self, alloc: Global, call: &Call<'_>, want: &str) -> Result<bool, Objection> {
         sink_call(alloc, self, call, want)
     }
@@ -227,67 +221,41 @@ fn read_bytes<E: Endianness + Drop>(
     })
 }
 
-/// A counter and a recorder, to which is written what a writer of bits writes.
-#[derive(Drop)]
-struct Beside<E: Endianness> {
-    counter: BitsWritten<u32>,
-    recorder: Recorder<E>,
-}
-
-impl<E: Endianness> Beside<E> {
-    /// A new counter and a new recorder.
-    fn new(alloc: Global) -> Beside<E> {
-        Beside {
-            counter: BitsWritten::new(),
-            recorder: BitRecorder::new(alloc),
-        }
-    }
-
-    /// Makes write calls on a writer of bits over a stream, and on the two.
-    fn write<W: Write>(
-        &mut self,
-        alloc: Global,
-        stream: &mut W,
-        row: &Row<'_>,
-        calls: &[Call<'_>],
-        way: Way,
-    ) -> Result<(), Objection> {
-        let writer = BitWriter::<_, E>::new(stream);
-        let mut sinks = Trio::new(writer, &mut self.counter, &mut self.recorder);
-        make_calls(alloc, &mut sinks, row, calls, way)?;
-        agrees(sinks.agree || way.refuses(), Difference::Beside)
-    }
-
-    /// Objects where the two do not hold the bits that were written, of which these are the whole
-    /// bytes.
-    fn hold(&self, alloc: Global, written: &[u8]) -> Result<(), Objection> {
-        let bits = self.counter.written();
-        let recorded = matches!(self.recorder.written_checked(), Ok(recorded) if recorded == bits);
-        let mut played: Vec<u8> = Vec::new(alloc);
-        let answer = self
-            .recorder
-            .playback(&mut BitWriter::<_, E>::new(&mut played));
-        let same = is_done("ok", &answer) && played.as_slice() == written;
-        let counted = (bits / 8) as usize == written.len();
-        agrees(recorded && same && counted, Difference::Beside)
-    }
-}
-
-/// Makes write calls on a writer of bits, on a counter and on a recorder. Gives how many requests they
-/// made, and how many were refused.
+/// Makes write calls on a counter and on a recorder. Objects where these do not hold the bits that a
+/// writer of bits wrote, of which these are the whole bytes.
 fn write_beside<E: Endianness + Drop>(
+    alloc: Global,
+    calls: &[Call<'_>],
+    written: &[u8],
+) -> Result<(), Objection> {
+    let mut counter = BitsWritten::<u32>::new();
+    let mut recorder: Recorder<E> = BitRecorder::new(alloc);
+    call_sink(alloc, &mut counter, calls, Difference::Beside)?;
+    call_sink(alloc, &mut recorder, calls, Difference::Beside)?;
+    let bits = counter.written();
+    let recorded = matches!(recorder.written_checked(), Ok(recorded) if recorded == bits);
+    let counted = (bits / 8) as usize == written.len();
+    let mut played: Vec<u8> = Vec::new(alloc);
+    let answer = recorder.playback(&mut BitWriter::<_, E>::new(&mut played));
+    let same = is_done("ok", &answer) && played.as_slice() == written;
+    agrees(recorded && same && counted, Difference::Beside)
+}
+
+/// Makes write calls on a writer of bits, and if its stream is plain, on a counter and on a recorder
+/// too. Gives how many requests the writer made, and how many were refused.
+fn write_bits<E: Endianness + Drop>(
     alloc: Global,
     written: &mut Vec<u8>,
     row: &Row<'_>,
     calls: &[Call<'_>],
     way: Way,
 ) -> Result<(u64, u64), Objection> {
-    let mut beside = Beside::<E>::new(alloc);
     let mut stream = stream_of(&mut *written, way);
-    beside.write(alloc, &mut stream, row, calls, way)?;
+    let mut writer = BitWriter::<_, E>::new(&mut stream);
+    make_calls(alloc, &mut writer, row, calls, way)?;
     let moved = (stream.requests, stream.refused);
-    if !way.refuses() {
-        beside.hold(alloc, written.as_slice())?;
+    if matches!(way, Way::Plain) {
+        write_beside::<E>(alloc, calls, written.as_slice())?;
     }
     Ok(moved)
 }
@@ -316,7 +284,7 @@ fn write_bytes<E: Endianness + Drop>(
 ) -> Result<Moved, Objection> {
     let mut written: Vec<u8> = Vec::new(alloc);
     let (requests, refused) = match row.layer {
-        Layer::Bits => write_beside::<E>(alloc, &mut written, row, calls, way)?,
+        Layer::Bits => write_bits::<E>(alloc, &mut written, row, calls, way)?,
         Layer::Bytes => write_whole_bytes::<E>(alloc, &mut written, row, calls, way)?,
     };
     let begins = row.bytes.starts_with(written.as_slice());

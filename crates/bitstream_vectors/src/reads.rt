@@ -24,7 +24,7 @@ pub fn read_call<R: BitRead + WholeRead>(
     want: &str,
 ) -> Result<bool, Objection> {
     match call.form {
-        Form::Array(items) => read_array(alloc, reader, items, call.bits, want),
+        Form::Array(items) => read_array(reader, items, call.bits, want),
         Form::Bytes | Form::Skip | Form::Vector | Form::Whole(_, _) => {
             read_whole(alloc, reader, call, want)
         }
@@ -180,14 +180,13 @@ fn read_word<R: BitRead>(
 }
 
 fn read_array<R: BitRead>(
-    alloc: Global,
     reader: &mut R,
     items: Items,
     bits: u32,
     want: &str,
 ) -> Result<bool, Objection> {
     match items {
-        Items::Bytes => are_four(alloc, want, reader.read_var::<[u8; 4]>(bits)),
+        Items::Bytes => Ok(are_four(want, reader.read_var::<[u8; 4]>(bits))),
         Items::None => Ok(is_empty(want, reader.read_var::<[u8; 0]>(bits))),
         Items::Signed => is_pair(want, reader.read_var::<[i8; 2]>(bits)),
         Items::Truths => are_truths(want, reader.read_var::<[bool; 4]>(bits)),
@@ -195,10 +194,10 @@ fn read_array<R: BitRead>(
 }
 
 /// Whether a text is what a call answered: four bytes, or the name of the error.
-fn are_four(alloc: Global, want: &str, answer: Result<[u8; 4], Error>) -> Result<bool, Objection> {
+fn are_four(want: &str, answer: Result<[u8; 4], Error>) -> bool {
     match answer {
-        Ok(bytes) => are_bytes(alloc, want, bytes.as_slice()),
-        Err(error) => Ok(want == error_name(&error)),
+        Ok(bytes) => are_bytes(want, bytes.as_slice()),
+        Err(error) => want == error_name(&error),
     }
 }
 

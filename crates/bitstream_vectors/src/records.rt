@@ -4,7 +4,7 @@ use crate::call::{Call, number};
 use crate::form::Form;
 use crate::objection::{Difference, Objection, agrees};
 use crate::row::{Kind, Order, calls_of, order_of};
-use crate::sinks::{Recorder, call_recorder, give};
+use crate::sinks::{Recorder, give, sink_call};
 use bitstream_io::{BE, BitRecorder, BitWrite, BitWriter, Endianness, Error, LE};
 use std::alloc::Global;
 
@@ -38,7 +38,10 @@ fn record_call<E: Endianness + Drop>(
     match call.form {
         Form::Best => return best_of(alloc, recorder, call.value),
         Form::Clear => recorder.clear(),
-        _ => call_recorder(alloc, &mut recorder, call)?,
+        _ => {
+            let same = sink_call(alloc, &mut recorder, call, call.answer)?;
+            agrees(same, Difference::Answer)?;
+        }
     }
     Ok(recorder)
 }

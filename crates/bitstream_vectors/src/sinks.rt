@@ -4,49 +4,25 @@ use crate::call::Call;
 use crate::form::Form;
 use crate::objection::{Difference, Objection, agrees};
 use crate::row::{Kind, Order};
-use crate::trio::Trio;
-use crate::whole::WholeWrite;
 use crate::writes::write_call;
-use bitstream_io::{BE, BitCounter, BitRecorder, BitWrite, BitsWritten, Endianness, Error, LE};
+use bitstream_io::{BE, BitRecorder, BitWrite, Endianness, Error, LE};
 use std::alloc::Global;
 
 /// A recorder of bits.
 pub type Recorder<E> = BitRecorder<u32, E, Global>;
 
-/// A recorder, and beside it counters.
-type Recording<'a, E> = Trio<&'a mut Recorder<E>, BitsWritten<u32>, BitCounter<u32, E>>;
-
-/// A recorder, and beside it new counters.
-fn beside_counters<E: Endianness>(recorder: &mut Recorder<E>) -> Recording<'_, E> {
-    Trio::new(recorder, BitsWritten::new(), BitCounter::new())
-}
-
-/// Makes a call on three sinks. Objects where it answers otherwise, or where the sinks differ.
-pub fn call_three<P: BitWrite, Q: BitWrite, R: BitWrite>(
+/// Makes calls on a sink. Objects where one answers otherwise.
+pub fn call_sink<W: BitWrite>(
     alloc: Global,
-    sinks: &mut Trio<P, Q, R>,
-    call: &Call<'_>,
+    sink: &mut W,
+    calls: &[Call<'_>],
+    what: Difference,
 ) -> Result<(), Objection> {
-    let same = sink_call(alloc, sinks, call, call.answer)?;
-    agrees(same, Difference::Answer)?;
-    agrees(sinks.agree, Difference::Beside)
-}
-
-/// Gives calls, with a stroke between them, to three sinks, whatever they answer. Objects where the
-/// sinks differ.
-fn give_three<P: BitWrite, Q: BitWrite, R: BitWrite>(
-    alloc: Global,
-    sinks: &mut Trio<P, Q, R>,
-    calls: &str,
-) -> Result<(), Objection> {
-    if calls.trim().is_empty() {
-        return Ok(());
+    for call in calls {
+        let same = sink_call(alloc, sink, call, call.answer)?;
+        agrees(same, what)?;
     }
-    for spelled in calls.split('|') {
-        let call = Call::parse(alloc, Kind::Write, spelled)?;
-        write_call(alloc, sinks, &call, call.answer)?;
-    }
-    agrees(sinks.agree, Difference::Beside)
+    Ok(())
 }
 
 /// Gives calls, with a stroke between them, to a recorder, whatever they answer.
@@ -55,16 +31,14 @@ pub fn give<E: Endianness>(
     recorder: &mut Recorder<E>,
     calls: &str,
 ) -> Result<(), Objection> {
-    give_three(alloc, &mut beside_counters(recorder), calls)
-}
-
-/// Makes a call on a recorder, and objects where it answers otherwise.
-pub fn call_recorder<E: Endianness>(
-    alloc: Global,
-    recorder: &mut Recorder<E>,
-    call: &Call<'_>,
-) -> Result<(), Objection> {
-    call_three(alloc, &mut beside_counters(recorder), call)
+    if calls.trim().is_empty() {
+        return Ok(());
+    }
+    for spelled in calls.split('|') {
+        let call = Call::parse(alloc, Kind::Write, spelled)?;
+        write_call(alloc, recorder, &call, call.answer)?;
+    }
+    Ok(())
 }
 
 /// Gives calls to a new recorder, and plays it.
@@ -79,7 +53,7 @@ fn play_calls<E: Endianness + Drop, W: BitWrite>(
 }
 
 /// Makes a write call, or plays a recorder, and tells whether it answers so.
-pub fn sink_call<W: BitWrite + WholeWrite>(
+pub fn sink_call<W: BitWrite>(
     alloc: Global,
     writer: &mut W,
     call: &Call<'_>,

@@ -78,6 +78,7 @@ impl<R: BitRead> GroupedCall for Reading<'_, R> {
 
 /// No call that writes is lenient.
 impl<W: BitWrite> GroupedCall for Writing<'_, W> {
+    #[inline(never)]
     fn strict<F: Width, I>(&mut self) -> Result<bool, Objection>
     where
         I: VBRInteger + FromStr<Err = ParseIntError> + PartialEq + Drop,
@@ -86,6 +87,7 @@ impl<W: BitWrite> GroupedCall for Writing<'_, W> {
         Ok(is_done(self.want, &answer))
     }
 
+    #[inline(never)]
     fn optional<F: Width, N>(&mut self) -> Result<bool, Objection>
     where
         N: FromStr<Err = ParseIntError> + PartialEq + Drop,

@@ -3,7 +3,6 @@ use crate::answer::{Answer, are_bytes, bytes_of, error_name, is_done, is_number}
 use crate::call::{Call, number};
 use crate::form::{ByteOrder, Form, Number, Size};
 use crate::objection::Objection;
-use crate::trio::{Trio, note};
 use bitstream_io::{
     BE, BitRead, BitReader, BitWrite, ByteRead, ByteReader, ByteWrite, ByteWriter, Endianness,
     Error, LE, Primitive, Source, Target,
@@ -74,7 +73,7 @@ impl<R: Source, E: Endianness> WholeRead for ByteReader<R, E> {
 /// Writes whole bytes, by the calls of its layer.
 pub trait WholeWrite {
     /// Writes a primitive in an order of bytes.
-    fn primitive<V: Primitive + Copy>(&mut self, order: ByteOrder, value: V) -> Result<(), Error>;
+    fn primitive<V: Primitive>(&mut self, order: ByteOrder, value: V) -> Result<(), Error>;
 
     /// Writes the bytes of a buffer.
     fn send(&mut self, bytes: &[u8]) -> Result<(), Error>;
@@ -83,26 +82,14 @@ pub trait WholeWrite {
     fn zeros(&mut self, count: u32) -> Result<(), Error>;
 }
 
-/// Writes a primitive in an order of bytes.
-fn write_in<V: Primitive, W: BitWrite>(
-    writer: &mut W,
-    order: ByteOrder,
-    value: V,
-) -> Result<(), Error> {
-    match order {
-        ByteOrder::Own => writer.write_from::<V>(value),
-        ByteOrder::Big => writer.write_as_from::<BE, V>(value),
-        ByteOrder::Little => writer.write_as_from::<LE, V>(value),
-    }
-}
-
-impl<P: BitWrite, Q: BitWrite, R: BitWrite> WholeWrite for Trio<P, Q, R> {
-    fn primitive<V: Primitive + Copy>(&mut self, order: ByteOrder, value: V) -> Result<(), Error> {
-        let answer = write_in(&mut self.first, order, value);
-        let second = write_in(&mut self.second, order, value);
-        let third = write_in(&mut self.third, order, value);
-        note(&mut self.agree, &answer, second, third);
-        answer
+/// A sink of bits, which counts zeros in bits.
+impl<W: BitWrite> WholeWrite for &mut W {
+    fn primitive<V: Primitive>(&mut self, order: ByteOrder, value: V) -> Result<(), Error> {
+        match order {
+            ByteOrder::Own => self.write_from::<V>(value),
+            ByteOrder::Big => self.write_as_from::<BE, V>(value),
+            ByteOrder::Little => self.write_as_from::<LE, V>(value),
+        }
     }
 
     fn send(&mut self, bytes: &[u8]) -> Result<(), Error> {
@@ -115,7 +102,7 @@ impl<P: BitWrite, Q: BitWrite, R: BitWrite> WholeWrite for Trio<P, Q, R> {
 }
 
 impl<W: Target, E: Endianness> WholeWrite for ByteWriter<W, E> {
-    fn primitive<V: Primitive + Copy>(&mut self, order: ByteOrder, value: V) -> Result<(), Error> {
+    fn primitive<V: Primitive>(&mut self, order: ByteOrder, value: V) -> Result<(), Error> {
         match order {
             ByteOrder::Own => self.write::<V>(value),
             ByteOrder::Big => self.write_as::<BE, V>(value),
@@ -142,7 +129,7 @@ pub fn read_whole<R: WholeRead>(
     match call.form {
         Form::Bytes => read_buffer(alloc, reader, call.bits, want),
         Form::Skip => Ok(is_done(want, &reader.pass(call.bits))),
-        Form::Vector => read_vector(alloc, reader, call.bits, want),
+        Form::Vector => Ok(is_vector(want, reader.vector(alloc, call.bits))),
         Form::Whole(order, number) => Ok(read_number(reader, order, number, want)),
         _ => Err(Objection::BAD_FORM),
     }
@@ -157,20 +144,16 @@ fn read_buffer<R: WholeRead>(
     let mut buf: Vec<u8> = Vec::new(alloc);
     buf.resize(bytes as usize, 0)?;
     match reader.fill(buf.as_mut_slice()) {
-        Ok(()) => are_bytes(alloc, want, buf.as_slice()),
+        Ok(()) => Ok(are_bytes(want, buf.as_slice())),
         Err(error) => Ok(want == error_name(&error)),
     }
 }
 
-fn read_vector<R: WholeRead>(
-    alloc: Global,
-    reader: &mut R,
-    bytes: u32,
-    want: &str,
-) -> Result<bool, Objection> {
-    match reader.vector(alloc, bytes) {
-        Ok(buf) => are_bytes(alloc, want, buf.as_slice()),
-        Err(error) => Ok(want == error_name(&error)),
+/// Whether a text is what a call answered: the bytes of a vector, or the name of the error.
+fn is_vector(want: &str, answer: Result<Vec<u8>, Error>) -> bool {
+    match answer {
+        Ok(bytes) => are_bytes(want, bytes.as_slice()),
+        Err(error) => want == error_name(&error),
     }
 }
 
@@ -202,7 +185,7 @@ pub fn write_whole<W: WholeWrite>(alloc: Global, writer: &mut W, call: &Call<'_>
 }
 
 /// Writes the primitive that a text spells, in an order of bytes.
-fn write_primitive<V: Primitive + Copy + FromStr<Err = ParseIntError>, W: WholeWrite>(
+fn write_primitive<V: Primitive + FromStr<Err = ParseIntError>, W: WholeWrite>(
     writer: &mut W,
     order: ByteOrder,
     value: &str,

@@ -9,7 +9,7 @@ use crate::form::{Form, Items, Number, Size};
 use crate::objection::Objection;
 use crate::symbols::{write_limited, write_symbol};
 use crate::variable::{write_variable, write_variable_pair};
-use crate::whole::{WholeWrite, write_whole};
+use crate::whole::write_whole;
 use bitstream_io::{
     BitCount, BitWrite, BitWriteExt, Bits, Integer, SignedInteger, UnsignedInteger, Width,
 };
@@ -18,7 +18,7 @@ use std::num::{NonZero, ParseIntError};
 use std::str::FromStr;
 
 /// Makes a write call, and tells whether it answers so.
-pub fn write_call<W: BitWrite + WholeWrite>(
+pub fn write_call<W: BitWrite>(
     alloc: Global,
     writer: &mut W,
     call: &Call<'_>,
@@ -35,11 +35,11 @@ pub fn write_call<W: BitWrite + WholeWrite>(
 }
 
 /// Makes a call that writes.
-fn write<W: BitWrite + WholeWrite>(alloc: Global, writer: &mut W, call: &Call<'_>) -> Answer {
+fn write<W: BitWrite>(alloc: Global, mut writer: &mut W, call: &Call<'_>) -> Answer {
     let value = call.value;
     match call.form {
         Form::Array(items) => write_array(alloc, writer, items, call.bits, value),
-        Form::Bytes | Form::Pad | Form::Whole(_, _) => write_whole(alloc, writer, call),
+        Form::Bytes | Form::Pad | Form::Whole(_, _) => write_whole(alloc, &mut writer, call),
         Form::Limited(stop, most) => write_limited(writer, stop, most, value),
         Form::Prefix(tree) => write_symbol(alloc, writer, tree, value),
         Form::VariablePair(field) => write_variable_pair(writer, field, value),
