@@ -8,27 +8,35 @@ use bitstream_io::{
 };
 use std::num::NonZero;
 
+/// Reads the sizes of a header, and mixes them into a sum.
+#[inline(always)]
+fn sizes<R: BitRead>(reader: &mut R, sum: u64) -> Result<u64, Error> {
+    let least: u16 = reader.read_to()?;
+    let most: u16 = reader.read_to()?;
+    let short = reader.read::<Bits<24>, u32>()?;
+    let long = reader.read::<Bits<24>, u32>()?;
+    let sum = mixed(mixed(sum, u64::from(least)), u64::from(most));
+    Ok(mixed(mixed(sum, u64::from(short)), u64::from(long)))
+}
+
+/// Reads what a header tells of the samples, and mixes it into a sum.
+#[inline(always)]
+fn samples<R: BitRead>(reader: &mut R, sum: u64) -> Result<u64, Error> {
+    let rate = reader.read::<Bits<20>, u32>()?;
+    let channels = reader.read::<Bits<3>, NonZero<u8>>()?;
+    let bits = reader.read::<Bits<5>, NonZero<u8>>()?;
+    let samples = reader.read::<Bits<36>, u64>()?;
+    let sum = mixed(mixed(sum, u64::from(rate)), u64::from(channels.get()));
+    Ok(mixed(mixed(sum, u64::from(bits.get())), samples))
+}
+
 /// Reads headers.
 fn headers<R: Source + Drop>(source: R, count: u64) -> Result<u64, Error> {
     let mut reader = BitReader::<R, BE>::new(source);
     let mut sum = 0u64;
     for _item in 0..count {
-        let least: u16 = reader.read_to()?;
-        sum = mixed(sum, u64::from(least));
-        let most: u16 = reader.read_to()?;
-        sum = mixed(sum, u64::from(most));
-        let short = reader.read::<Bits<24>, u32>()?;
-        sum = mixed(sum, u64::from(short));
-        let long = reader.read::<Bits<24>, u32>()?;
-        sum = mixed(sum, u64::from(long));
-        let rate = reader.read::<Bits<20>, u32>()?;
-        sum = mixed(sum, u64::from(rate));
-        let channels = reader.read::<Bits<3>, NonZero<u8>>()?;
-        sum = mixed(sum, u64::from(channels.get()));
-        let bits = reader.read::<Bits<5>, NonZero<u8>>()?;
-        sum = mixed(sum, u64::from(bits.get()));
-        let samples = reader.read::<Bits<36>, u64>()?;
-        sum = mixed(sum, samples);
+        sum = sizes(&mut reader, sum)?;
+        sum = samples(&mut reader, sum)?;
         let mut md5 = [0u8; 16];
         reader.read_bytes(&mut md5)?;
         sum = mixed(sum, u64::from(md5[0]));
@@ -55,6 +63,28 @@ pub extern "C" fn bench_read_flac_header_slice(data: &[u8], count: u64) -> u64 {
     }
 }
 
+/// Writes the sizes of a header.
+#[inline(always)]
+fn write_sizes<W: BitWrite>(writer: &mut W, state: u64) -> Result<(), Error> {
+    writer.write_from((state >> 48) as u16)?;
+    writer.write_from(((state >> 32) % 65536) as u16)?;
+    writer.write::<Bits<24>, u32>((state >> 40) as u32)?;
+    writer.write::<Bits<24>, u32>(((state >> 30) % 16777216) as u32)
+}
+
+/// Writes what a header tells of the samples.
+#[inline(always)]
+fn write_samples<W: BitWrite>(writer: &mut W, state: u64) -> Result<(), Error> {
+    writer.write::<Bits<20>, u32>((state >> 44) as u32)?;
+    if let Some(channels) = NonZero::<u8>::new((state >> 61) as u8 + 1) {
+        writer.write::<Bits<3>, NonZero<u8>>(channels)?;
+    }
+    if let Some(bits) = NonZero::<u8>::new((state >> 59) as u8 + 1) {
+        writer.write::<Bits<5>, NonZero<u8>>(bits)?;
+    }
+    writer.write::<Bits<36>, u64>(state >> 28)
+}
+
 /// Writes headers.
 pub(crate) fn write_headers<T: Memory>(count: u64, seed: u64, out: T) -> Result<(), Error> {
     let mut writer = BitWriter::<T, BE>::new(out);
@@ -62,24 +92,8 @@ pub(crate) fn write_headers<T: Memory>(count: u64, seed: u64, out: T) -> Result<
     let md5 = [0x5Au8; 16];
     for _item in 0..count {
         state = stepped(state);
-        writer.write_from((state >> 48) as u16)?;
-        writer.write_from(((state >> 32) % 65536) as u16)?;
-        writer.write::<Bits<24>, u32>((state >> 40) as u32)?;
-        writer.write::<Bits<24>, u32>(((state >> 30) % 16777216) as u32)?;
-        writer.write::<Bits<20>, u32>((state >> 44) as u32)?;
-        match NonZero::<u8>::new((state >> 61) as u8 + 1) {
-            Some(channels) => {
-                writer.write::<Bits<3>, NonZero<u8>>(channels)?;
-            }
-            None => {}
-        }
-        match NonZero::<u8>::new((state >> 59) as u8 + 1) {
-            Some(bits) => {
-                writer.write::<Bits<5>, NonZero<u8>>(bits)?;
-            }
-            None => {}
-        }
-        writer.write::<Bits<36>, u64>(state >> 28)?;
+        write_sizes(&mut writer, state)?;
+        write_samples(&mut writer, state)?;
         writer.write_bytes(&md5)?;
     }
     writer.byte_align()

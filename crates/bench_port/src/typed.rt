@@ -8,23 +8,39 @@ use bitstream_io::{
 };
 use std::alloc::Global;
 
+/// Reads a record of fields of constant widths, and mixes them into a sum.
+#[inline(always)]
+fn record<R: BitRead>(reader: &mut R, sum: u64) -> Result<u64, Error> {
+    let size = reader.read::<Bits<13>, u16>()?;
+    let kind = reader.read::<Bits<3>, u8>()?;
+    let level = reader.read::<Bits<7>, i8>()?;
+    let last = reader.read::<Bits<1>, bool>()?;
+    let time = reader.read::<Bits<40>, u64>()?;
+    let sum = mixed(mixed(sum, u64::from(size)), u64::from(kind));
+    let sum = mixed(sum, i64::from(level).cast_unsigned());
+    Ok(mixed(mixed(sum, u64::from(last)), time))
+}
+
 /// Reads fields of constant widths.
 fn fields<R: Source + Drop, E: Endianness>(source: R, count: u64) -> Result<u64, Error> {
     let mut reader = BitReader::<R, E>::new(source);
     let mut sum = 0u64;
     for _item in 0..count {
-        let size = reader.read::<Bits<13>, u16>()?;
-        sum = mixed(sum, u64::from(size));
-        let kind = reader.read::<Bits<3>, u8>()?;
-        sum = mixed(sum, u64::from(kind));
-        let level = reader.read::<Bits<7>, i8>()?;
-        sum = mixed(sum, i64::from(level).cast_unsigned());
-        let last = reader.read::<Bits<1>, bool>()?;
-        sum = mixed(sum, u64::from(last));
-        let time = reader.read::<Bits<40>, u64>()?;
-        sum = mixed(sum, time);
+        sum = record(&mut reader, sum)?;
     }
     Ok(sum)
+}
+
+/// Writes a record of fields of constant widths.
+#[inline(always)]
+fn write_record<W: BitWrite>(writer: &mut W, state: u64) -> Result<(), Error> {
+    writer.write::<Bits<13>, u16>((state >> 51) as u16)?;
+    writer.write::<Bits<3>, u8>((state >> 61) as u8)?;
+    // The highest of 7 digits is the sign.
+    let level = ((state >> 57 << 1) as u8).cast_signed() >> 1;
+    writer.write::<Bits<7>, i8>(level)?;
+    writer.write::<Bits<1>, bool>(state >> 63 == 1)?;
+    writer.write::<Bits<40>, u64>(state >> 24)
 }
 
 /// Writes fields of constant widths.
@@ -37,17 +53,7 @@ pub(crate) fn write_fields<T: Memory, E: Endianness>(
     let mut state = seed;
     for _item in 0..count {
         state = stepped(state);
-        writer.write::<Bits<13>, u16>((state >> 51) as u16)?;
-        writer.write::<Bits<3>, u8>((state >> 61) as u8)?;
-        let level = (state >> 57) as u8;
-        let level = if level < 64 {
-            level as i8
-        } else {
-            (i16::from(level) - 128) as i8
-        };
-        writer.write::<Bits<7>, i8>(level)?;
-        writer.write::<Bits<1>, bool>(state >> 63 == 1)?;
-        writer.write::<Bits<40>, u64>(state >> 24)?;
+        write_record(&mut writer, state)?;
     }
     writer.byte_align()
 }
