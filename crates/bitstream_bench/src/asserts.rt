@@ -24,19 +24,11 @@ pub(crate) fn holds_of(rt: &impl Abort, what: bool, text: &str) {
     assert!(rt; what, "{text}");
 }
 
-/// Whether each of these holds.
-fn all_hold(what: &[bool]) -> bool {
-    for holds in what {
-        if !*holds {
-            return false;
-        }
-    }
-    true
-}
-
-/// Asserts that each of these holds, and else prints them.
+/// Asserts that each of these holds, and else tells which does not.
 pub(crate) fn each_holds(rt: &impl Abort, what: &[bool]) {
-    assert!(rt; all_hold(what), "{what:?}");
+    for (at, holds) in what.iter().enumerate() {
+        assert!(rt; *holds, "{at}");
+    }
 }
 
 /// Whether a call answers the wanted value.
