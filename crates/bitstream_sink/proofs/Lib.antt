@@ -1,4 +1,3 @@
 pub mod BestLemmas
 pub mod CountLemmas
-pub mod OrderLemmas
 pub mod RecorderLemmas

@@ -1,16 +1,24 @@
-//! A counter of written bits, with an order.
-ghost use Rattle.std.specs.Prelude.{◌≡◌, ℕ};
+//! A counter of written bits.
+ghost use Rattle.std.specs.Prelude.{◌≡◌, ℕ, ◌≤◌};
 
 use crate::counter::Counter;
-use crate::written::BitsWritten;
+use crate::counter::values::{next_byte, value_of};
 use bitstream_count::count::{Count, SignedCount};
 use bitstream_count::error::Error;
 use bitstream_number::number::{Primitive, SignedInteger, UnsignedInteger, Width};
 use bitstream_order::order::Endianness;
+use bitstream_stream::check::{check, check_signed};
+use bitstream_stream::vbr::vbr_bits;
 use bitstream_stream::write::BitWrite;
 use std::marker::PhantomData;
 
-/// Counts the bits that are written to it, in the order E, as [`BitsWritten`] does.
+/// Counts the bits that are written to it in the order E and keeps none of them, so a length is known
+/// before it is written. It takes no memory. [`BitsWritten`](crate::written::BitsWritten) is one whose
+/// order need not be named.
+///
+/// A call adds the length of its word, in one sum. If the sum is above the greatest number of N, the
+/// call answers `CounterOverflow` and adds nothing. Errors of a width or a value come first, as those
+/// of a writer. A word has the same length in both orders of bits.
 ///
 /// # Examples
 ///
@@ -24,17 +32,20 @@ use std::marker::PhantomData;
 /// ```
 #[derive(Drop)]
 pub struct BitCounter<N: Counter, E> {
-    bits: BitsWritten<N>,
+    count: N,
     order: PhantomData<E>,
+    ghost within: { N.value count ≤ N.greatest },
 }
 
 impl<N: Counter, E: Endianness> BitCounter<N, E> {
+    ghost use Rattle.bitstream_sink.specs.Counting.{CountsWord};
+
     /// Returns a counter to which nothing was written.
     pub fn new() -> BitCounter<N, E>
         ensures { ⟦<BitCounter<N, E> as BitWrite>⟧.sink.len result ≡ 0 }
     {
         BitCounter {
-            bits: BitsWritten::new(),
+            count: N::default(),
             order: PhantomData,
         }
     }
@@ -43,22 +54,44 @@ impl<N: Counter, E: Endianness> BitCounter<N, E> {
     pub fn written(&self) -> N
         ensures { N.value result ≡ ⟦<BitCounter<N, E> as BitWrite>⟧.sink.len self.now }
     {
-        self.bits.written()
+        self.count
     }
 
     /// Returns the number of bits that were written.
     pub fn into_written(self) -> N
         ensures { N.value result ≡ ⟦<BitCounter<N, E> as BitWrite>⟧.sink.len self }
     {
-        self.bits.into_written()
+        self.count
+    }
+
+    /// Counts a word of the given number of bits.
+    ///
+    /// # Errors
+    ///
+    /// `CounterOverflow` if the sum is above the greatest number of N. Nothing is added then.
+    #[inline(always)]
+    fn add(&mut self, bits: u128) -> Result<(), Error>
+        ensures { CountsWord ⟦<BitCounter<N, E> as BitWrite>⟧.sink bits self.old result self.new }
+    {
+        let bits = value_of::<N>(bits)?;
+        self.count.checked_add_assign(bits)?;
+        Ok(())
+    }
+}
+
+impl<N: Counter, E: Endianness> Default for BitCounter<N, E> {
+    ghost is_default = { λ counter. ⟦<BitCounter<N, E> as BitWrite>⟧.sink.len counter ≡ 0 };
+
+    fn default() -> BitCounter<N, E> {
+        BitCounter::new()
     }
 }
 
 impl<N: Counter, E: Endianness> BitWrite for BitCounter<N, E> {
     ghost use Rattle.bitstream_sink.specs.Counting.{counter_sink};
 
-    ghost sink = { counter_sink E.order (λ counter. N.value counter.bits.count) N.greatest N.full
-        (λ counter. counter.bits.within) };
+    ghost sink = { counter_sink E.order (λ counter. N.value counter.count) N.greatest N.full
+        (λ counter. counter.within) };
 
     #[inline(always)]
     fn write_unsigned_counted<C: Count, U: UnsignedInteger>(
@@ -66,7 +99,9 @@ impl<N: Counter, E: Endianness> BitWrite for BitCounter<N, E> {
         count: C,
         value: U,
     ) -> Result<(), Error> {
-        self.bits.write_unsigned_counted(count, value)
+        let bits = count.bits();
+        check(bits, value)?;
+        self.add(u128::from(bits))
     }
 
     #[inline(always)]
@@ -75,52 +110,60 @@ impl<N: Counter, E: Endianness> BitWrite for BitCounter<N, E> {
         count: C,
         value: S,
     ) -> Result<(), Error> {
-        self.bits.write_signed_counted(count, value)
+        let bits = count.bits();
+        check_signed(bits, value)?;
+        self.add(u128::from(bits))
     }
 
     #[inline(always)]
     fn write_from<V: Primitive>(&mut self, value: V) -> Result<(), Error> {
-        self.bits.write_as_from::<E, V>(value)
+        self.write_as_from::<E, V>(value)
     }
 
     #[inline(always)]
     fn write_as_from<F: Endianness, V: Primitive>(&mut self, value: V) -> Result<(), Error> {
-        self.bits.write_as_from::<F, V>(value)
+        let bytes = F::value_to_bytes(value);
+        self.write_bytes(V::as_bytes(&bytes))
     }
 
     fn byte_aligned(&self) -> bool {
-        self.bits.byte_aligned()
+        self.count.byte_aligned()
     }
 
     fn has_room(&self, bits: u128) -> bool {
-        self.bits.has_room(bits)
+        let mut count = self.count;
+        match value_of::<N>(bits) {
+            Ok(bits) => count.checked_add_assign(bits).is_ok(),
+            Err(_past) => false,
+        }
     }
 
     #[inline(always)]
     fn write_unary<S: Width>(&mut self, value: u32) -> Result<(), Error> {
-        self.bits.write_unary::<S>(value)
+        self.add(u128::from(value) + 1)
     }
 
     #[inline(always)]
-    fn write_bit(&mut self, bit: bool) -> Result<(), Error> {
-        self.bits.write_bit(bit)
+    fn write_bit(&mut self, _bit: bool) -> Result<(), Error> {
+        self.add(1)
     }
 
     fn byte_align(&mut self) -> Result<(), Error> {
-        self.bits.byte_align()
+        self.count = next_byte(self.count)?;
+        Ok(())
     }
 
     #[inline(always)]
     fn write_bytes(&mut self, bytes: &[u8]) -> Result<(), Error> {
-        self.bits.write_bytes(bytes)
+        self.add(bytes.len() as u128 * 8)
     }
 
     #[inline(always)]
     fn pad(&mut self, bits: u32) -> Result<(), Error> {
-        self.bits.pad(bits)
+        self.add(u128::from(bits))
     }
 
     fn write_unsigned_vbr<F: Width, U: UnsignedInteger>(&mut self, value: U) -> Result<(), Error> {
-        self.bits.write_unsigned_vbr::<F, U>(value)
+        self.add(u128::from(vbr_bits::<F, U>(value)))
     }
 }

@@ -1,12 +1,6 @@
-use Rattle.std.proofs.Common.{refl}
-use Rattle.bitstream_number.specs.Word.{High}
-use Rattle.bitstream_sink.proofs.OrderLemmas.{reordered}
+use Rattle.std.proofs.Common.{◌∙◌, refl, sym, false}
+use Rattle.std.proofs.lemmas.List.{length-replicate}
 use Rattle.bitstream_sink.proofs.bit_counter.BitCounterBitWrite.pad.Goals as goal
 
 pub returns : goal.returns
-returns g c =
-    let value = g.N.Counter.value in
-    record {
-      writes = reordered High g.E.Endianness.order (λ a. a.bits) (λ w. value w.count) g.N.Counter.greatest
-          g.N.Counter.full (λ w. w.within) _ _ _ _ _ refl c.pad.ensures.writes;
-    }
+returns g c = record { writes = c.add.ensures _ _ refl (length-replicate c.args.bits false ∙ sym c.from.ensures) }

@@ -1,12 +1,5 @@
 use Rattle.std.proofs.Common.{refl}
-use Rattle.bitstream_number.specs.Word.{High}
-use Rattle.bitstream_sink.proofs.OrderLemmas.{reordered}
 use Rattle.bitstream_sink.proofs.bit_counter.BitCounterBitWrite.write_bit.Goals as goal
 
 pub returns : goal.returns
-returns g c =
-    let value = g.N.Counter.value in
-    record {
-      writes = reordered High g.E.Endianness.order (λ a. a.bits) (λ w. value w.count) g.N.Counter.greatest
-          g.N.Counter.full (λ w. w.within) _ _ _ _ _ refl c.write_bit.ensures.writes;
-    }
+returns g c = record { writes = c.add.ensures _ _ refl refl }

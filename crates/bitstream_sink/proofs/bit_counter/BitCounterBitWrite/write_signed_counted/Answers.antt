@@ -1,12 +1,19 @@
-use Rattle.bitstream_number.specs.Word.{High}
-use Rattle.bitstream_sink.proofs.OrderLemmas.{reordered, same-signed}
+use Rattle.std.proofs.Common.{◌∙◌, refl, sym}
+use Rattle.bitstream_number.specs.Word.{signed_word}
+use Rattle.bitstream_number.proofs.WordLemmas.{length-word}
+use Rattle.bitstream_stream.proofs.SinkLemmas.{refuses, exit_is}
 use Rattle.bitstream_sink.proofs.bit_counter.BitCounterBitWrite.write_signed_counted.Goals as goal
 
+pub returns-in_err-check_signed : goal.returns-in_err-check_signed
+returns-in_err-check_signed g c = record {
+  writes = refuses _ _ _ _ _ refl
+      (rw (← c.bits-bits.ensures.value) (c.in_err-check_signed.ensures.refusal _ _))
+      (exit_is _ c.from_residual.ensures.1);
+}
+
 pub returns : goal.returns
-returns g c =
-    let value = g.N.Counter.value in
-    record {
-      writes = reordered High g.E.Endianness.order (λ a. a.bits) (λ w. value w.count) g.N.Counter.greatest
-          g.N.Counter.full (λ w. w.within) _ _ _ _ _ (same-signed High g.E.Endianness.order g.S.Numeric.BITS_SIZE _ _ _)
-          c.write_signed_counted.ensures.writes;
-    }
+returns g c = record {
+  writes = c.add.ensures _ (signed_word g.E.Endianness.order c.bits-bits.result (g.S.Numeric.integer c.args.value))
+      (rw (← c.bits-bits.ensures.value) (c.in_ok-check_signed.ensures.word g.E.Endianness.order _)) (length-word g.E.Endianness.order _ _
+      ∙ sym c.from.ensures);
+}

@@ -1,13 +1,5 @@
-use Rattle.bitstream_count.proofs.VbrLemmas.{length-vbr_word}
-use Rattle.bitstream_number.specs.Word.{High}
-use Rattle.bitstream_sink.proofs.OrderLemmas.{reordered}
+use Rattle.std.proofs.Common.{◌∙◌, refl, sym}
 use Rattle.bitstream_sink.proofs.bit_counter.BitCounterBitWrite.write_unsigned_vbr.Goals as goal
 
 pub returns : goal.returns
-returns g c =
-    let value = g.N.Counter.value in
-    record {
-      writes = reordered High g.E.Endianness.order (λ a. a.bits) (λ w. value w.count) g.N.Counter.greatest
-          g.N.Counter.full (λ w. w.within) _ _ _ _ _ (length-vbr_word g.E.Endianness.order High g.F.Width.BITS _)
-          c.write_unsigned_vbr.ensures.writes;
-    }
+returns g c = record { writes = c.add.ensures _ _ refl (c.vbr_bits.ensures g.E.Endianness.order ∙ sym c.from.ensures) }

@@ -1,5 +1,5 @@
 use Rattle.std.proofs.Common.{refl}
-use Rattle.bitstream_sink.proofs.written.BitsWrittenBitWrite.byte_aligned.Goals as goal
+use Rattle.bitstream_sink.proofs.bit_counter.BitCounterBitWrite.byte_aligned.Goals as goal
 
 pub returns : goal.returns
 returns g c = record {

@@ -1,5 +1,0 @@
-use Rattle.std.proofs.Common.{refl}
-use Rattle.bitstream_sink.proofs.written.BitsWrittenBitWrite.write_bit.Goals as goal
-
-pub returns : goal.returns
-returns g c = record { writes = c.add.ensures _ _ refl refl }
