@@ -190,7 +190,7 @@ fn example_of_bit_recorder(rt: HostRuntime) {
 }
 
 #[test]
-fn example_of_front(rt: HostRuntime) {
+fn example_of_bits_written(rt: HostRuntime) {
     use bitstream_io::{BitWrite, BitsWritten, Bits};
 
     let mut counter = BitsWritten::<u16>::new();
