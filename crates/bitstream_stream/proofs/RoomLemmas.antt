@@ -191,12 +191,12 @@ module _ {E : Type 0} (o : Order) (es : List WriteEntry) (a : BitWriter SliceMut
       (subst (λ n. HasRoom (writer_state written_contents (λ target. slice_reference target ∷ []) a)
       (length (write_run fs n))) (sym started) (new_room _ name len (length (write_run fs 0)) fresh few)) h
 
-  -- the calls are done
+  -- accepted calls on a new writer, over bytes with room for them and for an alignment behind them, are done
   pub calls_with_room : (b : BitWriter SliceMut E) (r : Result (Unit {0}) Error) → WritesAll slice_sink es a r b
       → r ≡ Ok tt
   calls_with_room b r h = calls_done es b r all (let less = run_before es 0 in omega arith) h
 
-  -- and so is the alignment behind them
+  -- and so is the alignment behind these calls
   pub align_with_room : (m b : BitWriter SliceMut E) (r : Result (Unit {0}) Error)
       → WritesAll slice_sink es a (Ok tt) m → Writes slice_sink align m r b → r ≡ Ok tt
   align_with_room m b r h k =

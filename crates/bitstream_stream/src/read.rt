@@ -301,7 +301,7 @@ pub trait BitRead {
 
     /// Reads an unsigned number of variable width, in groups of `F::BITS` bits. The highest bit of
     /// a group says whether another group follows. The others are digits of the number, the lowest
-    /// digits first.
+    /// digits first. The format is that of LLVM's bitstreams (`vbr`).
     ///
     /// # Errors
     ///
@@ -334,8 +334,8 @@ pub trait BitRead {
         self.read_groups::<F, U>(false)
     }
 
-    /// Reads a signed number of variable width. It is encoded as an unsigned one (zigzag): x as 2x,
-    /// or as -2x - 1 if x is negative.
+    /// Reads a signed number of variable width. It is encoded as an unsigned one, by the zigzag of
+    /// Protocol Buffers: x as 2x, or as -2x - 1 if x is negative.
     ///
     /// # Errors
     ///

@@ -244,7 +244,7 @@ pub trait BitWrite {
 
     /// Writes an unsigned number of variable width, in as few groups of `F::BITS` bits as hold it.
     /// The highest bit of a group says whether another group follows. The others are digits of the
-    /// number, the lowest digits first.
+    /// number, the lowest digits first. The format is that of LLVM's bitstreams (`vbr`).
     fn write_unsigned_vbr<F: Width, U: UnsignedInteger>(&mut self, value: U) -> Result<(), Error>
         requires some { 2 ≤ F.BITS }
         requires within { F.BITS < U.BITS_SIZE }
@@ -263,12 +263,8 @@ pub trait BitWrite {
         self.write_unsigned::<F, U>(rest)
     }
 
-    /// Writes a signed number of variable width. It is encoded as an unsigned one (zigzag): x as
-    /// 2x, or as -2x - 1 if x is negative.
-    ///
-    /// # Errors
-    ///
-    /// As [`write_unsigned_vbr`](BitWrite::write_unsigned_vbr).
+    /// Writes a signed number of variable width. It is encoded as an unsigned one, by the zigzag of
+    /// Protocol Buffers: x as 2x, or as -2x - 1 if x is negative.
     fn write_signed_vbr<F: Width, S: SignedInteger>(&mut self, value: S) -> Result<(), Error>
         requires some { 2 ≤ F.BITS }
         requires within { F.BITS < S.BITS_SIZE }
