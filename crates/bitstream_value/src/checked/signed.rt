@@ -65,7 +65,7 @@ impl<const BITS: u32, S: SignedInteger> CheckablePrimitive for CheckedSignedFixe
         reader: &mut R,
         count: FixedSignedBitCount<BITS>,
     ) -> Result<CheckedSignedFixed<BITS, S>, Error> {
-        let value = reader.read_signed_counted(SignedBitCount::from(count))?;
+        let value = reader.read_signed_var(BITS)?;
         Ok(Checked::of(count, value))
     }
 }

@@ -46,8 +46,7 @@ impl<const BITS: u32, U: UnsignedInteger> Checkable for CheckedUnsignedFixed<BIT
     ghost word = { λ o c. word_of o BITS (U.value c.1) };
 
     fn write<W: BitWrite>(&self, writer: &mut W) -> Result<(), Error> {
-        let (count, value) = self.into_count_value();
-        writer.write_unsigned_counted(BitCount::from(count), value)
+        writer.write_unsigned_var(BITS, self.into_value())
     }
 
     fn written_bits(&self) -> u32 {
@@ -66,7 +65,7 @@ impl<const BITS: u32, U: UnsignedInteger> CheckablePrimitive for CheckedUnsigned
         reader: &mut R,
         count: FixedBitCount<BITS>,
     ) -> Result<CheckedUnsignedFixed<BITS, U>, Error> {
-        let value = reader.read_unsigned_counted(BitCount::from(count))?;
+        let value = reader.read_unsigned_var(BITS)?;
         Ok(Checked::of(count, value))
     }
 }

@@ -6,15 +6,15 @@ pub returns-in_err-value : goal.returns-in_err-value
 returns-in_err-value g c =
     record {
       reads = signed_checked-stops _ c.args.count _ _ _ c.from_residual.result c.from_residual.ensures.1
-          (rw c.from.ensures at c.in_err-value.ensures.reads);
+          c.in_err-value.ensures.reads;
     }
 
 pub of-requires : goal.of-requires
-of-requires g c = signed-holds _ _ _ (rw c.from.ensures at c.in_ok-value.ensures.reads)
+of-requires g c = signed-holds _ _ _ c.in_ok-value.ensures.reads
 
 pub returns : goal.returns
 returns g c =
     record {
       reads = signed_checked-was_done c.args.count _ _ _ c.of.ensures.count
-          (ap g.S.Numeric.integer c.of.ensures.value) (rw c.from.ensures at c.in_ok-value.ensures.reads);
+          (ap g.S.Numeric.integer c.of.ensures.value) c.in_ok-value.ensures.reads;
     }

@@ -4,8 +4,8 @@ use Rattle.bitstream_value.proofs.checked.unsigned.CheckedUnsignedFixedCheckable
 
 pub returns : goal.returns
 returns g c =
-    let parts = c.into_count_value-value.ensures in
+    let kept = c.into_value.ensures in
     record {
-      writes = writes-held g.W.BitWrite.sink _ _ c.from.ensures refl (ap g.U.UnsignedInteger.value parts.value)
-          parts.holds c.write_unsigned_counted.ensures.writes;
+      writes = writes-held g.W.BitWrite.sink _ _ refl refl (ap g.U.UnsignedInteger.value kept.value) kept.holds
+          c.write_unsigned_var.ensures.writes;
     }

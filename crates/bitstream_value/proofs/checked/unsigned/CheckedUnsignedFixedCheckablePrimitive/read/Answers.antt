@@ -7,16 +7,16 @@ pub returns-in_err-value : goal.returns-in_err-value
 returns-in_err-value g c =
     record {
       reads = checked-stops _ c.args.count _ _ _ c.from_residual.result c.from_residual.ensures.1
-          (rw c.from.ensures at c.in_err-value.ensures.reads);
+          c.in_err-value.ensures.reads;
     }
 
 pub of-requires : goal.of-requires
-of-requires g c = unsigned-holds _ _ _ (rw c.from.ensures at c.in_ok-value.ensures.reads)
+of-requires g c = unsigned-holds _ _ _ c.in_ok-value.ensures.reads
 
 pub returns : goal.returns
 returns g c =
     record {
       reads = checked-was_done c.args.count _ _ _ c.of.ensures.count
           (ap (λ x. pos (g.U.UnsignedInteger.value x)) c.of.ensures.value)
-          (rw c.from.ensures at c.in_ok-value.ensures.reads);
+          c.in_ok-value.ensures.reads;
     }
