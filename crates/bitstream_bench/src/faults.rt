@@ -35,14 +35,16 @@ fn fails_to_read<R: BitRead>(alloc: Global, reader: &mut R) -> bool {
 fn r13_faults(rt: HostRuntime) {
     let mut writer = BitWriter::<_, BE>::new(Refuse {
         inner: Vec::new(rt.alloc()),
-        left: 1,
+        left: Some(1),
+        once: false,
         kind: ErrorKind::BrokenPipe,
     });
     holds(&rt, fails_to_write(&mut writer) & writer.writer().is_none());
     are(&rt, &writer.into_writer().inner, &[1]);
     let mut reader = BitReader::<_, BE>::new(Refuse {
         inner: [0xb1, 0xed].as_slice(),
-        left: 1,
+        left: Some(1),
+        once: false,
         kind: ErrorKind::ConnectionReset,
     });
     holds(&rt, fails_to_read(rt.alloc(), &mut reader));

@@ -10,7 +10,7 @@ use bitfields_core::{Fault, Reason, parse_layout};
 use std::alloc::{AllocError, Global};
 use std::io::ErrorKind;
 use std::process::Abort;
-use test_streams::{Count, Drip, RefuseOnce};
+use test_streams::{Count, Drip, Refuse};
 
 /// Which request of each stream is refused, if any: the first is 0. Each later one is served again.
 #[derive(Clone, Copy, Drop)]
@@ -62,8 +62,13 @@ fn bytes_of(alloc: Global, text: &str) -> Vec<u8> {
     }
 }
 
-fn stream<S>(inner: S, left: Option<u32>, kind: ErrorKind) -> Count<RefuseOnce<S>> {
-    let inner = RefuseOnce { inner, left, kind };
+fn stream<S>(inner: S, left: Option<u32>, kind: ErrorKind) -> Count<Refuse<S>> {
+    let inner = Refuse {
+        inner,
+        left,
+        once: true,
+        kind,
+    };
     Count {
         inner,
         requests: 0,
@@ -309,12 +314,16 @@ fn ends_refused_by_each(alloc: Global, refusal: &Refusal) -> bool {
     right
 }
 
+/// Asserts that each of these calls ends as it should.
+fn are_refused(rt: &impl Abort, alloc: Global, refusals: &[Refusal]) {
+    for (at, refusal) in refusals.iter().enumerate() {
+        same(rt, (at, ends_refused_by_each(alloc, refusal)), (at, true));
+    }
+}
+
 #[test]
 fn asks_nothing_more_after_a_refusal(rt: HostRuntime) {
-    for (at, refusal) in REFUSALS.iter().enumerate() {
-        let right = ends_refused_by_each(rt.alloc(), refusal);
-        same(&rt, (at, right), (at, true));
-    }
+    are_refused(&rt, rt.alloc(), &REFUSALS);
 }
 
 /// Whether a row ends as it should if one of the first requests of its input or output is refused.
@@ -375,11 +384,16 @@ fn asks_for(alloc: Global, demand: &Demand) -> bool {
     (ended.left == demand.1) & (ended.requests == demand.2)
 }
 
+/// Asserts that each of these calls does.
+fn ask_for(rt: &impl Abort, alloc: Global, demands: &[Demand]) {
+    for demand in demands {
+        holds_of(rt, asks_for(alloc, demand), demand.0.0);
+    }
+}
+
 #[test]
 fn asks_for_no_byte_more(rt: HostRuntime) {
-    for demand in &DEMANDS {
-        holds_of(&rt, asks_for(rt.alloc(), demand), demand.0.0);
-    }
+    ask_for(&rt, rt.alloc(), &DEMANDS);
 }
 
 #[test]

@@ -262,7 +262,8 @@ fn lists_of_reads_answer_up_to_a_refusal(rt: HostRuntime) {
     for (left, wanted) in PACKET_REFUSED.iter().enumerate() {
         let mut reader = BitReader::<_, BE>::new(Refuse {
             inner: D.as_slice(),
-            left: u32::try_from(left).unwrap_or(u32::MAX),
+            left: u32::try_from(left).ok(),
+            once: false,
             kind: ErrorKind::ConnectionReset,
         });
         holds(&rt, are_answered(rt.alloc(), &mut reader, &PACKET, wanted));

@@ -171,13 +171,14 @@ fn make_calls<S: Stage>(
 fn stream_of<S>(inner: S, way: Way) -> Count<Refuse<Drip<S>>> {
     let drips = matches!(way, Way::Dripped);
     let (left, kind) = match way {
-        Way::Refused(fault) => (fault.served, fault.kind),
-        _ => (u32::MAX, ErrorKind::Other),
+        Way::Refused(fault) => (Some(fault.served), fault.kind),
+        _ => (None, ErrorKind::Other),
     };
     Count {
         inner: Refuse {
             inner: Drip { inner, drips },
             left,
+            once: false,
             kind,
         },
         requests: 0,

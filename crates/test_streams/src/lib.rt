@@ -1,5 +1,5 @@
-//! Streams for tests: one that drips, one that refuses, one that refuses once, one that counts and one
-//! that never ends; and memory that refuses.
+//! Streams for tests: one that drips, one that refuses, one that counts and one that never ends; and
+//! memory that refuses.
 #![tactic(auto)]
 
 mod count;
@@ -7,11 +7,9 @@ mod drip;
 mod endless;
 mod memory;
 mod refuse;
-mod refuse_once;
 
 pub use count::Count;
 pub use drip::Drip;
 pub use endless::Endless;
 pub use memory::RefuseMemory;
 pub use refuse::Refuse;
-pub use refuse_once::RefuseOnce;

@@ -1,5 +1,6 @@
 //! A stream that refuses.
-ghost use Rattle.std.specs.Prelude.{◌≡◌, ◌-◌, ◌<◌, OnOk, IsOk, IsErrAnd};
+ghost use Rattle.std.specs.Prelude.{◌≡◌, OnOk, IsOk, IsErrAnd};
+ghost use Rattle.test_streams.specs.Refusing.{left_after};
 ghost use Rattle.std.specs.IoError.{error_kind};
 ghost use Rattle.std.specs.Io.{ReadsAtMost, WritesAtMost};
 ghost use Rattle.std.specs.Io.KnownBytes.{ReadConsumes, WriteAppends, Consumes, Appends, Keeps};
@@ -8,13 +9,16 @@ ghost use Rattle.std.specs.Io.Seek.{SeekMoves};
 use std::io;
 use std::io::{ErrorKind, Read, Seek, SeekFrom, Write};
 
-/// Serves `left` requests, and refuses each later one. A refused request reaches no byte.
+/// Serves `left` requests, refuses the next one, and refuses each later one too, or serves it if it
+/// refuses `once`. A refused request reaches no byte.
 #[derive(Drop)]
 pub struct Refuse<S> {
     /// The stream that it stands before.
     pub inner: S,
-    /// How many requests it still serves.
-    pub left: u32,
+    /// How many requests it serves before the next one that it refuses; `None` if it serves all.
+    pub left: Option<u32>,
+    /// Whether it refuses one request alone.
+    pub once: bool,
     /// The kind of each refusal, which is not `Interrupted`: std would ask again.
     pub kind: ErrorKind,
 }
@@ -22,16 +26,23 @@ pub struct Refuse<S> {
 impl<S> Refuse<S> {
     /// Counts a request down, or refuses it.
     fn ask(&mut self) -> io::Result<()>
-        ensures refuses { self.old.left ≡ 0 → IsErrAnd result (λ e. error_kind e ≡ self.old.kind) }
-        ensures serves { 0 < self.old.left → IsOk result }
-        ensures same { (self.new.inner ≡ self.old.inner) × (self.new.kind ≡ self.old.kind) }
-        ensures left { self.new.left ≡ self.old.left - 1 }
+        ensures refuses { self.old.left ≡ Some 0 → IsErrAnd result (λ e. error_kind e ≡ self.old.kind) }
+        ensures serves { ¬ (self.old.left ≡ Some 0) → IsOk result }
+        ensures inner { self.new.inner ≡ self.old.inner }
+        ensures same { (self.new.once ≡ self.old.once) × (self.new.kind ≡ self.old.kind) }
+        ensures left { self.new.left ≡ left_after self.old.once self.old.left }
     {
-        if self.left == 0 {
-            return Err(io::Error::from(self.kind));
+        let Some(left) = self.left else {
+            return Ok(());
+        };
+        if left > 0 {
+            self.left = Some(left - 1);
+            return Ok(());
         }
-        self.left -= 1;
-        Ok(())
+        if self.once {
+            self.left = None;
+        }
+        Err(io::Error::from(self.kind))
     }
 }
 
@@ -42,9 +53,9 @@ impl<S: Read> Read for Refuse<S> {
         ensures bound { ReadsAtMost result buf.new }
         ensures bytes { ReadConsumes (S.remaining self.old.inner) (S.remaining self.new.inner)
             result buf.new }
-        ensures refuses { self.old.left ≡ 0 → IsErrAnd result (λ e. error_kind e ≡ self.old.kind) }
-        ensures untouched { self.old.left ≡ 0 → self.new.inner ≡ self.old.inner }
-        ensures left { self.new.left ≡ self.old.left - 1 }
+        ensures refuses { self.old.left ≡ Some 0 → IsErrAnd result (λ e. error_kind e ≡ self.old.kind) }
+        ensures untouched { self.old.left ≡ Some 0 → self.new.inner ≡ self.old.inner }
+        ensures left { self.new.left ≡ left_after self.old.once self.old.left }
     {
         // A request that is refused takes no byte.
         self.ask()?;
@@ -54,9 +65,9 @@ impl<S: Read> Read for Refuse<S> {
     fn read_exact(&mut self, buf: &mut [u8]) -> io::Result<()>
         ensures bytes { OnOk result (Consumes (S.remaining self.old.inner) (S.remaining self.new.inner)
             buf.new) }
-        ensures refuses { self.old.left ≡ 0 → IsErrAnd result (λ e. error_kind e ≡ self.old.kind) }
-        ensures untouched { self.old.left ≡ 0 → self.new.inner ≡ self.old.inner }
-        ensures left { self.new.left ≡ self.old.left - 1 }
+        ensures refuses { self.old.left ≡ Some 0 → IsErrAnd result (λ e. error_kind e ≡ self.old.kind) }
+        ensures untouched { self.old.left ≡ Some 0 → self.new.inner ≡ self.old.inner }
+        ensures left { self.new.left ≡ left_after self.old.once self.old.left }
     {
         self.ask()?;
         self.inner.read_exact(buf)
@@ -70,9 +81,9 @@ impl<S: Write> Write for Refuse<S> {
         ensures bound { WritesAtMost result buf.now }
         ensures bytes { WriteAppends (S.contents self.old.inner) (S.contents self.new.inner)
             result buf.now }
-        ensures refuses { self.old.left ≡ 0 → IsErrAnd result (λ e. error_kind e ≡ self.old.kind) }
-        ensures untouched { self.old.left ≡ 0 → self.new.inner ≡ self.old.inner }
-        ensures left { self.new.left ≡ self.old.left - 1 }
+        ensures refuses { self.old.left ≡ Some 0 → IsErrAnd result (λ e. error_kind e ≡ self.old.kind) }
+        ensures untouched { self.old.left ≡ Some 0 → self.new.inner ≡ self.old.inner }
+        ensures left { self.new.left ≡ left_after self.old.once self.old.left }
     {
         self.ask()?;
         self.inner.write(buf)
@@ -81,9 +92,9 @@ impl<S: Write> Write for Refuse<S> {
     fn write_all(&mut self, buf: &[u8]) -> io::Result<()>
         ensures bytes { OnOk result (Appends (S.contents self.old.inner) (S.contents self.new.inner)
             buf.now) }
-        ensures refuses { self.old.left ≡ 0 → IsErrAnd result (λ e. error_kind e ≡ self.old.kind) }
-        ensures untouched { self.old.left ≡ 0 → self.new.inner ≡ self.old.inner }
-        ensures left { self.new.left ≡ self.old.left - 1 }
+        ensures refuses { self.old.left ≡ Some 0 → IsErrAnd result (λ e. error_kind e ≡ self.old.kind) }
+        ensures untouched { self.old.left ≡ Some 0 → self.new.inner ≡ self.old.inner }
+        ensures left { self.new.left ≡ left_after self.old.once self.old.left }
     {
         self.ask()?;
         self.inner.write_all(buf)
@@ -91,8 +102,12 @@ impl<S: Write> Write for Refuse<S> {
 
     fn flush(&mut self) -> io::Result<()>
         ensures bytes { Keeps (S.contents self.old.inner) (S.contents self.new.inner) }
-        ensures left { self.new.left ≡ self.old.left }
+        ensures refuses { self.old.left ≡ Some 0 → IsErrAnd result (λ e. error_kind e ≡ self.old.kind) }
+        ensures untouched { self.old.left ≡ Some 0 → self.new.inner ≡ self.old.inner }
+        ensures left { self.new.left ≡ left_after self.old.once self.old.left }
     {
+        // A flush is a request too.
+        self.ask()?;
         self.inner.flush()
     }
 }
@@ -106,9 +121,9 @@ impl<S: Seek> Seek for Refuse<S> {
         ensures moves { SeekMoves (S.stream_position self.old.inner) (S.stream_position self.new.inner)
             (S.stream_bytes self.old.inner) to result }
         ensures bytes { Keeps (S.stream_bytes self.old.inner) (S.stream_bytes self.new.inner) }
-        ensures refuses { self.old.left ≡ 0 → IsErrAnd result (λ e. error_kind e ≡ self.old.kind) }
-        ensures untouched { self.old.left ≡ 0 → self.new.inner ≡ self.old.inner }
-        ensures left { self.new.left ≡ self.old.left - 1 }
+        ensures refuses { self.old.left ≡ Some 0 → IsErrAnd result (λ e. error_kind e ≡ self.old.kind) }
+        ensures untouched { self.old.left ≡ Some 0 → self.new.inner ≡ self.old.inner }
+        ensures left { self.new.left ≡ left_after self.old.once self.old.left }
     {
         self.ask()?;
         self.inner.seek(to)
