@@ -1,15 +1,15 @@
 -- Lists of read calls, by what they mean.
-use Rattle.std.proofs.Common.{◌≡◌, ◌⊎◌, inl, inr, ℤ, SFits, to_z, of_z, ℕ, suc, ◌+◌, Bool, true, false, cond, List, [], ◌∷◌, ◌++◌, length, drop, Option, Some, Result, Ok, Err, refl, sym, ap, ap₂, ◌∙◌, subst, append_assoc, arith}
-use Rattle.std.specs.Int.{Width}
+use Rattle.std.proofs.Common.{◌≡◌, ◌⊎◌, inl, inr, ℕ, suc, ◌+◌, Bool, true, false, cond, List, [], ◌∷◌, ◌++◌, length, drop, Option, Some, Result, Ok, Err, refl, sym, ap, ap₂, ◌∙◌, subst, append_assoc, arith}
+use Rattle.std.specs.Prelude.{IsOkAnd, MatchResult}
 use Rattle.std.specs.Result.{IsErrAnd}
 use Rattle.std.proofs.Math.Seq.{drop-append_seam}
-use Rattle.std.proofs.lemmas.Int.{to_z-of_z}
 use Rattle.bitstream_count.specs.Entry.{ReadEntry, Front, TooFew, Takes, gives}
 use Rattle.bitstream_count.specs.declared.error.Error.{Error}
 use Rattle.bitstream_count.specs.declared.error.Error.TheVariants.{RunTooLong}
 use Rattle.bitstream_number.specs.Word.{bits}
 use Rattle.bitstream_number.proofs.WordLemmas.{bits-append}
 use Rattle.bitstream_order.specs.Fault.{read_refusal_of}
+use Rattle.bitstream_order.specs.Gather.{seen}
 use Rattle.bitstream_order.specs.Refusal.{Refusal, TrueEnds}
 use Rattle.bitstream_stream.specs.Reads.{ReaderState, BitSource, HadFailed, ReadDone, ReadRefused, MemoryRefused, ReadOutcome, had_failed, was_done, was_refused, memory_refused, is_run_too_long}
 use Rattle.bitstream_stream.specs.Run.{answer_and, read_run}
@@ -66,13 +66,21 @@ module _ {R A : Type 0} {K : BitSource R} {grows : Bool} (make : A → Answer) {
       → ReadOutcome K grows e s (Err x) t → ReadOutcome K grows (answered make e) s r t
   answered_stops r h k = exit (λ (v : A). gives (make v)) r h k
 
--- a number of a signed type, which stands in the answer as what its bits say
-pub answered_signed : {R : Type 0} {K : BitSource R} {grows : Bool} (make : ℤ → Answer) {e : ReadEntry ℤ} {s t : R}
-    (w : Width) {x : ℤ} → ReadOutcome K grows e s (Ok x) t → SFits w x
-    → ReadOutcome K grows (answered make e) s (Ok (make (to_z w (of_z w x)))) t
-answered_signed {K = K} {grows = grows} make {e = e} {s = s} {t = t} w {x = x} h fits =
-    subst (λ (y : ℤ). ReadOutcome K grows (answered make e) s (Ok (make y)) t) (sym (to_z-of_z w x fits))
-    (answered_ok make h)
+  -- what is made of the answer
+  pub answered_as : {r : Result A Error} (q : Result Answer Error) → MatchResult r (λ x. IsOkAnd q (λ y. y ≡ make x))
+      (λ x. q ≡ Err x) → ReadOutcome K grows e s r t → ReadOutcome K grows (answered make e) s q t
+  answered_as {r = Ok _} (Ok _) is h =
+      subst (λ (z : Answer). ReadOutcome K grows (answered make e) s (Ok z) t) (sym is) (answered_ok h)
+  answered_as {r = Ok _} (Err _) is h = absurd is
+  answered_as {r = Err x} q is h =
+      answered_stops q (subst (λ (z : Result Answer Error). IsErrAnd z (λ y. y ≡ x)) (sym is) refl) h
+
+  -- what is made of a number
+  pub answered_seen : {B : Type 0} (number : B → A) (r : Result B Error) (q : Result Answer Error)
+      → MatchResult r (λ x. IsOkAnd q (λ y. y ≡ make (number x))) (λ x. q ≡ Err x)
+      → ReadOutcome K grows e s (seen number r) t → ReadOutcome K grows (answered make e) s q t
+  answered_seen number (Ok _) q is h = answered_as q is h
+  answered_seen number (Err _) q is h = answered_as q is h
 
 module _ {R : Type 0} (K : BitSource R) where
   pub each_none : (s : R) → ReadsEach K [] s [] s

@@ -69,31 +69,33 @@ impl ReadCall {
             (read_entry R.source.order self.now) reader.old result reader.new }
     {
         match self {
-            ReadCall::Bit => Ok(Answer::Bit(reader.read_bit()?)),
-            ReadCall::U8(bits) => Ok(Answer::U8(reader.read_unsigned_var(*bits)?)),
-            ReadCall::U16(bits) => Ok(Answer::U16(reader.read_unsigned_var(*bits)?)),
-            ReadCall::U32(bits) => Ok(Answer::U32(reader.read_unsigned_var(*bits)?)),
-            ReadCall::U64(bits) => Ok(Answer::U64(reader.read_unsigned_var(*bits)?)),
-            ReadCall::U128(bits) => Ok(Answer::U128(reader.read_unsigned_var(*bits)?)),
-            ReadCall::I8(bits) => Ok(Answer::I8(reader.read_signed_var(*bits)?)),
-            ReadCall::I16(bits) => Ok(Answer::I16(reader.read_signed_var(*bits)?)),
-            ReadCall::I32(bits) => Ok(Answer::I32(reader.read_signed_var(*bits)?)),
-            ReadCall::I64(bits) => Ok(Answer::I64(reader.read_signed_var(*bits)?)),
-            ReadCall::I128(bits) => Ok(Answer::I128(reader.read_signed_var(*bits)?)),
-            ReadCall::Unary0 => Ok(Answer::Unary(reader.read_unary::<Bits<0>>()?)),
-            ReadCall::Unary1 => Ok(Answer::Unary(reader.read_unary::<Bits<1>>()?)),
-            ReadCall::Vbr4 => Ok(Answer::Vbr(reader.read_unsigned_vbr::<Bits<4>, u64>()?)),
-            ReadCall::Vbr8 => Ok(Answer::Vbr(reader.read_unsigned_vbr::<Bits<8>, u64>()?)),
-            ReadCall::AnyVbr4 => Ok(Answer::Vbr(reader.read_unsigned_vbr_any::<Bits<4>, u64>()?)),
-            ReadCall::AnyVbr8 => Ok(Answer::Vbr(reader.read_unsigned_vbr_any::<Bits<8>, u64>()?)),
-            ReadCall::SignedVbr4 => Ok(Answer::SignedVbr(reader.read_signed_vbr::<
-                Bits<4>,
-                i64,
-            >()?)),
-            ReadCall::SignedVbr8 => Ok(Answer::SignedVbr(reader.read_signed_vbr::<
-                Bits<8>,
-                i64,
-            >()?)),
+            ReadCall::Bit => reader.read_bit().map(Answer::Bit),
+            ReadCall::U8(bits) => reader.read_unsigned_var::<u8>(*bits).map(Answer::U8),
+            ReadCall::U16(bits) => reader.read_unsigned_var::<u16>(*bits).map(Answer::U16),
+            ReadCall::U32(bits) => reader.read_unsigned_var::<u32>(*bits).map(Answer::U32),
+            ReadCall::U64(bits) => reader.read_unsigned_var::<u64>(*bits).map(Answer::U64),
+            ReadCall::U128(bits) => reader.read_unsigned_var::<u128>(*bits).map(Answer::U128),
+            ReadCall::I8(bits) => reader.read_signed_var::<i8>(*bits).map(Answer::I8),
+            ReadCall::I16(bits) => reader.read_signed_var::<i16>(*bits).map(Answer::I16),
+            ReadCall::I32(bits) => reader.read_signed_var::<i32>(*bits).map(Answer::I32),
+            ReadCall::I64(bits) => reader.read_signed_var::<i64>(*bits).map(Answer::I64),
+            ReadCall::I128(bits) => reader.read_signed_var::<i128>(*bits).map(Answer::I128),
+            ReadCall::Unary0 => reader.read_unary::<Bits<0>>().map(Answer::Unary),
+            ReadCall::Unary1 => reader.read_unary::<Bits<1>>().map(Answer::Unary),
+            ReadCall::Vbr4 => reader.read_unsigned_vbr::<Bits<4>, u64>().map(Answer::Vbr),
+            ReadCall::Vbr8 => reader.read_unsigned_vbr::<Bits<8>, u64>().map(Answer::Vbr),
+            ReadCall::AnyVbr4 => reader
+                .read_unsigned_vbr_any::<Bits<4>, u64>()
+                .map(Answer::Vbr),
+            ReadCall::AnyVbr8 => reader
+                .read_unsigned_vbr_any::<Bits<8>, u64>()
+                .map(Answer::Vbr),
+            ReadCall::SignedVbr4 => reader
+                .read_signed_vbr::<Bits<4>, i64>()
+                .map(Answer::SignedVbr),
+            ReadCall::SignedVbr8 => reader
+                .read_signed_vbr::<Bits<8>, i64>()
+                .map(Answer::SignedVbr),
             ReadCall::Bytes(bytes) => {
                 let bytes = reader.read_to_vec(alloc, *bytes)?;
                 Ok(Answer::Bytes(ByteList::new(bytes)))
