@@ -6,7 +6,7 @@ ghost use Rattle.bitfields_core.specs.Layout.{constant as constant_of, field_of,
 use crate::decimal::decimal_between;
 
 /// A field of a layout, with its numbers.
-#[derive(Clone, Copy, Debug, PartialEq, Eq, Drop)]
+#[derive(Clone, Copy, Drop)]
 pub enum Field {
     /// `uN`: an unsigned number of N bits.
     Unsigned(u32),
@@ -32,7 +32,7 @@ pub enum Field {
 }
 
 /// How many bits each group of a number of variable width has.
-#[derive(Clone, Copy, Debug, PartialEq, Eq, Drop)]
+#[derive(Clone, Copy, Drop)]
 pub enum GroupSize {
     /// 4 bits.
     Four,

@@ -71,7 +71,7 @@ impl fmt::Display for Spaced<'_> {
 }
 
 /// What the value of a field is, and so what its line spells.
-#[derive(Clone, Copy, Debug, PartialEq, Eq, Drop)]
+#[derive(Clone, Copy, Drop)]
 pub enum ValueKind {
     /// The field has no value, and no line.
     Absent,

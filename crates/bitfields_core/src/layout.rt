@@ -9,7 +9,7 @@ use std::alloc::{AllocError, Global};
 use std::marker::Model;
 
 /// A list of 1 to 256 fields, the numbers of each in their ranges.
-#[derive(Debug, Drop)]
+#[derive(Drop)]
 pub struct Layout {
     fields: Vec<Field>,
 }

@@ -20,7 +20,7 @@ use bitstream_io::{BigEndian, Endianness, LittleEndian, Target};
 use std::alloc::{AllocError, Global};
 
 /// What to do with a layout.
-#[derive(Clone, Copy, Debug, PartialEq, Eq, Drop)]
+#[derive(Clone, Copy, Drop)]
 pub enum Command {
     Pack,
     Unpack,
@@ -29,7 +29,7 @@ pub enum Command {
 }
 
 /// An order of bits, by its name in the arguments.
-#[derive(Clone, Copy, Debug, PartialEq, Eq, Drop)]
+#[derive(Clone, Copy, Drop)]
 pub enum NamedOrder {
     /// `be`: bit 7 of each byte first.
     Big,
