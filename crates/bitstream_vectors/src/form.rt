@@ -173,7 +173,7 @@ pub fn form_of(name: &str, next: &str) -> Result<Form, Objection> {
 }
 
 /// The forms that a name alone spells.
-const PLAIN: [(&str, Form); 22] = [
+const PLAIN: [(&str, Form); 32] = [
     ("align", Form::Align),
     ("aligned", Form::Aligned),
     ("array0", Form::Array(Items::None)),
@@ -189,6 +189,16 @@ const PLAIN: [(&str, Form); 22] = [
     ("current", Form::Seek(Whence::Current)),
     ("cursor", Form::Cursor),
     ("end", Form::Seek(Whence::End)),
+    ("nonzero8", Form::NonZero(Size::Bits8)),
+    ("nonzero16", Form::NonZero(Size::Bits16)),
+    ("nonzero32", Form::NonZero(Size::Bits32)),
+    ("nonzero64", Form::NonZero(Size::Bits64)),
+    ("nonzero128", Form::NonZero(Size::Bits128)),
+    ("optional8", Form::Optional(Size::Bits8)),
+    ("optional16", Form::Optional(Size::Bits16)),
+    ("optional32", Form::Optional(Size::Bits32)),
+    ("optional64", Form::Optional(Size::Bits64)),
+    ("optional128", Form::Optional(Size::Bits128)),
     ("pad", Form::Pad),
     ("place", Form::Place),
     ("skip", Form::Skip),
@@ -220,51 +230,55 @@ fn whole_form(name: &str, next: &str) -> Option<Form> {
     Some(Form::Whole(order, number_of(next)?))
 }
 
-/// What stands before the size in the name of a type that goes in groups.
-const GROUPED: [(&str, Grouped); 4] = [
-    ("u", Grouped::Unsigned),
-    ("i", Grouped::Signed),
-    ("nonzero", Grouped::NonZero),
-    ("optional", Grouped::Optional),
+/// The types that go in groups.
+const GROUPED: [(&str, (Grouped, Size)); 20] = [
+    ("u8", (Grouped::Unsigned, Size::Bits8)),
+    ("u16", (Grouped::Unsigned, Size::Bits16)),
+    ("u32", (Grouped::Unsigned, Size::Bits32)),
+    ("u64", (Grouped::Unsigned, Size::Bits64)),
+    ("u128", (Grouped::Unsigned, Size::Bits128)),
+    ("i8", (Grouped::Signed, Size::Bits8)),
+    ("i16", (Grouped::Signed, Size::Bits16)),
+    ("i32", (Grouped::Signed, Size::Bits32)),
+    ("i64", (Grouped::Signed, Size::Bits64)),
+    ("i128", (Grouped::Signed, Size::Bits128)),
+    ("nonzero8", (Grouped::NonZero, Size::Bits8)),
+    ("nonzero16", (Grouped::NonZero, Size::Bits16)),
+    ("nonzero32", (Grouped::NonZero, Size::Bits32)),
+    ("nonzero64", (Grouped::NonZero, Size::Bits64)),
+    ("nonzero128", (Grouped::NonZero, Size::Bits128)),
+    ("optional8", (Grouped::Optional, Size::Bits8)),
+    ("optional16", (Grouped::Optional, Size::Bits16)),
+    ("optional32", (Grouped::Optional, Size::Bits32)),
+    ("optional64", (Grouped::Optional, Size::Bits64)),
+    ("optional128", (Grouped::Optional, Size::Bits128)),
 ];
 
 /// The type that goes in groups and that a name spells.
 fn grouped_of(name: &str) -> Option<(Grouped, Size)> {
-    for (prefix, value) in GROUPED {
-        if let Some(size) = name.strip_prefix(prefix) {
-            return size_of(size).map(|size| (value, size));
-        }
-    }
-    None
+    named(&GROUPED, name)
 }
 
-/// The form of a call for a number in groups, of the type that the next word spells.
+/// The form of a call for a number in groups, of the type that the next word spells. The name of a
+/// lenient call begins with `any`.
 fn variable_form(name: &str, next: &str) -> Option<Form> {
-    if let Some(name) = name.strip_prefix("any") {
-        return lenient_form(name, next);
-    }
+    let (name, lenient) = match name.strip_prefix("any") {
+        Some(name) => (name, true),
+        None => (name, false),
+    };
     let (field, signed) = field_of(name)?;
-    if next == "array2-u8" {
+    if next == "array2-u8" && !lenient {
         return Some(Form::VariablePair(field));
     }
     let (value, size) = grouped_of(next)?;
-    if signed == matches!(value, Grouped::Signed) {
-        Some(Form::Variable(value, size, field))
-    } else {
-        None
-    }
-}
-
-/// The form of a lenient call for a number in groups, of the type that the next word spells.
-fn lenient_form(name: &str, next: &str) -> Option<Form> {
-    let (field, signed) = field_of(name)?;
-    match (grouped_of(next)?, signed) {
-        ((Grouped::Unsigned, size), false) => {
-            Some(Form::Variable(Grouped::AnyUnsigned, size, field))
-        }
-        ((Grouped::Signed, size), true) => Some(Form::Variable(Grouped::AnySigned, size, field)),
-        _ => None,
-    }
+    let value = match (value, signed, lenient) {
+        (Grouped::Signed, true, false) => Grouped::Signed,
+        (Grouped::Signed, true, true) => Grouped::AnySigned,
+        (Grouped::Unsigned, false, true) => Grouped::AnyUnsigned,
+        (Grouped::Signed, _, _) | (_, true, _) | (_, _, true) => return None,
+        _ => value,
+    };
+    Some(Form::Variable(value, size, field))
 }
 
 /// The number of bits of a group that a call's name spells, and whether it is a call for signed
@@ -295,11 +309,11 @@ fn symbol_form(name: &str, next: &str) -> Option<Form> {
     }
 }
 
-/// The form of a call whose name ends with a type.
+/// The form of a call whose name is a type, or ends with one.
 fn number_form(name: &str) -> Option<Form> {
     match name.split_once('-') {
         Some((call, number)) => word_form(call, number_of(number)?),
-        None => value_form(name),
+        None => number_of(name).map(Form::Value),
     }
 }
 
@@ -314,37 +328,23 @@ fn word_form(call: &str, number: Number) -> Option<Form> {
     }
 }
 
-/// The form of a call for a value of the type that a name spells.
-fn value_form(name: &str) -> Option<Form> {
-    if let Some(size) = name.strip_prefix("nonzero") {
-        size_of(size).map(Form::NonZero)
-    } else if let Some(size) = name.strip_prefix("optional") {
-        size_of(size).map(Form::Optional)
-    } else {
-        number_of(name).map(Form::Value)
-    }
-}
-
-/// The type that a letter and a size spell.
-fn number_of(name: &str) -> Option<Number> {
-    if let Some(size) = name.strip_prefix('u') {
-        size_of(size).map(Number::Unsigned)
-    } else {
-        size_of(name.strip_prefix('i')?).map(Number::Signed)
-    }
-}
-
-/// The sizes.
-const SIZES: [(&str, Size); 5] = [
-    ("8", Size::Bits8),
-    ("16", Size::Bits16),
-    ("32", Size::Bits32),
-    ("64", Size::Bits64),
-    ("128", Size::Bits128),
+/// The integer types.
+const NUMBERS: [(&str, Number); 10] = [
+    ("u8", Number::Unsigned(Size::Bits8)),
+    ("u16", Number::Unsigned(Size::Bits16)),
+    ("u32", Number::Unsigned(Size::Bits32)),
+    ("u64", Number::Unsigned(Size::Bits64)),
+    ("u128", Number::Unsigned(Size::Bits128)),
+    ("i8", Number::Signed(Size::Bits8)),
+    ("i16", Number::Signed(Size::Bits16)),
+    ("i32", Number::Signed(Size::Bits32)),
+    ("i64", Number::Signed(Size::Bits64)),
+    ("i128", Number::Signed(Size::Bits128)),
 ];
 
-fn size_of(name: &str) -> Option<Size> {
-    named(&SIZES, name)
+/// The integer type that a name spells.
+fn number_of(name: &str) -> Option<Number> {
+    named(&NUMBERS, name)
 }
 
 /// The form of a call that is given calls.

@@ -19,6 +19,28 @@ struct Played {
     behind: (u32, u8),
 }
 
+/// The words of a text that says of a recorder: `to ORDER ; behind N V ; recorded L`.
+fn played_of(text: &str) -> Option<(&str, &str, &str, &str)> {
+    let (to, rest) = text.strip_prefix("to ")?.split_once(" ; behind ")?;
+    let (behind, recorded) = rest.split_once(" ; recorded ")?;
+    let (bits, value) = behind.split_once(' ')?;
+    Some((to, bits, value, recorded))
+}
+
+impl Played {
+    /// What such a text says.
+    fn parse(text: &str) -> Result<Played, Objection> {
+        let Some((to, bits, value, recorded)) = played_of(text) else {
+            return Err(Objection::BAD_FORM);
+        };
+        Ok(Played {
+            recorded: number(recorded)?,
+            to: order_of(to)?,
+            behind: (number(bits)?, number(value)?),
+        })
+    }
+}
+
 /// The best of a recorder and a new one that is given calls.
 fn best_of<E: Endianness + Drop>(
     alloc: Global,
@@ -88,14 +110,6 @@ fn record_in<E: Endianness + Drop>(
     agrees(written.as_slice() == bytes, Difference::Bytes)
 }
 
-/// What a text says of a recorder: `to ORDER ; behind N V ; recorded L`.
-fn played_of(text: &str) -> Option<(&str, &str, &str, &str)> {
-    let (to, rest) = text.strip_prefix("to ")?.split_once(" ; behind ")?;
-    let (behind, recorded) = rest.split_once(" ; recorded ")?;
-    let (bits, value) = behind.split_once(' ')?;
-    Some((to, bits, value, recorded))
-}
-
 /// Plays a row of a recorder's order, its calls, the bytes that stand written, and what is done with
 /// the recorder.
 pub fn play_record(
@@ -105,14 +119,7 @@ pub fn play_record(
     bytes: &str,
     after: &str,
 ) -> Result<(), Objection> {
-    let Some((to, bits, value, recorded)) = played_of(after) else {
-        return Err(Objection::BAD_FORM);
-    };
-    let played = Played {
-        recorded: number(recorded)?,
-        to: order_of(to)?,
-        behind: (number(bits)?, number(value)?),
-    };
+    let played = Played::parse(after)?;
     let calls = calls_of(alloc, Kind::Write, calls)?;
     let bytes = bytes_of(alloc, bytes)?;
     match order_of(order)? {

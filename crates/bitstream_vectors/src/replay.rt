@@ -30,17 +30,28 @@ const WRITE_FAULTS: [ErrorKind; 3] = [
 pub fn replay(alloc: Global, line: &str) -> Result<(), Objection> {
     let columns: Vec<&str> = line.split('\t').collect(alloc)?;
     match columns.as_slice() {
-        ["count", kind, calls, "-", after] => play_count(alloc, kind, calls, after),
-        ["record", order, calls, bytes, after] => play_record(alloc, order, calls, bytes, after),
-        [kind, order, calls, bytes] => play_stream(
-            alloc,
-            &Row::parse(alloc, kind, order, calls, bytes, "")?,
-        ),
-        [kind, order, calls, bytes, after] => play_stream(
-            alloc,
-            &Row::parse(alloc, kind, order, calls, bytes, after)?,
-        ),
+        [kind, order, calls, bytes] => {
+            play_stream(alloc, &Row::parse(alloc, kind, order, calls, bytes, "")?)
+        }
+        [kind, order, calls, bytes, after] => play_row(alloc, kind, order, calls, bytes, after),
         _ => Err(Objection::BAD_FORM),
+    }
+}
+
+/// Plays a row that says what holds after its calls: of a counter, with its type in the place of an
+/// order, of a recorder, or of a reader or writer.
+fn play_row(
+    alloc: Global,
+    kind: &str,
+    order: &str,
+    calls: &str,
+    bytes: &str,
+    after: &str,
+) -> Result<(), Objection> {
+    match kind {
+        "count" if bytes == "-" => play_count(alloc, order, calls, after),
+        "record" => play_record(alloc, order, calls, bytes, after),
+        _ => play_stream(alloc, &Row::parse(alloc, kind, order, calls, bytes, after)?),
     }
 }
 

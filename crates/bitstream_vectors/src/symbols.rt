@@ -15,22 +15,23 @@ fn leaf(alloc: Global, symbol: u32) -> Result<Code, AllocError> {
     HuffmanTree::leaf(alloc, symbol)
 }
 
+/// A tree of two, if memory for both was there.
+fn node(zero: Result<Code, AllocError>, one: Result<Code, AllocError>) -> Result<Code, AllocError> {
+    HuffmanTree::node(zero?, one?)
+}
+
 /// The code of a tree.
 fn code(alloc: Global, tree: Tree) -> Result<Code, AllocError> {
     match tree {
         Tree::OneSided => {
-            let last = HuffmanTree::node(leaf(alloc, 2)?, leaf(alloc, 5)?)?;
-            HuffmanTree::node(leaf(alloc, 0)?, HuffmanTree::node(leaf(alloc, 1)?, last)?)
+            let last = node(leaf(alloc, 2), leaf(alloc, 5));
+            node(leaf(alloc, 0), node(leaf(alloc, 1), last))
         }
         Tree::TwoSided => {
-            let first = HuffmanTree::node(leaf(alloc, 4)?, leaf(alloc, 3)?)?;
-            let last = HuffmanTree::node(leaf(alloc, 1)?, leaf(alloc, 0)?)?;
-            HuffmanTree::node(HuffmanTree::node(first, leaf(alloc, 2)?)?, last)
+            let first = node(node(leaf(alloc, 4), leaf(alloc, 3)), leaf(alloc, 2));
+            node(first, node(leaf(alloc, 1), leaf(alloc, 0)))
         }
-        Tree::TwoSevens => {
-            let last = HuffmanTree::node(leaf(alloc, 7)?, leaf(alloc, 8)?)?;
-            HuffmanTree::node(leaf(alloc, 7)?, last)
-        }
+        Tree::TwoSevens => node(leaf(alloc, 7), node(leaf(alloc, 7), leaf(alloc, 8))),
         Tree::Leaf => leaf(alloc, 9),
     }
 }

@@ -10,9 +10,7 @@ use crate::objection::Objection;
 use crate::symbols::{write_limited, write_symbol};
 use crate::variable::{write_variable, write_variable_pair};
 use crate::whole::write_whole;
-use bitstream_io::{
-    BitCount, BitWrite, BitWriteExt, Bits, Integer, SignedInteger, UnsignedInteger, Width,
-};
+use bitstream_io::{BitCount, BitWrite, BitWriteExt, Bits, Integer, Width};
 use std::alloc::Global;
 use std::num::{NonZero, ParseIntError};
 use std::str::FromStr;
@@ -125,34 +123,16 @@ fn write_counted<W: BitWrite>(writer: &mut W, kind: Number, bits: u32, value: &s
     }
 }
 
-/// Writes the word that a text spells.
-fn write_unsigned_word<U: UnsignedInteger + FromStr<Err = ParseIntError>, W: BitWrite>(
-    writer: &mut W,
-    bits: u32,
-    value: &str,
-) -> Answer {
-    Ok(writer.write_unsigned_var::<U>(bits, number(value)?))
-}
-
-/// Writes the word of a signed number that a text spells.
-fn write_signed_word<S: SignedInteger + FromStr<Err = ParseIntError>, W: BitWrite>(
-    writer: &mut W,
-    bits: u32,
-    value: &str,
-) -> Answer {
-    Ok(writer.write_signed_var::<S>(bits, number(value)?))
-}
-
 /// Writes a number by the calls for words alone, at the types that the rows have.
 fn write_word<W: BitWrite>(writer: &mut W, kind: Number, bits: u32, value: &str) -> Answer {
-    match kind {
-        Number::Unsigned(Size::Bits8) => write_unsigned_word::<u8, W>(writer, bits, value),
-        Number::Unsigned(Size::Bits32) => write_unsigned_word::<u32, W>(writer, bits, value),
-        Number::Unsigned(Size::Bits128) => write_unsigned_word::<u128, W>(writer, bits, value),
-        Number::Signed(Size::Bits8) => write_signed_word::<i8, W>(writer, bits, value),
-        Number::Signed(Size::Bits32) => write_signed_word::<i32, W>(writer, bits, value),
-        _ => Err(Objection::UNLISTED),
-    }
+    Ok(match kind {
+        Number::Unsigned(Size::Bits8) => writer.write_unsigned_var::<u8>(bits, number(value)?),
+        Number::Unsigned(Size::Bits32) => writer.write_unsigned_var::<u32>(bits, number(value)?),
+        Number::Unsigned(Size::Bits128) => writer.write_unsigned_var::<u128>(bits, number(value)?),
+        Number::Signed(Size::Bits8) => writer.write_signed_var::<i8>(bits, number(value)?),
+        Number::Signed(Size::Bits32) => writer.write_signed_var::<i32>(bits, number(value)?),
+        _ => return Err(Objection::UNLISTED),
+    })
 }
 
 fn write_non_zero<W: BitWrite>(writer: &mut W, size: Size, bits: u32, value: &str) -> Answer {
