@@ -1,31 +1,12 @@
-//! Whole bytes, and the ways between readers and writers of bits and of bytes. Worked rows of bytes are
-//! played by `bitstream_vectors`.
-use crate::asserts::{are, each_holds, ended, failed, gives, holds, same};
+//! The ways between readers and writers of bits and of bytes. Worked rows of bytes are played by
+//! `bitstream_vectors`.
+use crate::asserts::{are, each_holds, ended, gives, holds, same};
 use bitstream_io::{
-    BE, BigEndian, BitRead, BitReader, BitWrite, BitWriter, ByteRead, ByteReader, ByteWrite, Error,
-    LE, Slice, SliceMut, Source, Target,
+    BE, BigEndian, BitRead, BitReader, BitWrite, BitWriter, ByteRead, ByteWrite, LE, Slice,
+    SliceMut, Source, Target,
 };
-use std::io;
-use std::io::{Cursor, ErrorKind, Seek, SeekFrom, Write};
 
 const D: [u8; 4] = [0xb1, 0xed, 0x3b, 0xc1];
-
-/// Takes a reader by value, and tells whether the byte behind the next one is this.
-fn is_behind_one<R: ByteRead + Drop>(mut reader: R, wanted: u8) -> bool {
-    reader.skip(1).is_ok() & gives(reader.read(), wanted)
-}
-
-#[test]
-fn goes_to_places(rt: HostRuntime) {
-    let mut reader = ByteReader::endian(Cursor::new(D), BigEndian);
-    let places = [
-        gives(reader.seek(SeekFrom::Start(1)), 1),
-        is_behind_one(&mut reader, 0x3b),
-        gives(reader.seek(SeekFrom::End(-4)), 0),
-        gives(reader.read::<u16>(), 0xb1ed),
-    ];
-    each_holds(&rt, &places);
-}
 
 #[test]
 fn goes_from_bits_to_bytes(rt: HostRuntime) {
@@ -93,32 +74,4 @@ fn lends_the_stream_of_a_writer(rt: HostRuntime) {
     each_holds(&rt, &[first, kept, aligned, lent, flushed, last]);
     let stream = writer.into_bytewriter().into_bitwriter().into_writer();
     are(&rt, stream.as_slice(), &[0xa0, 0x3b, 0xc1]);
-}
-
-/// Takes all bytes, and refuses to pass them on.
-#[derive(Drop)]
-struct Stuck;
-
-impl Write for Stuck {
-    fn write(&mut self, buf: &[u8]) -> io::Result<usize> {
-        Ok(buf.len())
-    }
-
-    fn flush(&mut self) -> io::Result<()> {
-        Err(io::Error::from(ErrorKind::BrokenPipe))
-    }
-}
-
-#[test]
-fn a_refused_flush_fails_the_writer(rt: HostRuntime) {
-    let mut writer = BitWriter::<_, BE>::new(Stuck);
-    let written = writer.write_bit(true).is_ok();
-    let refused = matches!(writer.flush(), Err(Error::Stream(ErrorKind::BrokenPipe)));
-    let again = failed(writer.flush());
-    let aligned = matches!(writer.aligned_writer(), Err(Error::Failed));
-    each_holds(
-        &rt,
-        &[written, refused, again, aligned, writer.writer().is_none()],
-    );
-    let _ = writer.into_writer();
 }

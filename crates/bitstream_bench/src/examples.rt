@@ -62,8 +62,7 @@ fn example_of_bit_read2(rt: HostRuntime) {
 fn example_of_bit_write2(rt: HostRuntime) {
     use bitstream_io::{BE, BitWrite2, BitWriter, Bits};
 
-    let mut bytes = Vec::new(rt.alloc());
-    let mut writer = BitWriter::<_, BE>::new(&mut bytes);
+    let mut writer = BitWriter::<_, BE>::new(Vec::new(rt.alloc()));
     writer.write_out::<Bits<4>, u8>(10).expect(&rt, "no error");
     writer
         .write_unsigned_out::<Bits<2>, u8>(2)
@@ -73,7 +72,11 @@ fn example_of_bit_write2(rt: HostRuntime) {
         .expect(&rt, "no error");
     writer.write_unary0(3).expect(&rt, "no error");
     writer.write_unsigned(4, 5u8).expect(&rt, "no error");
-    are(&rt, bytes.as_slice(), [0xab, 0xe5].as_slice());
+    are(
+        &rt,
+        writer.into_writer().as_slice(),
+        [0xab, 0xe5].as_slice(),
+    );
 }
 
 #[test]
@@ -129,9 +132,9 @@ fn example_of_lent(rt: HostRuntime) {
 
 #[test]
 fn example_of_slice(rt: HostRuntime) {
-    use bitstream_io::{BE, BitRead, BitReader, Error, Slice};
+    use bitstream_io::{BE, BitRead, BitReader, Error};
 
-    let mut reader = BitReader::<_, BE>::new(Slice::new(&[0xb1, 0xed]));
+    let mut reader = BitReader::<_, BE>::over(&[0xb1, 0xed]);
     same(
         &rt,
         reader.read_unsigned_var::<u16>(12).expect(&rt, "no error"),
@@ -145,10 +148,10 @@ fn example_of_slice(rt: HostRuntime) {
 
 #[test]
 fn example_of_slice_mut(rt: HostRuntime) {
-    use bitstream_io::{BE, BitWrite, BitWriter, SliceMut};
+    use bitstream_io::{BE, BitWrite, BitWriter};
 
     let mut buffer = [0u8; 4];
-    let mut writer = BitWriter::<_, BE>::new(SliceMut::new(&mut buffer));
+    let mut writer = BitWriter::<_, BE>::over(&mut buffer);
     writer
         .write_unsigned_var(12, 0xb1e_u16)
         .expect(&rt, "no error");
@@ -233,54 +236,27 @@ fn example_of_byte_reader(rt: HostRuntime) {
 fn example_of_byte_write(rt: HostRuntime) {
     use bitstream_io::{BE, ByteWrite, ByteWriter, LE};
 
-    let mut bytes = Vec::new(rt.alloc());
-    let mut writer = ByteWriter::<_, BE>::new(&mut bytes);
+    let mut writer = ByteWriter::<_, BE>::new(Vec::new(rt.alloc()));
     writer.write_as::<LE, u16>(1).expect(&rt, "no error");
     writer.pad(3).expect(&rt, "no error");
-    are(&rt, bytes.as_slice(), [1, 0, 0, 0, 0].as_slice());
+    are(
+        &rt,
+        writer.into_writer().as_slice(),
+        [1, 0, 0, 0, 0].as_slice(),
+    );
 }
 
 #[test]
 fn example_of_byte_writer(rt: HostRuntime) {
     use bitstream_io::{ByteWrite, ByteWriter, LE};
 
-    let mut bytes = Vec::new(rt.alloc());
-    let mut writer = ByteWriter::<_, LE>::new(&mut bytes);
+    let mut writer = ByteWriter::<_, LE>::new(Vec::new(rt.alloc()));
     writer.write(0x0201_u16).expect(&rt, "no error");
     writer.write_bytes(&[3, 4]).expect(&rt, "no error");
-    are(&rt, bytes.as_slice(), [1, 2, 3, 4].as_slice());
-}
-
-#[test]
-fn example_of_bit_reader_over(rt: HostRuntime) {
-    use bitstream_io::{BE, BitRead, BitReader, Error};
-
-    let mut reader = BitReader::<_, BE>::over(&[0xb1, 0xed]);
-    same(
-        &rt,
-        reader.read_unsigned_var::<u16>(12).expect(&rt, "no error"),
-        0xb1e,
-    );
-    holds(
-        &rt,
-        matches!(reader.read_unsigned_var::<u8>(8), Err(Error::EndOfInput)),
-    );
-}
-
-#[test]
-fn example_of_bit_writer_over(rt: HostRuntime) {
-    use bitstream_io::{BE, BitWrite, BitWriter};
-
-    let mut buffer = [0u8; 4];
-    let mut writer = BitWriter::<_, BE>::over(&mut buffer);
-    writer
-        .write_unsigned_var(12, 0xb1e_u16)
-        .expect(&rt, "no error");
-    writer.byte_align().expect(&rt, "no error");
     are(
         &rt,
         writer.into_writer().as_slice(),
-        [0xb1, 0xe0].as_slice(),
+        [1, 2, 3, 4].as_slice(),
     );
 }
 
@@ -377,8 +353,7 @@ fn example_of_bit_reader_seek_bits(rt: HostRuntime) {
 fn example_of_bit_write(rt: HostRuntime) {
     use bitstream_io::{BE, BitCount, BitWrite, BitWriter, Bits};
 
-    let mut bytes = Vec::new(rt.alloc());
-    let mut writer = BitWriter::<_, BE>::new(&mut bytes);
+    let mut writer = BitWriter::<_, BE>::new(Vec::new(rt.alloc()));
     let count = BitCount::<7>::new::<2>();
     writer
         .write_const::<Bits<4>, Bits<7>>()
@@ -391,22 +366,29 @@ fn example_of_bit_write(rt: HostRuntime) {
         .write_unsigned_counted(count, 3u8)
         .expect(&rt, "no error");
     writer.byte_align().expect(&rt, "no error");
-    are(&rt, bytes.as_slice(), [0x7e, 0x58].as_slice());
+    are(
+        &rt,
+        writer.into_writer().as_slice(),
+        [0x7e, 0x58].as_slice(),
+    );
 }
 
 #[test]
 fn example_of_bit_writer(rt: HostRuntime) {
     use bitstream_io::{BE, BitWrite, BitWriter, Bits};
 
-    let mut bytes = Vec::new(rt.alloc());
-    let mut writer = BitWriter::<_, BE>::new(&mut bytes);
+    let mut writer = BitWriter::<_, BE>::new(Vec::new(rt.alloc()));
     writer
         .write_unsigned::<Bits<4>, u8>(0xb)
         .expect(&rt, "no error");
     writer.write_signed_var::<i8>(4, -3).expect(&rt, "no error");
     writer.write_bit(true).expect(&rt, "no error");
     writer.byte_align().expect(&rt, "no error");
-    are(&rt, bytes.as_slice(), [0xbd, 0x80].as_slice());
+    are(
+        &rt,
+        writer.into_writer().as_slice(),
+        [0xbd, 0x80].as_slice(),
+    );
 }
 
 #[test]
@@ -419,11 +401,10 @@ fn example_of_checkable(rt: HostRuntime) {
         .read_checked(BitCount::new::<4>())
         .expect(&rt, "no error");
     same(&rt, (level.written_bits(), level.into_value()), (4, 11));
-    let mut bytes = Vec::new(rt.alloc());
-    let mut writer = BitWriter::<_, BE>::new(&mut bytes);
+    let mut writer = BitWriter::<_, BE>::new(Vec::new(rt.alloc()));
     writer.write_checked(level).expect(&rt, "no error");
     writer.write_checked(level).expect(&rt, "no error");
-    are(&rt, bytes.as_slice(), [0xbb].as_slice());
+    are(&rt, writer.into_writer().as_slice(), [0xbb].as_slice());
 }
 
 #[test]
@@ -478,11 +459,10 @@ fn example_of_bit_read_ext(rt: HostRuntime) {
 fn example_of_bit_write_ext(rt: HostRuntime) {
     use bitstream_io::{BitWriteExt, BitWriter, Bits, LE};
 
-    let mut bytes = Vec::new(rt.alloc());
-    let mut writer = BitWriter::<_, LE>::new(&mut bytes);
+    let mut writer = BitWriter::<_, LE>::new(Vec::new(rt.alloc()));
     writer
         .write::<Bits<1>, [bool; 4]>([true, false, true, true])
         .expect(&rt, "no error");
     writer.write_var::<i8>(4, -1).expect(&rt, "no error");
-    are(&rt, bytes.as_slice(), [0xfd].as_slice());
+    are(&rt, writer.into_writer().as_slice(), [0xfd].as_slice());
 }

@@ -1,10 +1,6 @@
 //! Bytes in memory as a target: where a request is refused, and what was written until then.
-ghost use Rattle.std.specs.Prelude.{◌≤◌};
-
-use crate::asserts::{each_holds, failed, holds, same};
-use bitstream_io::{
-    BE, BitWrite, BitWriter, ByteWrite, ByteWriter, Endianness, Error, LE, SliceMut,
-};
+use crate::asserts::{each_holds, failed, same};
+use bitstream_io::{BE, BitWrite, BitWriter, ByteWrite, ByteWriter, Endianness, Error, LE};
 use std::io::ErrorKind;
 
 /// Whether a request was refused as there was no room for it.
@@ -112,27 +108,7 @@ fn writes_while_there_is_room(rt: HostRuntime) {
     }
 }
 
-/// Whether a buffer of this length goes into as much room by one request, and one byte more does not.
-fn fills(length: usize) -> bool
-    requires { length ≤ 20 }
-{
-    let bytes = [0x5a_u8; 20];
-    let mut memory = [0u8; 20];
-    let mut writer = BitWriter::<_, BE>::new(SliceMut::new(&mut memory[..length]));
-    let written = writer.write_bytes(&bytes[..length]).is_ok() & writer.flush().is_ok();
-    let full = lacks_room(writer.write_bytes(&[1]));
-    written & full & (writer.into_writer().as_slice() == &bytes[..length])
-}
-
-#[test]
-fn fills_the_room_there_is(rt: HostRuntime) {
-    for length in 0..21 {
-        same(&rt, (length, fills(length)), (length, true));
-    }
-}
-
-/// Numbers of two bytes are written, and one byte where one of two bytes has no room. Of a long buffer
-/// within a byte the first piece alone is written, if there is room for it alone.
+/// Numbers of two bytes are written, and one byte where one of two bytes has no room.
 #[test]
 fn refuses_the_request_that_has_no_room(rt: HostRuntime) {
     let mut memory = [0u8; 3];
@@ -141,9 +117,4 @@ fn refuses_the_request_that_has_no_room(rt: HostRuntime) {
     let refused = lacks_room(writer.write(0x0403_u16));
     let last = writer.write(3u8).is_ok();
     each_holds(&rt, &[first, refused, last, memory == [1, 2, 3]]);
-    let mut memory = [0xee_u8; 2000];
-    let mut writer = BitWriter::<_, BE>::over(&mut memory);
-    holds(&rt, writer.write_bit(true).is_ok());
-    holds(&rt, lacks_room(writer.write_bytes(&[0; 2048])));
-    same(&rt, writer.into_writer().as_slice().len(), 1024);
 }

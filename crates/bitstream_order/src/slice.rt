@@ -21,9 +21,9 @@ use std::io::{ErrorKind, SeekFrom};
 /// # Examples
 ///
 /// ```
-/// use bitstream_io::{BE, BitRead, BitReader, Error, Slice};
+/// use bitstream_io::{BE, BitRead, BitReader, Error};
 ///
-/// let mut reader = BitReader::<_, BE>::new(Slice::new(&[0xb1, 0xed]));
+/// let mut reader = BitReader::<_, BE>::over(&[0xb1, 0xed]);
 /// assert_eq!(rt; reader.read_unsigned_var::<u16>(12)?, 0xb1e);
 /// assert!(rt; matches!(reader.read_unsigned_var::<u8>(8), Err(Error::EndOfInput)));
 /// ```

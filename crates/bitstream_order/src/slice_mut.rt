@@ -14,10 +14,10 @@ use std::io::ErrorKind;
 /// # Examples
 ///
 /// ```
-/// use bitstream_io::{BE, BitWrite, BitWriter, SliceMut};
+/// use bitstream_io::{BE, BitWrite, BitWriter};
 ///
 /// let mut buffer = [0u8; 4];
-/// let mut writer = BitWriter::<_, BE>::new(SliceMut::new(&mut buffer));
+/// let mut writer = BitWriter::<_, BE>::over(&mut buffer);
 /// writer.write_unsigned_var(12, 0xb1e_u16)?;
 /// writer.byte_align()?;
 /// let packed = writer.into_writer();

@@ -20,11 +20,10 @@ use bitstream_order::order::Endianness;
 /// ```
 /// use bitstream_io::{BE, ByteWrite, ByteWriter, LE};
 ///
-/// let mut bytes = Vec::new(rt.alloc());
-/// let mut writer = ByteWriter::<_, BE>::new(&mut bytes);
+/// let mut writer = ByteWriter::<_, BE>::new(Vec::new(rt.alloc()));
 /// writer.write_as::<LE, u16>(1)?;
 /// writer.pad(3)?;
-/// assert_eq!(rt; bytes.as_slice(), [1, 0, 0, 0, 0].as_slice());
+/// assert_eq!(rt; writer.into_writer().as_slice(), [1, 0, 0, 0, 0].as_slice());
 /// ```
 pub trait ByteWrite {
     // What the states of the sink mean.

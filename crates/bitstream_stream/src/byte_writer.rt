@@ -20,11 +20,10 @@ mod ways;
 /// ```
 /// use bitstream_io::{ByteWrite, ByteWriter, LE};
 ///
-/// let mut bytes = Vec::new(rt.alloc());
-/// let mut writer = ByteWriter::<_, LE>::new(&mut bytes);
+/// let mut writer = ByteWriter::<_, LE>::new(Vec::new(rt.alloc()));
 /// writer.write(0x0201_u16)?;
 /// writer.write_bytes(&[3, 4])?;
-/// assert_eq!(rt; bytes.as_slice(), [1, 2, 3, 4].as_slice());
+/// assert_eq!(rt; writer.into_writer().as_slice(), [1, 2, 3, 4].as_slice());
 /// ```
 #[derive(Drop)]
 pub struct ByteWriter<W, E> {

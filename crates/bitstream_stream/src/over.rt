@@ -63,7 +63,9 @@ impl<'a, E: Endianness> BitWriter<SliceMut<'a>, E> {
     /// let mut writer = BitWriter::<_, BE>::over(&mut buffer);
     /// writer.write_unsigned_var(12, 0xb1e_u16)?;
     /// writer.byte_align()?;
-    /// assert_eq!(rt; writer.into_writer().as_slice(), [0xb1, 0xe0].as_slice());
+    /// let packed = writer.into_writer();
+    /// assert_eq!(rt; packed.as_slice(), [0xb1, 0xe0].as_slice());
+    /// assert_eq!(rt; packed.free(), 2);
     /// ```
     pub fn over(bytes: &'a mut [u8]) -> BitWriter<SliceMut<'a>, E>
         ensures { writer_state written_contents (λ target. slice_reference target ∷ []) result

@@ -23,15 +23,14 @@ use bitstream_order::order::Endianness;
 /// ```
 /// use bitstream_io::{BE, BitCount, BitWrite, BitWriter, Bits};
 ///
-/// let mut bytes = Vec::new(rt.alloc());
-/// let mut writer = BitWriter::<_, BE>::new(&mut bytes);
+/// let mut writer = BitWriter::<_, BE>::new(Vec::new(rt.alloc()));
 /// let count = BitCount::<7>::new::<2>();
 /// writer.write_const::<Bits<4>, Bits<7>>()?;
 /// writer.write_signed::<Bits<4>, i32>(-2)?;
 /// writer.write_count(count)?;
 /// writer.write_unsigned_counted(count, 3u8)?;
 /// writer.byte_align()?;
-/// assert_eq!(rt; bytes.as_slice(), [0x7e, 0x58].as_slice());
+/// assert_eq!(rt; writer.into_writer().as_slice(), [0x7e, 0x58].as_slice());
 /// ```
 pub trait BitWrite {
     ghost use Rattle.std.specs.Prelude.{◌≡◌, ℕ, ◌+◌, ◌%◌, ◌^◌, ◌<◌, ◌≤◌, ◌↔◌, ◌⊎◌, ◌==◌, Bool, true, false, IsTrue};

@@ -29,13 +29,12 @@ mod ways;
 /// ```
 /// use bitstream_io::{BE, BitWrite, BitWriter, Bits};
 ///
-/// let mut bytes = Vec::new(rt.alloc());
-/// let mut writer = BitWriter::<_, BE>::new(&mut bytes);
+/// let mut writer = BitWriter::<_, BE>::new(Vec::new(rt.alloc()));
 /// writer.write_unsigned::<Bits<4>, u8>(0xb)?;
 /// writer.write_signed_var::<i8>(4, -3)?;
 /// writer.write_bit(true)?;
 /// writer.byte_align()?;
-/// assert_eq!(rt; bytes.as_slice(), [0xbd, 0x80].as_slice());
+/// assert_eq!(rt; writer.into_writer().as_slice(), [0xbd, 0x80].as_slice());
 /// ```
 #[derive(Drop)]
 pub struct BitWriter<W, E> {

@@ -34,11 +34,10 @@ use bitstream_stream::write::BitWrite;
 /// let mut reader = BitReader::<_, BE>::new([0xb7].as_slice());
 /// let level: CheckedUnsigned<8, u8> = reader.read_checked(BitCount::new::<4>())?;
 /// assert_eq!(rt; (level.written_bits(), level.into_value()), (4, 11));
-/// let mut bytes = Vec::new(rt.alloc());
-/// let mut writer = BitWriter::<_, BE>::new(&mut bytes);
+/// let mut writer = BitWriter::<_, BE>::new(Vec::new(rt.alloc()));
 /// writer.write_checked(level)?;
 /// writer.write_checked(level)?;
-/// assert_eq!(rt; bytes.as_slice(), [0xbb].as_slice());
+/// assert_eq!(rt; writer.into_writer().as_slice(), [0xbb].as_slice());
 /// ```
 pub trait Checkable: Sealed + Copy {
     // The word of a value, in either order.

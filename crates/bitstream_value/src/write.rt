@@ -21,11 +21,10 @@ use bitstream_stream::write::BitWrite;
 /// ```
 /// use bitstream_io::{BitWriteExt, BitWriter, Bits, LE};
 ///
-/// let mut bytes = Vec::new(rt.alloc());
-/// let mut writer = BitWriter::<_, LE>::new(&mut bytes);
+/// let mut writer = BitWriter::<_, LE>::new(Vec::new(rt.alloc()));
 /// writer.write::<Bits<1>, [bool; 4]>([true, false, true, true])?;
 /// writer.write_var::<i8>(4, -1)?;
-/// assert_eq!(rt; bytes.as_slice(), [0xfd].as_slice());
+/// assert_eq!(rt; writer.into_writer().as_slice(), [0xfd].as_slice());
 /// ```
 pub trait BitWriteExt: BitWrite {
     /// Writes a value in `B::BITS` bits.

@@ -28,14 +28,13 @@ use bitstream_value::write::BitWriteExt;
 /// ```
 /// use bitstream_io::{BE, BitWrite2, BitWriter, Bits};
 ///
-/// let mut bytes = Vec::new(rt.alloc());
-/// let mut writer = BitWriter::<_, BE>::new(&mut bytes);
+/// let mut writer = BitWriter::<_, BE>::new(Vec::new(rt.alloc()));
 /// writer.write_out::<Bits<4>, u8>(10)?;
 /// writer.write_unsigned_out::<Bits<2>, u8>(2)?;
 /// writer.write_signed_out::<Bits<2>, i8>(-1)?;
 /// writer.write_unary0(3)?;
 /// writer.write_unsigned(4, 5u8)?;
-/// assert_eq!(rt; bytes.as_slice(), [0xab, 0xe5].as_slice());
+/// assert_eq!(rt; writer.into_writer().as_slice(), [0xab, 0xe5].as_slice());
 /// ```
 pub trait BitWrite2 {
     // What the states of the sink mean.
