@@ -384,7 +384,7 @@ fn asks_for(alloc: Global, demand: &Demand) -> bool {
     (ended.left == demand.1) & (ended.requests == demand.2)
 }
 
-/// Asserts that each of these calls does.
+/// Asserts that each of these calls asks for as many bytes and requests as it needs.
 fn ask_for(rt: &impl Abort, alloc: Global, demands: &[Demand]) {
     for demand in demands {
         holds_of(rt, asks_for(alloc, demand), demand.0.0);

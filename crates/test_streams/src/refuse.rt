@@ -55,6 +55,7 @@ impl<S: Read> Read for Refuse<S> {
             result buf.new }
         ensures refuses { self.old.left ≡ Some 0 → IsErrAnd result (λ e. error_kind e ≡ self.old.kind) }
         ensures untouched { self.old.left ≡ Some 0 → self.new.inner ≡ self.old.inner }
+        ensures same { (self.new.once ≡ self.old.once) × (self.new.kind ≡ self.old.kind) }
         ensures left { self.new.left ≡ left_after self.old.once self.old.left }
     {
         // A request that is refused takes no byte.
@@ -67,6 +68,7 @@ impl<S: Read> Read for Refuse<S> {
             buf.new) }
         ensures refuses { self.old.left ≡ Some 0 → IsErrAnd result (λ e. error_kind e ≡ self.old.kind) }
         ensures untouched { self.old.left ≡ Some 0 → self.new.inner ≡ self.old.inner }
+        ensures same { (self.new.once ≡ self.old.once) × (self.new.kind ≡ self.old.kind) }
         ensures left { self.new.left ≡ left_after self.old.once self.old.left }
     {
         self.ask()?;
@@ -83,6 +85,7 @@ impl<S: Write> Write for Refuse<S> {
             result buf.now }
         ensures refuses { self.old.left ≡ Some 0 → IsErrAnd result (λ e. error_kind e ≡ self.old.kind) }
         ensures untouched { self.old.left ≡ Some 0 → self.new.inner ≡ self.old.inner }
+        ensures same { (self.new.once ≡ self.old.once) × (self.new.kind ≡ self.old.kind) }
         ensures left { self.new.left ≡ left_after self.old.once self.old.left }
     {
         self.ask()?;
@@ -94,6 +97,7 @@ impl<S: Write> Write for Refuse<S> {
             buf.now) }
         ensures refuses { self.old.left ≡ Some 0 → IsErrAnd result (λ e. error_kind e ≡ self.old.kind) }
         ensures untouched { self.old.left ≡ Some 0 → self.new.inner ≡ self.old.inner }
+        ensures same { (self.new.once ≡ self.old.once) × (self.new.kind ≡ self.old.kind) }
         ensures left { self.new.left ≡ left_after self.old.once self.old.left }
     {
         self.ask()?;
@@ -104,6 +108,7 @@ impl<S: Write> Write for Refuse<S> {
         ensures bytes { Keeps (S.contents self.old.inner) (S.contents self.new.inner) }
         ensures refuses { self.old.left ≡ Some 0 → IsErrAnd result (λ e. error_kind e ≡ self.old.kind) }
         ensures untouched { self.old.left ≡ Some 0 → self.new.inner ≡ self.old.inner }
+        ensures same { (self.new.once ≡ self.old.once) × (self.new.kind ≡ self.old.kind) }
         ensures left { self.new.left ≡ left_after self.old.once self.old.left }
     {
         // A flush is a request too.
@@ -123,6 +128,7 @@ impl<S: Seek> Seek for Refuse<S> {
         ensures bytes { Keeps (S.stream_bytes self.old.inner) (S.stream_bytes self.new.inner) }
         ensures refuses { self.old.left ≡ Some 0 → IsErrAnd result (λ e. error_kind e ≡ self.old.kind) }
         ensures untouched { self.old.left ≡ Some 0 → self.new.inner ≡ self.old.inner }
+        ensures same { (self.new.once ≡ self.old.once) × (self.new.kind ≡ self.old.kind) }
         ensures left { self.new.left ≡ left_after self.old.once self.old.left }
     {
         self.ask()?;
