@@ -1,6 +1,7 @@
 //! Checks of numbers against a number of bits.
 ghost use Rattle.std.specs.Prelude.{◌≡◌, ℕ, ◌≤◌, Ok, Err, OnOk, IfErr};
-ghost use Rattle.bitstream_number.specs.Word.{Order, word, signed_word, FitsSignedBits};
+ghost use Rattle.bitstream_count.specs.Checks.{HoldsSigned};
+ghost use Rattle.bitstream_number.specs.Word.{Order, word};
 ghost use Rattle.bitstream_stream.specs.WriteTable.{unsigned, signed};
 
 use bitstream_count::count::{BitCount, CheckedSigned, CheckedUnsigned};
@@ -36,11 +37,7 @@ pub fn check<U: UnsignedInteger>(bits: u32, value: U) -> Result<(), Error>
 /// `Checked(ExcessiveValue)` if the value needs more.
 pub fn check_signed<S: SignedInteger>(bits: u32, value: S) -> Result<(), Error>
     ensures some { OnOk result (1 ≤ bits) }
-    ensures width { OnOk result (bits ≤ S.BITS_SIZE) }
-    ensures fits { OnOk result (FitsSignedBits bits (S.integer value)) }
-    ensures word { OnOk result ((o : Order) (len : ℕ) →
-        signed o S.BITS_SIZE bits (S.integer value) len
-        ≡ Ok (signed_word o bits (S.integer value))) }
+    ensures holds { OnOk result (HoldsSigned S.BITS_SIZE bits (S.integer value)) }
     ensures refusal { IfErr result (λ error. (o : Order) (len : ℕ) →
         signed o S.BITS_SIZE bits (S.integer value) len ≡ Err error) }
 {

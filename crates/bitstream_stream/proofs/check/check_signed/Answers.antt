@@ -1,15 +1,15 @@
 use Rattle.std.proofs.Common.{◌≡◌, ℕ, ◌<◌, ◌∙◌, subst, sym}
 use Rattle.bitstream_count.specs.Checks.{HoldsSigned, RefusesSigned}
-use Rattle.bitstream_stream.proofs.WriteLemmas.{signed-accepts, signed-refuses, signed-none, none_of}
+use Rattle.bitstream_stream.proofs.WriteLemmas.{signed-refuses, signed-none, none_of}
 use Rattle.bitstream_stream.proofs.check.check_signed.Goals as goal
 
-pub returns-in-Ok-clause-word : goal.returns-in-Ok-clause-word
-returns-in-Ok-clause-word g c = λ o len.
-    let h = c.in-Some.ensures in
-    let is : c.in-Some.count ≡ c.args.bits = h.1 ∙ c.unknown.ensures in
-    let some : 0 < c.args.bits = subst (λ (n : ℕ). 0 < n) c.unknown.ensures h.0 in
-    signed-accepts o _ _ _ len some (subst (λ (n : ℕ). HoldsSigned g.S.Numeric.BITS_SIZE n
-    (g.S.Numeric.integer c.args.value)) is c.in-Ok.ensures.0)
+pub returns-in-Ok-clause-some : goal.returns-in-Ok-clause-some
+returns-in-Ok-clause-some g c = subst (λ (n : ℕ). 0 < n) c.unknown.ensures c.in-Some.ensures.0
+
+pub returns-in-Ok-clause-holds : goal.returns-in-Ok-clause-holds
+returns-in-Ok-clause-holds g c =
+    subst (λ (n : ℕ). HoldsSigned g.S.Numeric.BITS_SIZE n (g.S.Numeric.integer c.args.value))
+    (c.in-Some.ensures.1 ∙ c.unknown.ensures) c.in-Ok.ensures.0
 
 pub returns-in-Err-clause-refusal : goal.returns-in-Err-clause-refusal
 returns-in-Err-clause-refusal g c = λ o len.

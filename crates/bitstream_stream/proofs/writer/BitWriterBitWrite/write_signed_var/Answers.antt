@@ -4,6 +4,7 @@ use Rattle.bitstream_number.specs.Word.{word}
 use Rattle.bitstream_stream.specs.Writer.{writer_state, queue_sink, writer_sink}
 use Rattle.bitstream_stream.proofs.SinkLemmas.{inner, fails, refuses, exit_is}
 use Rattle.bitstream_stream.proofs.WriterLemmas.{pushes_writes}
+use Rattle.bitstream_stream.proofs.WriteLemmas.{signed-accepts}
 use Rattle.bitstream_stream.proofs.writer.BitWriterBitWrite.write_signed_var.Goals as goal
 
 pub returns-then-self-clause-writes : goal.returns-then-self-clause-writes
@@ -21,8 +22,8 @@ returns-clause-writes g c =
     let o = g.E.Endianness.order in
     inner (writer_state g.W.Target.contents g.W.Target.references)
     (queue_sink (MayRefuse g.W.Target.contents g.W.Target.references g.W.Target.refuses) o) _ _ _ _
-    (pushes_writes _ o _ _ _ _ _ c.if-self.false (c.in_ok-check_signed.ensures.word _ _
-    ∙ ap (λ n. Ok (word o c.args.bits n)) (sym c.complement.ensures))
+    (pushes_writes _ o _ _ _ _ _ c.if-self.false (signed-accepts o _ _ _ _
+    c.in_ok-check_signed.ensures.some c.in_ok-check_signed.ensures.holds ∙ ap (λ n. Ok (word o c.args.bits n)) (sym c.complement.ensures))
     c.push.ensures.pushes)
 
 pub returns-clause-asks : goal.returns-clause-asks
