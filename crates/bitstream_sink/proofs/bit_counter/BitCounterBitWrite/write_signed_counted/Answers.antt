@@ -2,6 +2,7 @@ use Rattle.std.proofs.Common.{◌∙◌, refl, sym}
 use Rattle.bitstream_number.specs.Word.{signed_word}
 use Rattle.bitstream_number.proofs.WordLemmas.{length-word}
 use Rattle.bitstream_stream.proofs.SinkLemmas.{refuses, exit_is}
+use Rattle.bitstream_stream.proofs.WriteLemmas.{signed-accepts}
 use Rattle.bitstream_sink.proofs.bit_counter.BitCounterBitWrite.write_signed_counted.Goals as goal
 
 pub returns-in_err-check_signed : goal.returns-in_err-check_signed
@@ -14,6 +15,7 @@ returns-in_err-check_signed g c = record {
 pub returns : goal.returns
 returns g c = record {
   writes = c.add.ensures _ (signed_word g.E.Endianness.order c.bits-bits.result (g.S.Numeric.integer c.args.value))
-      (rw (← c.bits-bits.ensures.value) (c.in_ok-check_signed.ensures.word g.E.Endianness.order _)) (length-word g.E.Endianness.order _ _
+      (rw (← c.bits-bits.ensures.value) (signed-accepts g.E.Endianness.order _ _ _ _
+      c.in_ok-check_signed.ensures.some c.in_ok-check_signed.ensures.holds)) (length-word g.E.Endianness.order _ _
       ∙ sym c.from.ensures);
 }
