@@ -1,12 +1,11 @@
 -- Checked values.
-use Rattle.std.specs.Prelude.{ℤ, pos, Bool}
+use Rattle.std.specs.Prelude.{ℤ, pos, Bool, IfOk}
 use Rattle.std.proofs.Common.{◌≡◌, ℕ, ◌-◌, ◌^◌, ◌<◌, ◌≤◌, List, [], ◌++◌, length, Result, Ok, Err, refl, sym, ap, ◌∙◌, subst, arith, inl, inr}
-use Rattle.std.specs.Result.{IsErrAnd}
 use Rattle.std.proofs.lemmas.Bool.{cases_lt, lt-ltb, le-ltb, lt-leb, ne_eqb}
 use Rattle.bitstream_count.specs.Checks.{HoldsUnsigned, HoldsSigned}
 use Rattle.bitstream_count.specs.declared.error.Error.{Error}
 use Rattle.bitstream_count.specs.declared.error.Error.TheVariants.{Failed, NoSignBit, ReadBits}
-use Rattle.bitstream_count.specs.Entry.{Takes, word_front, gives}
+use Rattle.bitstream_count.specs.Entry.{ReadEntry, Takes, chain, word_front, gives}
 use Rattle.bitstream_number.specs.Word.{Order, word, number, signed_word, signed_number, signed_from, FitsSignedBits}
 use Rattle.bitstream_number.proofs.WordLemmas.{number-lt, half}
 use Rattle.bitstream_stream.specs.ReadTable.{unsigned_entry, signed_entry}
@@ -16,11 +15,11 @@ use Rattle.bitstream_stream.specs.Sink.{Sink, Writes}
 use Rattle.bitstream_stream.specs.WriteTable.{plain, unsigned, signed}
 use Rattle.bitstream_stream.proofs.EntryLemmas.{split, word_front-some, word_front-none}
 use Rattle.bitstream_stream.proofs.ReadsLemmas.{Reads-chain-ok, Reads-gives, exit, ok_front}
-use Rattle.bitstream_stream.proofs.SignedLemmas.{unsigned-within, unsigned-below, seen_is}
+use Rattle.bitstream_stream.proofs.SignedLemmas.{unsigned-within, unsigned-below}
 use Rattle.bitstream_stream.proofs.SinkLemmas.{restate}
 use Rattle.bitstream_stream.proofs.TableLemmas.{signed-none}
 use Rattle.bitstream_stream.proofs.WriteLemmas.{unsigned-fits, signed-accepts}
-use Rattle.bitstream_value.specs.Checked.{checked_entry, signed_checked_entry}
+use Rattle.bitstream_value.specs.Checked.{checked_entry, signed_checked_entry, KeptWith}
 use Rattle.bitstream_value.proofs.BackLemmas.{signed-word}
 
 -- ---- a number that was read fits its width
@@ -93,31 +92,43 @@ module _ {R : Type 0} {K : BitSource R} (o : Order) (size n : ℕ) {s t : R} whe
             (sym ((signed-word o size n some le).reads (K.state s).taken (d.word ++ [])) ∙ d.decides []),
       )
 
+  -- so the count holds whatever a call answered
+  pub unsigned-held : {B : Type 0} (view : B → ℕ) (r : Result B Error)
+      → Reads K (unsigned_entry o size n) s (seen view r) t → IfOk r (λ v. HoldsUnsigned size n (view v))
+  unsigned-held view (Ok v) h = unsigned-holds h
+  unsigned-held view (Err x) h = tt
+
+  pub signed-held : {B : Type 0} (view : B → ℤ) (r : Result B Error)
+      → Reads K (signed_entry o size n) s (seen view r) t → IfOk r (λ v. HoldsSigned size n (view v))
+  signed-held view (Ok v) h = signed-holds h
+  signed-held view (Err x) h = tt
+
 -- ---- reads
 
-module _ {A C : Type 0} (counted : A → C × ℤ) (count : C) {R : Type 0} {K : BitSource R} (o : Order) (size n : ℕ)
+-- an answer that is kept with a count, by the number that is seen of it
+module _ {B C N : Type 0} (view : B → N) (to_int : N → ℤ) (count : C) (e : ReadEntry N) {R : Type 0} {K : BitSource R}
     {s t : R} where
-  pub checked-stops : {x : Error} (r : Result A Error) → IsErrAnd r (λ y. y ≡ x)
-      → Reads K (unsigned_entry o size n) s (Err x) t → Reads K (checked_entry count o size n) s (seen counted r) t
+  kept-ok : {a : N} {d : C} {z : ℤ} → d ≡ count → z ≡ to_int a → Reads K e s (Ok a) t
+      → Reads {A = C × ℤ} K (chain e (λ v. gives (count, to_int v))) s (Ok (d, z)) t
+  kept-ok same is h = rw (same, is) (Reads-chain-ok e (λ v. gives (count, to_int v)) h (Reads-gives _ t))
+
+  kept : (r : Result B Error) (q : Result (C × B) Error) → KeptWith count r q → Reads K e s (seen view r) t
+      → Reads {A = C × ℤ} K (chain e (λ v. gives (count, to_int v))) s (seen (λ (c : C × B). (c.0, to_int (view c.1))) q) t
+  kept (Ok b) (Ok c) is h = kept-ok is.0 (ap (λ (x : B). to_int (view x)) is.1) h
+  kept (Ok b) (Err x) is h = absurd is
+  kept (Err x) q is h = rw is (exit (λ v. gives (count, to_int v)) (Err x) refl h)
+
+module _ {B C : Type 0} (count : C) {R : Type 0} {K : BitSource R} (o : Order) (size n : ℕ) {s t : R}
+    (r : Result B Error) (q : Result (C × B) Error) where
+  pub checked-kept : (view : B → ℕ) → KeptWith count r q → Reads K (unsigned_entry o size n) s (seen view r) t
+      → Reads {A = C × ℤ} K (checked_entry count o size n) s (seen (λ (c : C × B). (c.0, pos (view c.1))) q) t
   unfolding checked_entry
-  checked-stops {x} r h k = exit (λ v. gives (count, pos v)) (seen counted r) (seen_is x counted r h) k
+  checked-kept view is h = kept view pos count (unsigned_entry o size n) r q is h
 
-  pub signed_checked-stops : {x : Error} (r : Result A Error) → IsErrAnd r (λ y. y ≡ x)
-      → Reads K (signed_entry o size n) s (Err x) t → Reads K (signed_checked_entry count o size n) s (seen counted r) t
+  pub signed_checked-kept : (view : B → ℤ) → KeptWith count r q → Reads K (signed_entry o size n) s (seen view r) t
+      → Reads {A = C × ℤ} K (signed_checked_entry count o size n) s (seen (λ (c : C × B). (c.0, view c.1)) q) t
   unfolding signed_checked_entry
-  signed_checked-stops {x} r h k = exit (λ v. gives (count, v)) (seen counted r) (seen_is x counted r h) k
-
-module _ {C : Type 0} (count : C) {R : Type 0} {K : BitSource R} (o : Order) (size n : ℕ) {d : C} {z : ℤ}
-    {s t : R} where
-  pub checked-was_done : {v : ℕ} → d ≡ count → z ≡ pos v → Reads K (unsigned_entry o size n) s (Ok v) t
-      → Reads K (checked_entry count o size n) s (Ok (d, z)) t
-  unfolding checked_entry
-  checked-was_done same is h = rw (same, is) (Reads-chain-ok _ (λ v. gives (count, pos v)) h (Reads-gives _ t))
-
-  pub signed_checked-was_done : {x : ℤ} → d ≡ count → z ≡ x → Reads K (signed_entry o size n) s (Ok x) t
-      → Reads K (signed_checked_entry count o size n) s (Ok (d, z)) t
-  unfolding signed_checked_entry
-  signed_checked-was_done same is h = rw (same, is) (Reads-chain-ok _ (λ v. gives (count, v)) h (Reads-gives _ t))
+  signed_checked-kept view is h = kept view (λ (x : ℤ). x) count (signed_entry o size n) r q is h
 
 -- ---- writes
 

@@ -1,17 +1,19 @@
 //! Checked values, read and written.
-ghost use Rattle.std.specs.Prelude.{◌≡◌, ℤ, Bool, List, length};
+ghost use Rattle.std.specs.Prelude.{◌≡◌, ℤ, Bool, List, length, IfOk};
 ghost use Rattle.bitstream_count.specs.Entry.{ReadEntry};
 ghost use Rattle.bitstream_number.specs.Word.{Order};
 ghost use Rattle.bitstream_order.specs.Gather.{seen};
 ghost use Rattle.bitstream_stream.specs.Reads.{Reads};
 ghost use Rattle.bitstream_stream.specs.Sink.{Writes};
 ghost use Rattle.bitstream_stream.specs.WriteTable.{plain};
+ghost use Rattle.bitstream_value.specs.Checked.{KeptWith};
 
 mod sealed;
 mod signed;
 mod unsigned;
 
 use crate::checked::sealed::Sealed;
+use bitstream_count::count::{Checked, Holds};
 use bitstream_count::error::Error;
 use bitstream_stream::read::BitRead;
 use bitstream_stream::write::BitWrite;
@@ -75,4 +77,15 @@ pub trait CheckablePrimitive: Checkable {
     fn read<R: BitRead>(reader: &mut R, count: Self::CountType) -> Result<Self, Error>
         ensures reads { Reads R.source (reads R.source.order count)
             reader.old (seen counted result) reader.new };
+}
+
+/// Keeps the value that a call answered with a count that holds it, which the caller proves.
+fn keep<C: Holds<T> + Copy, T>(count: C, answer: Result<T, Error>) -> Result<Checked<C, T>, Error>
+    requires { IfOk answer (C.holds count) }
+    ensures { KeptWith count answer result }
+{
+    match answer {
+        Ok(value) => Ok(Checked::of(count, value)),
+        Err(error) => Err(error),
+    }
 }

@@ -2,9 +2,9 @@
 ghost use Rattle.bitstream_number.specs.Word.{signed_word};
 ghost use Rattle.bitstream_value.specs.Checked.{signed_checked_entry};
 
-use crate::checked::{Checkable, CheckablePrimitive};
+use crate::checked::{Checkable, CheckablePrimitive, keep};
 use bitstream_count::count::{
-    Checked, CheckedSigned, CheckedSignedFixed, FixedSignedBitCount, SignedBitCount, SignedCount,
+    CheckedSigned, CheckedSignedFixed, FixedSignedBitCount, SignedBitCount, SignedCount,
 };
 use bitstream_count::error::Error;
 use bitstream_number::number::SignedInteger;
@@ -36,8 +36,7 @@ impl<const MAX: u32, S: SignedInteger> CheckablePrimitive for CheckedSigned<MAX,
         reader: &mut R,
         count: SignedBitCount<MAX>,
     ) -> Result<CheckedSigned<MAX, S>, Error> {
-        let value = reader.read_signed_counted(count)?;
-        Ok(Checked::of(count, value))
+        keep(count, reader.read_signed_counted(count))
     }
 }
 
@@ -65,7 +64,6 @@ impl<const BITS: u32, S: SignedInteger> CheckablePrimitive for CheckedSignedFixe
         reader: &mut R,
         count: FixedSignedBitCount<BITS>,
     ) -> Result<CheckedSignedFixed<BITS, S>, Error> {
-        let value = reader.read_signed_var(BITS)?;
-        Ok(Checked::of(count, value))
+        keep(count, reader.read_signed_var(BITS))
     }
 }

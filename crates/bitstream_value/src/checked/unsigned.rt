@@ -3,9 +3,9 @@ ghost use Rattle.std.specs.Prelude.{pos};
 ghost use Rattle.bitstream_number.specs.Word.{word as word_of};
 ghost use Rattle.bitstream_value.specs.Checked.{checked_entry};
 
-use crate::checked::{Checkable, CheckablePrimitive};
+use crate::checked::{Checkable, CheckablePrimitive, keep};
 use bitstream_count::count::{
-    BitCount, Checked, CheckedUnsigned, CheckedUnsignedFixed, Count, FixedBitCount,
+    BitCount, CheckedUnsigned, CheckedUnsignedFixed, Count, FixedBitCount,
 };
 use bitstream_count::error::Error;
 use bitstream_number::number::UnsignedInteger;
@@ -37,8 +37,7 @@ impl<const MAX: u32, U: UnsignedInteger> CheckablePrimitive for CheckedUnsigned<
         reader: &mut R,
         count: BitCount<MAX>,
     ) -> Result<CheckedUnsigned<MAX, U>, Error> {
-        let value = reader.read_unsigned_counted(count)?;
-        Ok(Checked::of(count, value))
+        keep(count, reader.read_unsigned_counted(count))
     }
 }
 
@@ -65,7 +64,6 @@ impl<const BITS: u32, U: UnsignedInteger> CheckablePrimitive for CheckedUnsigned
         reader: &mut R,
         count: FixedBitCount<BITS>,
     ) -> Result<CheckedUnsignedFixed<BITS, U>, Error> {
-        let value = reader.read_unsigned_var(BITS)?;
-        Ok(Checked::of(count, value))
+        keep(count, reader.read_unsigned_var(BITS))
     }
 }

@@ -1,20 +1,11 @@
-use Rattle.std.proofs.Common.{ap}
-use Rattle.bitstream_value.proofs.CheckedLemmas.{signed_checked-stops, signed_checked-was_done, signed-holds}
+use Rattle.bitstream_value.proofs.CheckedLemmas.{signed_checked-kept, signed-held}
 use Rattle.bitstream_value.proofs.checked.signed.CheckedSignedFixedCheckablePrimitive.read.Goals as goal
 
-pub returns-in_err-value : goal.returns-in_err-value
-returns-in_err-value g c =
-    record {
-      reads = signed_checked-stops _ c.args.count _ _ _ c.from_residual.result c.from_residual.ensures.1
-          c.in_err-value.ensures.reads;
-    }
-
-pub of-requires : goal.of-requires
-of-requires g c = signed-holds _ _ _ c.in_ok-value.ensures.reads
+pub keep-requires : goal.keep-requires
+keep-requires g c = signed-held _ _ _ g.S.Numeric.integer c.read_signed_var.result c.read_signed_var.ensures.reads
 
 pub returns : goal.returns
-returns g c =
-    record {
-      reads = signed_checked-was_done c.args.count _ _ _ c.of.ensures.count
-          (ap g.S.Numeric.integer c.of.ensures.value) c.in_ok-value.ensures.reads;
-    }
+returns g c = record {
+  reads = signed_checked-kept c.args.count _ _ _ c.read_signed_var.result c.keep.result g.S.Numeric.integer c.keep.ensures
+      c.read_signed_var.ensures.reads;
+}
