@@ -5,8 +5,11 @@ use bitstream_io::{
 };
 use std::alloc::Global;
 
-/// The sum and the difference of 5 bits and the given number, of at most 16 and 8 bits.
-fn sums(number: u32) -> (Option<u32>, Option<u32>, Option<u32>) {
+/// The sum of 5 bits and a number, and their difference, without a sign bit and with one.
+type Sums = (Option<u32>, Option<u32>, Option<u32>);
+
+/// The sum and the differences of 5 bits and the given number, of at most 16, 3 and 8 bits.
+fn sums(number: u32) -> Sums {
     let five = BitCount::<8>::new::<5>();
     let signed = SignedBitCount::<8>::new::<5>();
     (
@@ -16,26 +19,31 @@ fn sums(number: u32) -> (Option<u32>, Option<u32>, Option<u32>) {
     )
 }
 
-fn sums_of_counts() -> bool {
+const SUMS: [(u32, Sums); 9] = [
+    (0, (Some(5), None, Some(5))),
+    (1, (Some(6), None, Some(4))),
+    (2, (Some(7), Some(3), Some(3))),
+    (4, (Some(9), Some(1), Some(1))),
+    (5, (Some(10), Some(0), None)),
+    (6, (Some(11), None, None)),
+    (11, (Some(16), None, None)),
+    (12, (None, None, None)),
+    (4294967295, (None, None, None)),
+];
+
+fn are_sums(rows: &[(u32, Sums)]) -> bool {
     let mut right = true;
-    for (number, want) in [
-        (0, (Some(5), None, Some(5))),
-        (1, (Some(6), None, Some(4))),
-        (2, (Some(7), Some(3), Some(3))),
-        (4, (Some(9), Some(1), Some(1))),
-        (5, (Some(10), Some(0), None)),
-        (6, (Some(11), None, None)),
-        (11, (Some(16), None, None)),
-        (12, (None, None, None)),
-        (4294967295, (None, None, None)),
-    ] {
-        right &= sums(number) == want;
+    for (number, want) in rows {
+        right &= sums(*number) == *want;
     }
     right
 }
 
-/// The numbers of a signed `i8` and of a `u8` in the given number of bits.
-fn ranges(bits: u32) -> Option<(i8, i8, u8, u8)> {
+/// The least and the greatest `i8`, and the least and the greatest `u8`, if there is such a count.
+type Ranges = Option<(i8, i8, u8, u8)>;
+
+/// The numbers of an `i8` and of a `u8` in the given number of bits.
+fn ranges(bits: u32) -> Ranges {
     let signed = SignedBitCount::<128>::try_from(bits).ok()?.range::<i8>();
     let unsigned = BitCount::<128>::try_from(bits).ok()?.range::<u8>();
     Some((
@@ -46,40 +54,47 @@ fn ranges(bits: u32) -> Option<(i8, i8, u8, u8)> {
     ))
 }
 
-fn ranges_of_counts() -> bool {
+const RANGES: [(u32, Ranges); 7] = [
+    (0, None),
+    (1, Some((-1, 0, 0, 1))),
+    (4, Some((-8, 7, 0, 15))),
+    (8, Some((-128, 127, 0, 255))),
+    (9, Some((-128, 127, 0, 255))),
+    (12, Some((-128, 127, 0, 255))),
+    (129, None),
+];
+
+fn are_ranges(rows: &[(u32, Ranges)]) -> bool {
     let mut right = true;
-    for (bits, want) in [
-        (0, None),
-        (1, Some((-1, 0, 0, 1))),
-        (4, Some((-8, 7, 0, 15))),
-        (8, Some((-128, 127, 0, 255))),
-        (9, Some((-128, 127, 0, 255))),
-        (12, Some((-128, 127, 0, 255))),
-        (129, None),
-    ] {
-        right &= ranges(bits) == want;
+    for (bits, want) in rows {
+        right &= ranges(*bits) == *want;
     }
     right
 }
 
-/// The parts of 222 at the given number of bits, with the count of the lower.
-fn split(bits: u32) -> Option<(u8, u32, u8)> {
+/// The high part of a number, and the count and the value of the low one, if there is such a count.
+type Parts = Option<(u8, u32, u8)>;
+
+/// The parts of 222 at the given number of bits.
+fn split(bits: u32) -> Parts {
     let mask = BitCount::<16>::try_from(bits).ok()?.mask_lsb::<u8>();
     let (high, low) = mask.split(222);
     let (count, low) = low.into_count_value();
     Some((high, u32::from(count), low))
 }
 
-fn parts_of_numbers() -> bool {
+const PARTS: [(u32, Parts); 5] = [
+    (0, Some((222, 0, 0))),
+    (3, Some((27, 3, 6))),
+    (8, Some((0, 8, 222))),
+    (12, Some((0, 8, 222))),
+    (17, None),
+];
+
+fn are_parts(rows: &[(u32, Parts)]) -> bool {
     let mut right = true;
-    for (bits, want) in [
-        (0, Some((222, 0, 0))),
-        (3, Some((27, 3, 6))),
-        (8, Some((0, 8, 222))),
-        (12, Some((0, 8, 222))),
-        (17, None),
-    ] {
-        right &= split(bits) == want;
+    for (bits, want) in rows {
+        right &= split(*bits) == *want;
     }
     right
 }
@@ -95,21 +110,24 @@ fn is_excessive(bits: u32, value: i8) -> bool {
     refused(bits, value) == Some(CheckedError::ExcessiveValue)
 }
 
-fn ends_of_signed_widths() -> bool {
+/// Widths, and the least and the greatest number that each holds.
+const ENDS: [(u32, i8, i8); 7] = [
+    (1, -1, 0),
+    (2, -2, 1),
+    (3, -4, 3),
+    (4, -8, 7),
+    (5, -16, 15),
+    (6, -32, 31),
+    (7, -64, 63),
+];
+
+fn are_ends(rows: &[(u32, i8, i8)]) -> bool {
     let mut right = true;
-    for (bits, least, greatest) in [
-        (1, -1, 0),
-        (2, -2, 1),
-        (3, -4, 3),
-        (4, -8, 7),
-        (5, -16, 15),
-        (6, -32, 31),
-        (7, -64, 63),
-    ] {
-        right &= refused(bits, least).is_none()
-            & refused(bits, greatest).is_none()
-            & is_excessive(bits, least - 1)
-            & is_excessive(bits, greatest + 1);
+    for (bits, least, greatest) in rows {
+        right &= refused(*bits, *least).is_none()
+            & refused(*bits, *greatest).is_none()
+            & is_excessive(*bits, least.wrapping_sub(1))
+            & is_excessive(*bits, greatest.wrapping_add(1));
     }
     right
 }
@@ -127,10 +145,10 @@ fn whole_widths_and_signs() -> bool {
 fn r02_numbers_counts(rt: HostRuntime) {
     let right = [
         whole_widths_and_signs(),
-        sums_of_counts(),
-        ranges_of_counts(),
-        parts_of_numbers(),
-        ends_of_signed_widths(),
+        are_sums(&SUMS),
+        are_ranges(&RANGES),
+        are_parts(&PARTS),
+        are_ends(&ENDS),
     ];
     each_holds(&rt, &right);
 }

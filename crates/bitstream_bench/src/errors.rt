@@ -4,6 +4,7 @@ use bitstream_io::{CheckedError, Error};
 use std::alloc::Global;
 use std::io;
 use std::io::ErrorKind;
+use std::process::Abort;
 
 /// Errors, their texts, and the kinds of the `io::Error`s that stand for them.
 const ROWS: [(Error, &str, ErrorKind); 15] = [
@@ -79,9 +80,14 @@ fn says(alloc: Global, error: Error, text: &str, kind: ErrorKind) -> bool {
     said & own & (io::Error::from(error).kind() == kind)
 }
 
+/// Asserts that each of these errors says so.
+fn each_says(rt: &impl Abort, alloc: Global, rows: [(Error, &str, ErrorKind); 15]) {
+    for (error, text, kind) in rows {
+        holds_of(rt, says(alloc, error, text, kind), text);
+    }
+}
+
 #[test]
 fn each_error_has_its_text_and_kind(rt: HostRuntime) {
-    for (error, text, kind) in ROWS {
-        holds_of(&rt, says(rt.alloc(), error, text, kind), text);
-    }
+    each_says(&rt, rt.alloc(), ROWS);
 }

@@ -336,11 +336,16 @@ fn ends_at_each(alloc: Global, row: &Row) -> bool {
     right
 }
 
+/// Asserts that each of these rows does.
+fn end_at_each(rt: &impl Abort, alloc: Global, rows: &[Row]) {
+    for row in rows {
+        holds_of(rt, ends_at_each(alloc, row), row.0);
+    }
+}
+
 #[test]
 fn each_request_of_a_repacking_may_be_refused(rt: HostRuntime) {
-    for row in &REPACKINGS {
-        holds_of(&rt, ends_at_each(rt.alloc(), row), row.0);
-    }
+    end_at_each(&rt, rt.alloc(), &REPACKINGS);
 }
 
 /// Whether an unpacking whose input says at this request that it ends is told as that.

@@ -2,6 +2,7 @@
 use crate::asserts::{each_holds, failed, same};
 use bitstream_io::{BE, BitWrite, BitWriter, ByteWrite, ByteWriter, Endianness, Error, LE};
 use std::io::ErrorKind;
+use std::process::Abort;
 
 /// Whether a request was refused as there was no room for it.
 fn lacks_room(answer: Result<(), Error>) -> bool {
@@ -99,13 +100,18 @@ fn leaves<E: Endianness>(room: usize, written: usize, wanted: [u8; 6]) -> bool {
     fine & told & (memory == wanted)
 }
 
-#[test]
-fn writes_while_there_is_room(rt: HostRuntime) {
-    for row in &ROWS {
+/// Asserts that each row leaves this memory, in either order.
+fn each_leaves(rt: &impl Abort, rows: &[Row]) {
+    for row in rows {
         let high = leaves::<BE>(row.room, row.written, row.big_endian);
         let low = leaves::<LE>(row.room, row.written, row.little_endian);
-        same(&rt, (row.room, high, low), (row.room, true, true));
+        same(rt, (row.room, high, low), (row.room, true, true));
     }
+}
+
+#[test]
+fn writes_while_there_is_room(rt: HostRuntime) {
+    each_leaves(&rt, &ROWS);
 }
 
 /// Numbers of two bytes are written, and one byte where one of two bytes has no room.

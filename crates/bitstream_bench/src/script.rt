@@ -6,6 +6,7 @@ use bitstream_io::{
 };
 use std::alloc::Global;
 use std::io::ErrorKind;
+use std::process::Abort;
 use test_streams::{Drip, Refuse};
 
 /// A list of calls with a number in more bits than its type has, or fewer calls if memory is refused.
@@ -257,15 +258,25 @@ fn lists_of_reads_answer_each_call(rt: HostRuntime) {
     each_holds(&rt, &[past, groups, dripped]);
 }
 
+/// Whether the packet is answered so over a stream that refuses behind the given number of requests.
+fn is_answered(alloc: Global, left: usize, wanted: &[Want]) -> bool {
+    let mut reader = BitReader::<_, BE>::new(Refuse {
+        inner: D.as_slice(),
+        left: u32::try_from(left).ok(),
+        once: false,
+        kind: ErrorKind::ConnectionReset,
+    });
+    are_answered(alloc, &mut reader, &PACKET, wanted)
+}
+
+/// Asserts that it is answered so over a stream that refuses its first request, its second, and so on.
+fn each_is_answered(rt: &impl Abort, alloc: Global, refused: &[[Want; 5]]) {
+    for (left, wanted) in refused.iter().enumerate() {
+        holds(rt, is_answered(alloc, left, wanted));
+    }
+}
+
 #[test]
 fn lists_of_reads_answer_up_to_a_refusal(rt: HostRuntime) {
-    for (left, wanted) in PACKET_REFUSED.iter().enumerate() {
-        let mut reader = BitReader::<_, BE>::new(Refuse {
-            inner: D.as_slice(),
-            left: u32::try_from(left).ok(),
-            once: false,
-            kind: ErrorKind::ConnectionReset,
-        });
-        holds(&rt, are_answered(rt.alloc(), &mut reader, &PACKET, wanted));
-    }
+    each_is_answered(&rt, rt.alloc(), &PACKET_REFUSED);
 }

@@ -5,6 +5,7 @@ use bitstream_io::{
     BE, BitRead, BitReader, BitWrite, BitWriter, ByteRead, ByteReader, Endianness, Error, LE,
 };
 use std::alloc::Global;
+use std::process::Abort;
 use test_streams::{Count, Endless, RefuseMemory};
 
 /// The given number of bytes, of which neighbours differ, or fewer if memory is refused.
@@ -70,19 +71,27 @@ fn goes_in<E: Endianness + Drop>(
     written & front & same & (reader.into_reader().requests == requests)
 }
 
+/// What bytes are read as, behind how many bits, how many there are, and how many requests that takes.
+const PIECES: [(Form, u32, usize, u64); 4] = [
+    (Form::Primitive, 0, 20, 1),
+    (Form::Primitive, 1, 20, 1 + 3),
+    (Form::Vector, 0, 9000, 3),
+    (Form::Vector, 3, 9000, 1 + 4 + 4 + 1),
+];
+
+/// Asserts that each goes in so, in either order.
+fn each_goes_in(rt: &impl Abort, alloc: Global, rows: &[(Form, u32, usize, u64)]) {
+    for (form, place, len, requests) in rows {
+        let bytes = pattern(alloc, *len);
+        let high = goes_in::<BE>(alloc, *form, *place, &bytes, *requests);
+        let low = goes_in::<LE>(alloc, *form, *place, &bytes, *requests);
+        same(rt, (*len, *place, high, low), (*len, *place, true, true));
+    }
+}
+
 #[test]
 fn long_bytes_go_in_pieces(rt: HostRuntime) {
-    for (form, place, len, requests) in [
-        (Form::Primitive, 0, 20, 1),
-        (Form::Primitive, 1, 20, 1 + 3),
-        (Form::Vector, 0, 9000, 3),
-        (Form::Vector, 3, 9000, 1 + 4 + 4 + 1),
-    ] {
-        let bytes = pattern(rt.alloc(), len);
-        let high = goes_in::<BE>(rt.alloc(), form, place, &bytes, requests);
-        let low = goes_in::<LE>(rt.alloc(), form, place, &bytes, requests);
-        same(&rt, (len, place, high, low), (len, place, true, true));
-    }
+    each_goes_in(&rt, rt.alloc(), &PIECES);
 }
 
 /// Whether a vector of 9000 bytes comes where memory serves its three growths, and else fails a reader
