@@ -194,7 +194,8 @@ fn word_at<'a>(words: &[&'a str], at: usize) -> &'a str {
     words.get(at).copied().unwrap_or("")
 }
 
-/// The number that a text spells.
+/// The number that a text spells. It is compiled once a type, and not with each call that it goes to.
+#[inline(never)]
 pub fn number<T: FromStr<Err = ParseIntError>>(text: &str) -> Result<T, Objection> {
     match text.parse() {
         Ok(number) => Ok(number),
@@ -203,6 +204,7 @@ pub fn number<T: FromStr<Err = ParseIntError>>(text: &str) -> Result<T, Objectio
 }
 
 /// The value that a text spells, or none where it spells 0.
+#[inline(never)]
 pub fn optional<N: FromStr<Err = ParseIntError>>(text: &str) -> Result<Option<N>, Objection> {
     if text == "0" {
         Ok(None)
