@@ -4,11 +4,11 @@ use crate::objection::{Difference, Objection, agrees};
 use crate::row::{Kind, calls_of};
 use crate::sinks::call_sink;
 use bitstream_io::write::Counter;
-use bitstream_io::{BitCounter, BitsWritten, LE};
+use bitstream_io::{BE, BitCounter, Endianness, LE};
 use std::alloc::Global;
 
-/// Makes calls on new counters of a type, which then hold the given number of bits.
-fn count_in<N: Counter + Drop>(
+/// Makes calls on a new counter of a type and an order, which then holds the given number of bits.
+fn count_in<N: Counter + Drop, E: Endianness>(
     alloc: Global,
     calls: &[Call<'_>],
     bits: u128,
@@ -16,12 +16,9 @@ fn count_in<N: Counter + Drop>(
 where
     u128: From<N>,
 {
-    let (mut high, mut low) = (BitsWritten::<N>::new(), BitCounter::<N, LE>::new());
-    call_sink(alloc, &mut high, calls, Difference::Answer)?;
-    call_sink(alloc, &mut low, calls, Difference::Answer)?;
-    let high = u128::from(high.written());
-    let low = u128::from(low.written());
-    agrees([high, low] == [bits; 2], Difference::Length)
+    let mut counter = BitCounter::<N, E>::new();
+    call_sink(alloc, &mut counter, calls, Difference::Answer)?;
+    agrees(u128::from(counter.written()) == bits, Difference::Length)
 }
 
 /// Plays a row of a counter's type, its calls, and what it holds after them.
@@ -32,11 +29,14 @@ pub fn play_count(alloc: Global, kind: &str, calls: &str, after: &str) -> Result
     };
     let bits = number(bits)?;
     match kind {
-        "u8" => count_in::<u8>(alloc, &calls, bits),
-        "u16" => count_in::<u16>(alloc, &calls, bits),
-        "u32" => count_in::<u32>(alloc, &calls, bits),
-        "u64" => count_in::<u64>(alloc, &calls, bits),
-        "u128" => count_in::<u128>(alloc, &calls, bits),
+        "u8" => {
+            count_in::<u8, BE>(alloc, &calls, bits)?;
+            count_in::<u8, LE>(alloc, &calls, bits)
+        }
+        "u16" => count_in::<u16, LE>(alloc, &calls, bits),
+        "u32" => count_in::<u32, BE>(alloc, &calls, bits),
+        "u64" => count_in::<u64, LE>(alloc, &calls, bits),
+        "u128" => count_in::<u128, BE>(alloc, &calls, bits),
         _ => Err(Objection::BAD_FORM),
     }
 }
