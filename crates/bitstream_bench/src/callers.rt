@@ -157,12 +157,12 @@ fn has_32_bits(header: &BlockHeader) -> bool {
         & (counter.written() == 32)
 }
 
-/// Whether it is built.
+/// Whether a block's header is built.
 fn builds_header<W: BitWrite>(writer: &mut W, header: &BlockHeader) -> bool {
     writer.build(header).is_ok()
 }
 
-/// Whether it is parsed.
+/// Whether a block's header is parsed.
 fn parses_header<R: BitRead>(reader: &mut R, header: BlockHeader) -> bool {
     gives(reader.parse::<BlockHeader>(), header)
 }
@@ -219,7 +219,7 @@ fn writes_reading(reading: Reading, bits: u32, bytes: &[u8]) -> bool {
     written & (built.as_slice() == bytes)
 }
 
-/// Whether it comes back from them.
+/// Whether a reading comes back from its bytes.
 fn reads_reading(reading: Reading, bits: u32, bytes: &[u8]) -> bool {
     let mut reader = BitReader::<_, BE>::new(Slice::new(bytes));
     gives(reader.parse_with::<Reading>(&bits), reading)
@@ -253,7 +253,7 @@ fn builds_packet<W: ByteWrite>(writer: &mut W, header: &PacketHeader) -> bool {
     writer.build(header).is_ok() & gives(header.bytes::<u8>(), 3)
 }
 
-/// Whether it is parsed, and behind it one of another version is refused.
+/// Whether a packet's header is parsed, and one of another version behind it is refused.
 fn parses_packets<R: ByteRead>(reader: &mut R, header: PacketHeader) -> bool {
     let first: Result<PacketHeader, PacketError> = reader.parse();
     let other: Result<PacketHeader, PacketError> = reader.parse();

@@ -82,12 +82,12 @@ fn lack_sync(bytes: &[u8]) -> bool {
     matches!(AdtsHeader::parse(bytes), Err(AdtsError::NoSync))
 }
 
-/// Whether they are refused as of another layer.
+/// Whether bytes are refused as of another layer.
 fn lack_layer(bytes: &[u8]) -> bool {
     matches!(AdtsHeader::parse(bytes), Err(AdtsError::UnknownLayer))
 }
 
-/// Whether they are too few.
+/// Whether bytes are too few for a header.
 fn end_early(bytes: &[u8]) -> bool {
     matches!(
         AdtsHeader::parse(bytes),

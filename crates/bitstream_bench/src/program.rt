@@ -185,7 +185,7 @@ fn has_256_fields(alloc: Global, text: &str) -> bool {
     matches!(parse_layout(alloc, text), Ok(layout) if layout.fields().len() == 256)
 }
 
-/// Whether it has too many.
+/// Whether a layout has too many fields.
 fn has_too_many_fields(alloc: Global, text: &str) -> bool {
     let wanted = Fault::new(0, Reason::TooManyFields);
     matches!(parse_layout(alloc, text), Err(fault) if fault == wanted)
@@ -207,40 +207,49 @@ enum Refusing {
     Output(u32),
 }
 
-/// A call of which a request of the input or of the output is refused: which one, the field of its
-/// fault, how many of the row's bytes went before, and how many requests were made of the input, of the
-/// output and of the stream for faults.
+/// A request of the input or of the output that is refused: which one, the field of the call's fault, how
+/// many of its bytes went before, and how many requests were made of the input, of the output and of the
+/// stream for faults.
 #[derive(Drop)]
-struct Refusal(Row, Refusing, usize, usize, (u64, u64, u64));
+struct Refusal(Refusing, usize, usize, (u64, u64, u64));
 
-const REFUSALS: [Refusal; 21] = [
+const OF_PACK: [Refusal; 5] = [
     // Reading to the end takes one request for the bytes and one that finds the end.
-    Refusal(PACKED, Refusing::Input(0), 0, 0, (1, 0, 1)),
-    Refusal(PACKED, Refusing::Input(1), 0, 0, (2, 0, 1)),
+    Refusal(Refusing::Input(0), 0, 0, (1, 0, 1)),
+    Refusal(Refusing::Input(1), 0, 0, (2, 0, 1)),
     // The first byte is full at the third field, the others at the last, and a flush follows.
-    Refusal(PACKED, Refusing::Output(0), 0, 0, (2, 1, 1)),
-    Refusal(PACKED, Refusing::Output(1), 0, 1, (2, 2, 1)),
-    Refusal(PACKED, Refusing::Output(2), 0, 4, (2, 3, 1)),
+    Refusal(Refusing::Output(0), 0, 0, (2, 1, 1)),
+    Refusal(Refusing::Output(1), 0, 1, (2, 2, 1)),
+    Refusal(Refusing::Output(2), 0, 4, (2, 3, 1)),
+];
+
+const OF_UNPACK: [Refusal; 5] = [
     // The bytes are needed at the first, the third and the last field.
-    Refusal(UNPACKED, Refusing::Input(0), 1, 0, (1, 0, 1)),
-    Refusal(UNPACKED, Refusing::Input(1), 3, 0, (2, 0, 1)),
-    Refusal(UNPACKED, Refusing::Input(2), 5, 0, (3, 0, 1)),
+    Refusal(Refusing::Input(0), 1, 0, (1, 0, 1)),
+    Refusal(Refusing::Input(1), 3, 0, (2, 0, 1)),
+    Refusal(Refusing::Input(2), 5, 0, (3, 0, 1)),
     // All lines are one request, and a flush follows.
-    Refusal(UNPACKED, Refusing::Output(0), 0, 0, (3, 1, 1)),
-    Refusal(UNPACKED, Refusing::Output(1), 0, 15, (3, 2, 1)),
+    Refusal(Refusing::Output(0), 0, 0, (3, 1, 1)),
+    Refusal(Refusing::Output(1), 0, 15, (3, 2, 1)),
+];
+
+const OF_SIZE: [Refusal; 4] = [
     // All lines are read, then one line is one request, and a flush follows.
-    Refusal(SIZED, Refusing::Input(0), 0, 0, (1, 0, 1)),
-    Refusal(SIZED, Refusing::Input(1), 0, 0, (2, 0, 1)),
-    Refusal(SIZED, Refusing::Output(0), 0, 0, (2, 1, 1)),
-    Refusal(SIZED, Refusing::Output(1), 0, 3, (2, 2, 1)),
+    Refusal(Refusing::Input(0), 0, 0, (1, 0, 1)),
+    Refusal(Refusing::Input(1), 0, 0, (2, 0, 1)),
+    Refusal(Refusing::Output(0), 0, 0, (2, 1, 1)),
+    Refusal(Refusing::Output(1), 0, 3, (2, 2, 1)),
+];
+
+const OF_REPACK: [Refusal; 7] = [
     // The fields are read, then one byte more is asked for, and nothing was written before.
-    Refusal(REPACKED, Refusing::Input(0), 1, 0, (1, 0, 1)),
-    Refusal(REPACKED, Refusing::Input(1), 3, 0, (2, 0, 1)),
-    Refusal(REPACKED, Refusing::Input(2), 5, 0, (3, 0, 1)),
-    Refusal(REPACKED, Refusing::Input(3), 0, 0, (4, 0, 1)),
-    Refusal(REPACKED, Refusing::Output(0), 0, 0, (4, 1, 1)),
-    Refusal(REPACKED, Refusing::Output(1), 0, 1, (4, 2, 1)),
-    Refusal(REPACKED, Refusing::Output(2), 0, 4, (4, 3, 1)),
+    Refusal(Refusing::Input(0), 1, 0, (1, 0, 1)),
+    Refusal(Refusing::Input(1), 3, 0, (2, 0, 1)),
+    Refusal(Refusing::Input(2), 5, 0, (3, 0, 1)),
+    Refusal(Refusing::Input(3), 0, 0, (4, 0, 1)),
+    Refusal(Refusing::Output(0), 0, 0, (4, 1, 1)),
+    Refusal(Refusing::Output(1), 0, 1, (4, 2, 1)),
+    Refusal(Refusing::Output(2), 0, 4, (4, 3, 1)),
 ];
 
 /// The kinds of refusals that are tried, with their reason.
@@ -292,9 +301,15 @@ fn ends_at(alloc: Global, row: &Row, refusing: Refusing) -> bool {
         & ended.faults.ends_with(b": stream fault\n")
 }
 
-/// Whether a call ends as it should if its request is refused with this kind.
-fn ends_refused(alloc: Global, refusal: &Refusal, kind: ErrorKind, reason: &str) -> bool {
-    let Refusal(row, refusing, field, written, requests) = refusal;
+/// Whether a row ends as it should if a request is refused with this kind.
+fn ends_refused(
+    alloc: Global,
+    row: &Row,
+    refusal: &Refusal,
+    kind: ErrorKind,
+    reason: &str,
+) -> bool {
+    let Refusal(refusing, field, written, requests) = refusal;
     let ended = play(alloc, row.0, row.1, false, refused_at(*refusing, kind));
     let front = row.2.get(..*written).unwrap_or(b"");
     match format!(in alloc; "{field}: {reason}") {
@@ -305,25 +320,32 @@ fn ends_refused(alloc: Global, refusal: &Refusal, kind: ErrorKind, reason: &str)
     }
 }
 
-/// Whether a call ends as it should if its request is refused with either kind.
-fn ends_refused_by_each(alloc: Global, refusal: &Refusal) -> bool {
+/// Whether a row ends as it should if a request is refused with either kind.
+fn ends_refused_by_each(alloc: Global, row: &Row, refusal: &Refusal) -> bool {
     let mut right = true;
     for (kind, reason) in KINDS {
-        right &= ends_refused(alloc, refusal, kind, reason);
+        right &= ends_refused(alloc, row, refusal, kind, reason);
     }
     right
 }
 
-/// Asserts that each of these calls ends as it should.
-fn are_refused(rt: &impl Abort, alloc: Global, refusals: &[Refusal]) {
+/// Asserts that a row ends as it should if one of these requests is refused.
+fn are_refused(rt: &impl Abort, alloc: Global, row: &Row, refusals: &[Refusal]) {
     for (at, refusal) in refusals.iter().enumerate() {
-        same(rt, (at, ends_refused_by_each(alloc, refusal)), (at, true));
+        same(
+            rt,
+            (at, ends_refused_by_each(alloc, row, refusal)),
+            (at, true),
+        );
     }
 }
 
 #[test]
 fn asks_nothing_more_after_a_refusal(rt: HostRuntime) {
-    are_refused(&rt, rt.alloc(), &REFUSALS);
+    are_refused(&rt, rt.alloc(), &PACKED, &OF_PACK);
+    are_refused(&rt, rt.alloc(), &UNPACKED, &OF_UNPACK);
+    are_refused(&rt, rt.alloc(), &SIZED, &OF_SIZE);
+    are_refused(&rt, rt.alloc(), &REPACKED, &OF_REPACK);
 }
 
 /// Whether a row ends as it should if one of the first requests of its input or output is refused.
@@ -336,7 +358,7 @@ fn ends_at_each(alloc: Global, row: &Row) -> bool {
     right
 }
 
-/// Asserts that each of these rows does.
+/// Asserts that each of these rows ends as it should if one of its first requests is refused.
 fn end_at_each(rt: &impl Abort, alloc: Global, rows: &[Row]) {
     for row in rows {
         holds_of(rt, ends_at_each(alloc, row), row.0);

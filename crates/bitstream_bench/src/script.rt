@@ -269,7 +269,8 @@ fn is_answered(alloc: Global, left: usize, wanted: &[Want]) -> bool {
     are_answered(alloc, &mut reader, &PACKET, wanted)
 }
 
-/// Asserts that it is answered so over a stream that refuses its first request, its second, and so on.
+/// Asserts that the packet is answered so over a stream that refuses its first request, its second,
+/// and so on.
 fn each_is_answered(rt: &impl Abort, alloc: Global, refused: &[[Want; 5]]) {
     for (left, wanted) in refused.iter().enumerate() {
         holds(rt, is_answered(alloc, left, wanted));

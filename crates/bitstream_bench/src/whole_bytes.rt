@@ -41,7 +41,7 @@ fn reads_primitive<R: BitRead>(reader: &mut R, bytes: &[u8]) -> bool {
     same & reader.read_bytes(&mut []).is_ok()
 }
 
-/// Whether they are read as a vector.
+/// Whether these bytes are read as a vector.
 fn reads_vector<R: BitRead>(alloc: Global, reader: &mut R, bytes: &[u8]) -> bool {
     matches!(reader.read_to_vec(alloc, bytes.len()), Ok(read) if read.as_slice() == bytes)
 }

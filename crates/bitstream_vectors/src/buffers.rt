@@ -45,7 +45,7 @@ impl Place {
             & writer.byte_align().is_ok()
     }
 
-    /// Writes that to a vector.
+    /// Writes these bits, bytes and zeros to a vector.
     fn write<E: Endianness>(self, written: &mut Vec<u8>, bytes: &[u8]) -> bool {
         self.write_to(&mut BitWriter::<_, E>::new(written), bytes)
     }
@@ -55,7 +55,7 @@ impl Place {
         reader.read_unsigned_var::<u8>(self.bits).is_ok() & reader.read_bytes(buf).is_ok()
     }
 
-    /// Reads that from bytes.
+    /// Reads as many bits, and then bytes, from memory.
     fn read<E: Endianness>(self, from: &[u8], buf: &mut [u8]) -> bool {
         self.read_from(&mut BitReader::<_, E>::new(from), buf)
     }
