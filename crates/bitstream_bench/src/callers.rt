@@ -1,25 +1,20 @@
-//! The callers, each once on its happy path.
+//! Callers without contracts, and types of a user's own, each once on its happy path. What the others say of
+//! the formats' bytes is proved: the worked rows of `bitstream_callers`.
 use crate::asserts::{are, each_holds, ended, gives, holds, same};
 use bitstream_callers::block_header::{BlockHeader, append};
-use bitstream_callers::header::{Header, version};
+use bitstream_callers::header::version;
 use bitstream_callers::packet_header::{PacketError, PacketHeader};
 use bitstream_callers::padded_port::PaddedPort;
 use bitstream_callers::plain::{chunk, direction, drift, first_block, parse_turn, picture_size};
 use bitstream_callers::reading::{Reading, ReadingError};
 use bitstream_callers::stream_info::{StreamInfo, StreamInfoBlock, sample_rate};
-use bitstream_callers::telemetry::{Sample, heartbeat};
+use bitstream_callers::telemetry::heartbeat;
 use bitstream_io::{
     BE, BitRead, BitReadExt, BitReader, BitWrite, BitWriteExt, BitWriter, BitsWritten, ByteRead,
     ByteReadExt, ByteReader, ByteWrite, ByteWriteExt, ByteWriter, Error, LE, Slice, SliceMut,
     ToBitStream, ToBitStreamWith, ToByteStream, ToByteStreamUsing, ToByteStreamWith,
 };
 use std::alloc::Global;
-
-/// The first 18 bytes of a STREAMINFO block.
-const BLOCK: [u8; 18] = [
-    0x10, 0x00, 0x10, 0x00, 0x00, 0x06, 0x06, 0x00, 0x21, 0x62, 0x0a, 0xc4, 0x42, 0xf0, 0x00, 0x04,
-    0xa6, 0xcc,
-];
 
 /// The fields of a block, in their order.
 fn fields(info: &StreamInfo) -> [u64; 8] {
@@ -37,15 +32,7 @@ fn fields(info: &StreamInfo) -> [u64; 8] {
 
 const FIELDS: [u64; 8] = [4096, 4096, 1542, 8546, 44100, 2, 16, 304844];
 
-#[test]
-fn parses_a_stream_info(rt: HostRuntime) {
-    let info = StreamInfo::parse(&BLOCK).expect(&rt, "a block");
-    same(&rt, fields(&info), FIELDS);
-    holds(&rt, gives(sample_rate(&BLOCK), 44100));
-    holds(&rt, ended(StreamInfo::parse(&BLOCK[..17])));
-}
-
-/// A whole block: those bytes, and the checksum behind them.
+/// A STREAMINFO block: its fields, and the checksum behind them.
 const WHOLE_BLOCK: [u8; 34] = [
     0x10, 0x00, 0x10, 0x00, 0x00, 0x06, 0x06, 0x00, 0x21, 0x62, 0x0a, 0xc4, 0x42, 0xf0, 0x00, 0x04,
     0xa6, 0xcc, 0xfa, 0xf2, 0x69, 0x2f, 0xfd, 0xec, 0x2d, 0x5b, 0x30, 0x01, 0x76, 0xb4, 0x62, 0x88,
@@ -109,43 +96,13 @@ fn has_bytes(made: Result<Vec<u8>, Error>, wanted: &[u8]) -> bool {
 }
 
 #[test]
-fn packs_a_sample(rt: HostRuntime) {
-    let sample = Sample {
-        seconds: 0x12345,
-        running: true,
-        temperature: -20,
-        pressure: 101325,
-    };
-    let packed = sample.pack(rt.alloc());
-    holds(
-        &rt,
-        has_bytes(packed, &[0x12, 0x34, 0x5f, 0xb1, 0x8b, 0xcd]),
-    );
-    holds(&rt, has_bytes(heartbeat(rt.alloc(), 5, true), &[0x0b]));
-}
-
-/// Whether a header is read from a reader.
-fn reads_header<R: BitRead>(reader: &mut R, header: Header) -> bool {
-    gives(Header::read(reader), header)
-}
-
-#[test]
-fn packs_a_header(rt: HostRuntime) {
-    let header = Header {
-        version: 5,
-        acknowledge: true,
-        priority: -2,
-        length: 0x0203,
-    };
-    let bytes = [0xbe, 0x02, 0x03];
-    let mut written = [0; 3];
-    let mut writer = BitWriter::<_, BE>::new(SliceMut::new(&mut written));
-    holds(&rt, header.write(&mut writer).is_ok() & (written == bytes));
-    let mut reader = BitReader::<_, BE>::new(Slice::new(&bytes));
-    holds(
-        &rt,
-        reads_header(&mut reader, header) & gives(version(&bytes), 5),
-    );
+fn reads_and_writes_without_contracts(rt: HostRuntime) {
+    let answers = [
+        gives(sample_rate(&WHOLE_BLOCK), 44100),
+        gives(version(&[0xbe, 0x02, 0x03]), 5),
+        has_bytes(heartbeat(rt.alloc(), 5, true), &[0x0b]),
+    ];
+    each_holds(&rt, &answers);
 }
 
 /// Whether a block's header tells its length of 32 bits, also by a counter.

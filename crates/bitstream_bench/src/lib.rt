@@ -20,8 +20,6 @@ mod examples;
 #[cfg(test)]
 mod faults;
 #[cfg(test)]
-mod formats;
-#[cfg(test)]
 mod numbers;
 #[cfg(test)]
 mod older;
