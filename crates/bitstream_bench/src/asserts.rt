@@ -14,16 +14,6 @@ pub(crate) fn are(rt: &impl Abort, bytes: &[u8], wanted: &[u8]) {
     assert_eq!(rt; bytes, wanted);
 }
 
-/// Asserts that a call is done.
-pub(crate) fn done(rt: &impl Abort, answer: Result<(), Error>) {
-    assert!(rt; answer.is_ok());
-}
-
-/// Asserts that a call answers the wanted value.
-pub(crate) fn answers<T: PartialEq + Drop>(rt: &impl Abort, answer: Result<T, Error>, wanted: T) {
-    assert!(rt; gives(answer, wanted));
-}
-
 /// Asserts that something holds.
 pub(crate) fn holds(rt: &impl Abort, what: bool) {
     assert!(rt; what);

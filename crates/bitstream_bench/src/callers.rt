@@ -1,5 +1,6 @@
-//! Callers without contracts, and types of a user's own, each once on its happy path. What the others say of
-//! the formats' bytes is proved: the worked rows of `bitstream_callers`.
+//! What no clause of the callers says: callers without contracts, types of a user's own on their happy path,
+//! that memory is not called refused while it is left, and the kind of a write with no room. What the others
+//! say of the formats' bytes is proved: the worked rows of `bitstream_callers`.
 use crate::asserts::{are, each_holds, ended, gives, holds, same};
 use bitstream_callers::block_header::{BlockHeader, append};
 use bitstream_callers::header::version;
@@ -7,14 +8,17 @@ use bitstream_callers::packet_header::{PacketError, PacketHeader};
 use bitstream_callers::padded_port::PaddedPort;
 use bitstream_callers::plain::{chunk, direction, drift, first_block, parse_turn, picture_size};
 use bitstream_callers::reading::{Reading, ReadingError};
+use bitstream_callers::samples::parse_samples;
+use bitstream_callers::sensor::state_code;
 use bitstream_callers::stream_info::{StreamInfo, StreamInfoBlock, sample_rate};
-use bitstream_callers::telemetry::heartbeat;
+use bitstream_callers::telemetry::{Sample, heartbeat};
 use bitstream_io::{
     BE, BitRead, BitReadExt, BitReader, BitWrite, BitWriteExt, BitWriter, BitsWritten, ByteRead,
     ByteReadExt, ByteReader, ByteWrite, ByteWriteExt, ByteWriter, Error, LE, Slice, SliceMut,
     ToBitStream, ToBitStreamWith, ToByteStream, ToByteStreamUsing, ToByteStreamWith,
 };
 use std::alloc::Global;
+use std::io::ErrorKind;
 
 /// The fields of a block, in their order.
 fn fields(info: &StreamInfo) -> [u64; 8] {
@@ -103,6 +107,52 @@ fn reads_and_writes_without_contracts(rt: HostRuntime) {
         has_bytes(heartbeat(rt.alloc(), 5, true), &[0x0b]),
     ];
     each_holds(&rt, &answers);
+}
+
+const SAMPLE: Sample = Sample {
+    seconds: 0x12345,
+    running: true,
+    temperature: -20,
+    pressure: 101325,
+};
+
+/// Whether these samples of 12 bits are read.
+fn reads_samples(alloc: Global, packed: &[u8], wanted: &[u16]) -> bool {
+    matches!(parse_samples(alloc, packed, 2), Ok(samples) if samples.as_slice() == wanted)
+}
+
+/// A body that always wants memory meets the contracts of these callers.
+#[test]
+fn serves_while_memory_is_left(rt: HostRuntime) {
+    let packed = [0xab, 0xcd, 0xef];
+    let answers = [
+        has_bytes(
+            SAMPLE.pack(rt.alloc()),
+            &[0x12, 0x34, 0x5f, 0xb1, 0x8b, 0xcd],
+        ),
+        has_bytes(
+            SAMPLE.frame(rt.alloc()),
+            &[0x30, 0x12, 0x34, 0x5f, 0xb1, 0x8b, 0xcd],
+        ),
+        gives(SAMPLE.bits(), 48),
+        reads_samples(rt.alloc(), &packed, &[0xabc, 0xdef]),
+        ended(parse_samples(rt.alloc(), &packed, 3)),
+        state_code(rt.alloc()).is_ok(),
+    ];
+    each_holds(&rt, &answers);
+}
+
+/// Whether a sample is refused for want of room.
+fn lacks_room(buffer: &mut [u8]) -> bool {
+    matches!(
+        SAMPLE.pack_into(buffer),
+        Err(Error::Stream(ErrorKind::WriteZero))
+    )
+}
+
+#[test]
+fn tells_that_a_buffer_is_too_short(rt: HostRuntime) {
+    holds(&rt, lacks_room(&mut [0; 5]));
 }
 
 /// Whether a block's header tells its length of 32 bits, also by a counter.

@@ -1,6 +1,6 @@
 //! The examples of the doc comments and of the front page, made by `.ci/examples` and compared by the
 //! gate: to change one, change it where it stands.
-use crate::asserts::{answers, are, done, holds, same};
+use crate::asserts::{are, holds, same};
 
 #[test]
 fn example_of_bit_count(rt: HostRuntime) {
@@ -53,7 +53,7 @@ fn example_of_bit_read2(rt: HostRuntime) {
 
     let mut reader = BitReader::<_, BE>::new([0xb1, 0xed, 0x3b, 0xc1].as_slice());
     for (bits, value) in [(2, 2), (3, 6), (5, 7), (3, 5), (19, 342977)] {
-        answers(&rt, reader.read::<u32>(bits), value);
+        same(&rt, reader.read::<u32>(bits).expect(&rt, "no error"), value);
     }
     holds(&rt, matches!(reader.read::<u32>(1), Err(Error::EndOfInput)));
 }
@@ -63,11 +63,15 @@ fn example_of_bit_write2(rt: HostRuntime) {
     use bitstream_io::{BE, BitWrite2, BitWriter, Bits};
 
     let mut writer = BitWriter::<_, BE>::new(Vec::new(rt.alloc()));
-    done(&rt, writer.write_out::<Bits<4>, u8>(10));
-    done(&rt, writer.write_unsigned_out::<Bits<2>, u8>(2));
-    done(&rt, writer.write_signed_out::<Bits<2>, i8>(-1));
-    done(&rt, writer.write_unary0(3));
-    done(&rt, writer.write_unsigned(4, 5u8));
+    writer.write_out::<Bits<4>, u8>(10).expect(&rt, "no error");
+    writer
+        .write_unsigned_out::<Bits<2>, u8>(2)
+        .expect(&rt, "no error");
+    writer
+        .write_signed_out::<Bits<2>, i8>(-1)
+        .expect(&rt, "no error");
+    writer.write_unary0(3).expect(&rt, "no error");
+    writer.write_unsigned(4, 5u8).expect(&rt, "no error");
     are(
         &rt,
         writer.into_writer().as_slice(),
@@ -101,8 +105,10 @@ fn example_of_growing(rt: HostRuntime) {
     use bitstream_io::{BE, BitWrite, BitWriter, Growing};
 
     let mut writer = BitWriter::<_, BE>::new(Growing::new(Vec::new(rt.alloc())));
-    done(&rt, writer.write_unsigned_var(12, 0xb1e_u16));
-    done(&rt, writer.byte_align());
+    writer
+        .write_unsigned_var(12, 0xb1e_u16)
+        .expect(&rt, "no error");
+    writer.byte_align().expect(&rt, "no error");
     are(
         &rt,
         writer.into_writer().as_slice(),
@@ -116,7 +122,11 @@ fn example_of_lent(rt: HostRuntime) {
 
     let mut bytes: &[u8] = &[0x12, 0x34];
     let mut reader = BitReader::<_, BE>::new(Lent::new(&mut bytes));
-    answers(&rt, reader.read_unsigned_var::<u8>(4), 1);
+    same(
+        &rt,
+        reader.read_unsigned_var::<u8>(4).expect(&rt, "no error"),
+        1,
+    );
     same(&rt, bytes, [0x34].as_slice());
 }
 
@@ -125,7 +135,11 @@ fn example_of_slice(rt: HostRuntime) {
     use bitstream_io::{BE, BitRead, BitReader, Error};
 
     let mut reader = BitReader::<_, BE>::over(&[0xb1, 0xed]);
-    answers(&rt, reader.read_unsigned_var::<u16>(12), 0xb1e);
+    same(
+        &rt,
+        reader.read_unsigned_var::<u16>(12).expect(&rt, "no error"),
+        0xb1e,
+    );
     holds(
         &rt,
         matches!(reader.read_unsigned_var::<u8>(8), Err(Error::EndOfInput)),
@@ -138,8 +152,10 @@ fn example_of_slice_mut(rt: HostRuntime) {
 
     let mut buffer = [0u8; 4];
     let mut writer = BitWriter::<_, BE>::over(&mut buffer);
-    done(&rt, writer.write_unsigned_var(12, 0xb1e_u16));
-    done(&rt, writer.byte_align());
+    writer
+        .write_unsigned_var(12, 0xb1e_u16)
+        .expect(&rt, "no error");
+    writer.byte_align().expect(&rt, "no error");
     let packed = writer.into_writer();
     are(&rt, packed.as_slice(), [0xb1, 0xe0].as_slice());
     same(&rt, packed.free(), 2);
@@ -150,8 +166,10 @@ fn example_of_bit_counter(rt: HostRuntime) {
     use bitstream_io::{BE, BitCounter, BitWrite};
 
     let mut counter = BitCounter::<u8, BE>::new();
-    done(&rt, counter.write_signed_var::<i8>(4, -3));
-    done(&rt, counter.write_bit(true));
+    counter
+        .write_signed_var::<i8>(4, -3)
+        .expect(&rt, "no error");
+    counter.write_bit(true).expect(&rt, "no error");
     same(&rt, counter.into_written(), 5);
 }
 
@@ -160,11 +178,13 @@ fn example_of_bit_recorder(rt: HostRuntime) {
     use bitstream_io::{BE, BitRecorder, BitWrite, BitWriter, Growing};
 
     let mut recorder = BitRecorder::<u32, BE, _>::new(rt.alloc());
-    done(&rt, recorder.write_unsigned_var(12, 0xb1e_u16));
+    recorder
+        .write_unsigned_var(12, 0xb1e_u16)
+        .expect(&rt, "no error");
     let bits = recorder.written_checked().expect(&rt, "no error");
     let mut writer = BitWriter::<_, BE>::new(Growing::new(Vec::new(rt.alloc())));
-    done(&rt, writer.write_unsigned_var(4, bits));
-    done(&rt, recorder.playback(&mut writer));
+    writer.write_unsigned_var(4, bits).expect(&rt, "no error");
+    recorder.playback(&mut writer).expect(&rt, "no error");
     are(
         &rt,
         writer.into_writer().as_slice(),
@@ -177,10 +197,10 @@ fn example_of_bits_written(rt: HostRuntime) {
     use bitstream_io::{BitWrite, BitsWritten, Bits};
 
     let mut counter = BitsWritten::<u16>::new();
-    done(&rt, counter.write_unsigned_var(3, 5u8));
-    done(&rt, counter.write_unary::<Bits<0>>(2));
-    done(&rt, counter.byte_align());
-    done(&rt, counter.write_bytes(&[1, 2]));
+    counter.write_unsigned_var(3, 5u8).expect(&rt, "no error");
+    counter.write_unary::<Bits<0>>(2).expect(&rt, "no error");
+    counter.byte_align().expect(&rt, "no error");
+    counter.write_bytes(&[1, 2]).expect(&rt, "no error");
     same(&rt, counter.written(), 24);
 }
 
@@ -189,8 +209,12 @@ fn example_of_byte_read(rt: HostRuntime) {
     use bitstream_io::{BE, ByteRead, ByteReader, Error, LE, Slice};
 
     let mut reader = ByteReader::<_, BE>::new(Slice::new(&[0xb1, 0xed, 0x3b, 0xc1]));
-    answers(&rt, reader.read::<u16>(), 0xb1ed);
-    answers(&rt, reader.read_as::<LE, u16>(), 0xc13b);
+    same(&rt, reader.read::<u16>().expect(&rt, "no error"), 0xb1ed);
+    same(
+        &rt,
+        reader.read_as::<LE, u16>().expect(&rt, "no error"),
+        0xc13b,
+    );
     holds(&rt, matches!(reader.read::<u8>(), Err(Error::EndOfInput)));
 }
 
@@ -199,9 +223,13 @@ fn example_of_byte_reader(rt: HostRuntime) {
     use bitstream_io::{ByteRead, ByteReader, LE, Slice};
 
     let mut reader = ByteReader::<_, LE>::new(Slice::new(&[0x01, 0x02, 0x03, 0x04, 0x05]));
-    answers(&rt, reader.read::<u16>(), 0x0201);
-    done(&rt, reader.skip(1));
-    answers(&rt, reader.read_to_bytes::<[u8; 2]>(), [0x04, 0x05]);
+    same(&rt, reader.read::<u16>().expect(&rt, "no error"), 0x0201);
+    reader.skip(1).expect(&rt, "no error");
+    same(
+        &rt,
+        reader.read_to_bytes::<[u8; 2]>().expect(&rt, "no error"),
+        [0x04, 0x05],
+    );
 }
 
 #[test]
@@ -209,8 +237,8 @@ fn example_of_byte_write(rt: HostRuntime) {
     use bitstream_io::{BE, ByteWrite, ByteWriter, LE};
 
     let mut writer = ByteWriter::<_, BE>::new(Vec::new(rt.alloc()));
-    done(&rt, writer.write_as::<LE, u16>(1));
-    done(&rt, writer.pad(3));
+    writer.write_as::<LE, u16>(1).expect(&rt, "no error");
+    writer.pad(3).expect(&rt, "no error");
     are(
         &rt,
         writer.into_writer().as_slice(),
@@ -223,8 +251,8 @@ fn example_of_byte_writer(rt: HostRuntime) {
     use bitstream_io::{ByteWrite, ByteWriter, LE};
 
     let mut writer = ByteWriter::<_, LE>::new(Vec::new(rt.alloc()));
-    done(&rt, writer.write(0x0201_u16));
-    done(&rt, writer.write_bytes(&[3, 4]));
+    writer.write(0x0201_u16).expect(&rt, "no error");
+    writer.write_bytes(&[3, 4]).expect(&rt, "no error");
     are(
         &rt,
         writer.into_writer().as_slice(),
@@ -246,13 +274,22 @@ fn example_of_bit_read(rt: HostRuntime) {
     use bitstream_io::{BE, BitCount, BitRead, BitReader, Bits, Error};
 
     let mut reader = BitReader::<_, BE>::new([0x7e, 0x58].as_slice());
-    done(
+    reader
+        .read_const::<Bits<4>, Bits<7>, Error>(Error::NoSignBit)
+        .expect(&rt, "no error");
+    same(
         &rt,
-        reader.read_const::<Bits<4>, Bits<7>, Error>(Error::NoSignBit),
+        reader.read_signed::<Bits<4>, i32>().expect(&rt, "no error"),
+        -2,
     );
-    answers(&rt, reader.read_signed::<Bits<4>, i32>(), -2);
     let last = reader.read_count::<BitCount<7>>().expect(&rt, "no error");
-    answers(&rt, reader.read_unsigned_counted::<_, u8>(last), 3);
+    same(
+        &rt,
+        reader
+            .read_unsigned_counted::<_, u8>(last)
+            .expect(&rt, "no error"),
+        3,
+    );
     reader.byte_align();
     holds(&rt, matches!(reader.read_bit(), Err(Error::EndOfInput)));
     holds(&rt, matches!(reader.read_bit(), Err(Error::Failed)));
@@ -268,7 +305,11 @@ fn example_of_bit_reader(rt: HostRuntime) {
     same(&rt, kind, 2);
     same(&rt, level, -2);
     reader.byte_align();
-    answers(&rt, reader.read_unsigned_var::<u8>(8), 0xed);
+    same(
+        &rt,
+        reader.read_unsigned_var::<u8>(8).expect(&rt, "no error"),
+        0xed,
+    );
     holds(&rt, matches!(reader.read_bit(), Err(Error::EndOfInput)));
 }
 
@@ -279,15 +320,33 @@ fn example_of_bit_reader_seek_bits(rt: HostRuntime) {
 
     let bytes = Cursor::new([0xb1, 0xed, 0x3b, 0xc1].as_slice());
     let mut reader = BitReader::<_, BE>::new(bytes);
-    answers(&rt, reader.seek_bits(SeekFrom::End(7)), 25);
-    answers(&rt, reader.read_unsigned_var::<u8>(7), 0x41);
-    answers(&rt, reader.seek_bits(SeekFrom::Current(-24)), 8);
-    answers(&rt, reader.read_unsigned_var::<u8>(8), 0xed);
+    same(
+        &rt,
+        reader.seek_bits(SeekFrom::End(7)).expect(&rt, "no error"),
+        25,
+    );
+    same(
+        &rt,
+        reader.read_unsigned_var::<u8>(7).expect(&rt, "no error"),
+        0x41,
+    );
+    same(
+        &rt,
+        reader
+            .seek_bits(SeekFrom::Current(-24))
+            .expect(&rt, "no error"),
+        8,
+    );
+    same(
+        &rt,
+        reader.read_unsigned_var::<u8>(8).expect(&rt, "no error"),
+        0xed,
+    );
     holds(
         &rt,
         matches!(reader.seek_bits(SeekFrom::Current(-17)), Err(Error::Place)),
     );
-    answers(&rt, reader.position_in_bits(), 16);
+    same(&rt, reader.position_in_bits().expect(&rt, "no error"), 16);
 }
 
 #[test]
@@ -296,11 +355,17 @@ fn example_of_bit_write(rt: HostRuntime) {
 
     let mut writer = BitWriter::<_, BE>::new(Vec::new(rt.alloc()));
     let count = BitCount::<7>::new::<2>();
-    done(&rt, writer.write_const::<Bits<4>, Bits<7>>());
-    done(&rt, writer.write_signed::<Bits<4>, i32>(-2));
-    done(&rt, writer.write_count(count));
-    done(&rt, writer.write_unsigned_counted(count, 3u8));
-    done(&rt, writer.byte_align());
+    writer
+        .write_const::<Bits<4>, Bits<7>>()
+        .expect(&rt, "no error");
+    writer
+        .write_signed::<Bits<4>, i32>(-2)
+        .expect(&rt, "no error");
+    writer.write_count(count).expect(&rt, "no error");
+    writer
+        .write_unsigned_counted(count, 3u8)
+        .expect(&rt, "no error");
+    writer.byte_align().expect(&rt, "no error");
     are(
         &rt,
         writer.into_writer().as_slice(),
@@ -313,10 +378,12 @@ fn example_of_bit_writer(rt: HostRuntime) {
     use bitstream_io::{BE, BitWrite, BitWriter, Bits};
 
     let mut writer = BitWriter::<_, BE>::new(Vec::new(rt.alloc()));
-    done(&rt, writer.write_unsigned::<Bits<4>, u8>(0xb));
-    done(&rt, writer.write_signed_var::<i8>(4, -3));
-    done(&rt, writer.write_bit(true));
-    done(&rt, writer.byte_align());
+    writer
+        .write_unsigned::<Bits<4>, u8>(0xb)
+        .expect(&rt, "no error");
+    writer.write_signed_var::<i8>(4, -3).expect(&rt, "no error");
+    writer.write_bit(true).expect(&rt, "no error");
+    writer.byte_align().expect(&rt, "no error");
     are(
         &rt,
         writer.into_writer().as_slice(),
@@ -335,8 +402,8 @@ fn example_of_checkable(rt: HostRuntime) {
         .expect(&rt, "no error");
     same(&rt, (level.written_bits(), level.into_value()), (4, 11));
     let mut writer = BitWriter::<_, BE>::new(Vec::new(rt.alloc()));
-    done(&rt, writer.write_checked(level));
-    done(&rt, writer.write_checked(level));
+    writer.write_checked(level).expect(&rt, "no error");
+    writer.write_checked(level).expect(&rt, "no error");
     are(&rt, writer.into_writer().as_slice(), [0xbb].as_slice());
 }
 
@@ -347,8 +414,12 @@ fn example_of_limited_unary(rt: HostRuntime) {
 
     let mut reader = BitReader::<_, BE>::new([0x20].as_slice());
     let run = LimitedUnary::<1, 3> {};
-    answers(&rt, reader.read_huffman(&run), Some(2));
-    answers(&rt, reader.read_huffman(&run), None);
+    same(
+        &rt,
+        reader.read_huffman(&run).expect(&rt, "no error"),
+        Some(2),
+    );
+    same(&rt, reader.read_huffman(&run).expect(&rt, "no error"), None);
 }
 
 #[test]
@@ -366,9 +437,9 @@ fn example_of_huffman_tree(rt: HostRuntime) {
         &rt, "no error",
     );
     let mut reader = BitReader::<_, BE>::new([0x98].as_slice());
-    answers(&rt, reader.read_huffman(&tree), 'b');
-    answers(&rt, reader.read_huffman(&tree), 'a');
-    answers(&rt, reader.read_huffman(&tree), 'c');
+    same(&rt, reader.read_huffman(&tree).expect(&rt, "no error"), 'b');
+    same(&rt, reader.read_huffman(&tree).expect(&rt, "no error"), 'a');
+    same(&rt, reader.read_huffman(&tree).expect(&rt, "no error"), 'c');
 }
 
 #[test]
@@ -389,10 +460,9 @@ fn example_of_bit_write_ext(rt: HostRuntime) {
     use bitstream_io::{BitWriteExt, BitWriter, Bits, LE};
 
     let mut writer = BitWriter::<_, LE>::new(Vec::new(rt.alloc()));
-    done(
-        &rt,
-        writer.write::<Bits<1>, [bool; 4]>([true, false, true, true]),
-    );
-    done(&rt, writer.write_var::<i8>(4, -1));
+    writer
+        .write::<Bits<1>, [bool; 4]>([true, false, true, true])
+        .expect(&rt, "no error");
+    writer.write_var::<i8>(4, -1).expect(&rt, "no error");
     are(&rt, writer.into_writer().as_slice(), [0xfd].as_slice());
 }
