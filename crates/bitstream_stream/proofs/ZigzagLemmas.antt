@@ -6,7 +6,7 @@ use Rattle.std.proofs.lemmas.Int.{ints}
 use Rattle.std.proofs.lemmas.Nat.{and_mask}
 use Rattle.bitstream_number.specs.Word.{FitsSignedBits, zig, zag}
 use Rattle.bitstream_number.proofs.WordLemmas.{half}
-use lib.Signed.{mag}
+use lib.Signed.{mag, ◌≤ℤ◌}
 
 rest_of : (a m q : ℕ) → a < q → pos m ≡ negsuc a +ℤ pos q → m ≡ q - 1 - a
 rest_of a m q h e = omega (arith, ints)
@@ -68,3 +68,8 @@ odd_back k n p one b q r x size some below same bit set turned shifted is =
     let small = half_below n q r some (turned_below n p q turned) shifted in
     let place : 2 ^ (n - 1) - 1 - r ≡ p / 2 = omega (arith, half n some) in
     rw odd (is ∙ ap (λ j. pos r -ℤ pos (2 ^ (j - 1))) size ∙ taken r _ small ∙ ap negsuc place)
+
+-- no number of n bits below 0 lies below the least one
+pub above_least : (n : ℕ) (x : ℤ) → FitsSignedBits n x → x <ℤ pos 0 → pos 0 ≤ℤ (x +ℤ pos (2 ^ (n - 1)))
+above_least n (pos a) fits below = absurd (omega (arith, ints))
+above_least n (negsuc a) fits below = omega (arith, ints)

@@ -16,7 +16,7 @@ loop-bytes-init g c =
     let few = c.requires.few in
     let queued = c.args.queued in
     let queue = c.args.queue in
-    let byte : queue < 256 = search rules in
+    let byte : queue < 256 = c.ranges.queue.fits in
     let last = last_queue o size _ queued queue _ _ _ (omega (arith, few, whole, least)) c.requires.small
     c.BITS_SIZE.ensures (ap g.U.UnsignedInteger.value c.ZERO.ensures
     ∙ laws.ZERO_value_law) (laws.byte_law _ _ c.from_u8.ensures byte) c.put-before.ensures in

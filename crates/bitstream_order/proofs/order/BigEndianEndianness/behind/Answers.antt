@@ -1,4 +1,4 @@
-use Rattle.std.proofs.Common.{rules, arith, ap, ◌∙◌, ◌*◌, ◌-◌, ◌%◌, ◌^◌, ◌<◌}
+use Rattle.std.proofs.Common.{arith, ap, ◌∙◌, ◌*◌, ◌-◌, ◌%◌, ◌^◌, ◌<◌}
 use Rattle.bitstream_order.proofs.PieceLemmas.{behind_high}
 use Rattle.bitstream_order.proofs.order.BigEndianEndianness.behind.Goals as goal
 
@@ -9,7 +9,7 @@ returns g c =
     let whole = g.met.U.Numeric.size_law in
     let least = g.met.U.Numeric.least_law in
     let few = c.requires.few in
-    let byte : c.args.queue < 256 = search rules in
+    let byte : c.args.queue < 256 = c.ranges.queue.fits in
     behind_high size c.args.queued c.args.queue (g.U.UnsignedInteger.value c.args.value) _ _ _ _ c.requires.small
     (omega arith) (laws.known_law _ c.known.ensures) (laws.byte_law _ _ c.from_u8.ensures byte)
     (c.shl_default.ensures ∙ ap (λ w. g.U.UnsignedInteger.value c.from_u8.result * 2 ^ (w - c.args.queued) % 2 ^ size)

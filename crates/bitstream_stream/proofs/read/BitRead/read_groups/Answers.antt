@@ -1,4 +1,4 @@
-use Rattle.std.proofs.Common.{rules, arith, ◌≡◌, ◌-◌, ◌^◌, ◌<◌, sym, ap, ◌∙◌, pow_pos, ◌≤◌}
+use Rattle.std.proofs.Common.{arith, ◌-◌, ◌^◌, ◌<◌, sym, ap, ◌∙◌, pow_pos, ◌≤◌}
 use Rattle.bitstream_number.proofs.Masks.{masked-is}
 use Rattle.bitstream_order.proofs.SignLemmas.{half_is}
 use Rattle.bitstream_stream.proofs.GroupLemmas.{apart, mask_below}
@@ -14,8 +14,8 @@ pub sub-mask-requires : goal.sub-mask-requires
 sub-mask-requires g c =
     let u = g.U.UnsignedInteger in
     let law = g.met.U.UnsignedInteger in
-    let one : u.value c.ONE.result ≡ 1 = search rules in
-    let unit : u.value c.ONE-2.result ≡ 1 = search rules in
+    let one = ap u.value c.ONE.ensures ∙ law.ONE_value_law in
+    let unit = ap u.value c.ONE-2.ensures ∙ law.ONE_value_law in
     let m = c.BITS-payload.result - 1 in
     let size = g.U.Numeric.BITS_SIZE in
     let less : m < size = omega (arith, c.BITS-payload.ensures, c.requires.within) in
@@ -30,9 +30,9 @@ pub loop-shift-init : goal.loop-shift-init
 loop-shift-init g c =
     let u = g.U.UnsignedInteger in
     let law = g.met.U.UnsignedInteger in
-    let one : u.value c.ONE.result ≡ 1 = search rules in
-    let unit : u.value c.ONE-2.result ≡ 1 = search rules in
-    let none : u.value c.ZERO-value.result ≡ 0 = search rules in
+    let one = ap u.value c.ONE.ensures ∙ law.ONE_value_law in
+    let unit = ap u.value c.ONE-2.ensures ∙ law.ONE_value_law in
+    let none = ap u.value c.ZERO-value.ensures ∙ law.ZERO_value_law in
     let m = c.BITS-payload.result - 1 in
     let size = g.U.Numeric.BITS_SIZE in
     let less : m < size = omega (arith, c.BITS-payload.ensures, c.requires.within) in

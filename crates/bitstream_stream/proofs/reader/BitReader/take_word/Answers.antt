@@ -7,7 +7,7 @@ use Rattle.bitstream_stream.proofs.reader.BitReader.take_word.Goals as goal
 
 pub returns-clause-reads : goal.returns-clause-reads
 returns-clause-reads g c =
-    let byte : c.first-first.result < 256 = search rules in
+    let byte : c.first-first.result < 256 = c.first-first.type_inv in
     let queue : c.args.self.now.queue < 256 = search rules in
     let few = c.args.self.now.few in
     let value = g.met.U.UnsignedInteger.byte_law _ _ c.from_u8.ensures byte ∙ c.first-first.ensures.value in

@@ -1,4 +1,4 @@
-use Rattle.std.proofs.Common.{rules, arith, ◌<◌, ◌^◌, ◌∙◌, ap}
+use Rattle.std.proofs.Common.{arith, ◌<◌, ◌^◌, ◌∙◌, ap}
 use Rattle.bitstream_number.specs.Word.{count_width}
 use Rattle.bitstream_stream.proofs.SignedLemmas.{count-was_done, count-stops, count_never_above, seen_is}
 use Rattle.bitstream_stream.proofs.reader.BitReaderBitRead.read_count.Goals as goal
@@ -13,7 +13,7 @@ returns-in_err-number-clause-asks g c = rw (c.count_bits.ensures.width, c.MAX.en
 
 pub unreachable-requires : goal.unreachable-requires
 unreachable-requires g c =
-    let max : c.MAX.result < 2 ^ 32 = search rules in
+    let max : c.MAX.result < 2 ^ 32 = c.MAX.type_inv in
     let is = c.MAX.ensures in
     count_never_above _ g.C.Count.MAX _ _ (omega (arith, max, is)) c.requires.full (c.count_bits.ensures.width
     ∙ ap count_width is) c.in_ok-number.ensures.reads c.in-None.ensures
