@@ -69,7 +69,7 @@ odd_back k n p one b q r x size some below same bit set turned shifted is =
     let place : 2 ^ (n - 1) - 1 - r ≡ p / 2 = omega (arith, half n some) in
     rw odd (is ∙ ap (λ j. pos r -ℤ pos (2 ^ (j - 1))) size ∙ taken r _ small ∙ ap negsuc place)
 
--- no number of n bits below 0 lies below the least one
+-- a number below 0 that fits n bits is at least - 2 ^ (n - 1)
 pub above_least : (n : ℕ) (x : ℤ) → FitsSignedBits n x → x <ℤ pos 0 → pos 0 ≤ℤ (x +ℤ pos (2 ^ (n - 1)))
 above_least n (pos a) fits below = absurd (omega (arith, ints))
 above_least n (negsuc a) fits below = omega (arith, ints)
