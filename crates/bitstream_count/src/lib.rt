@@ -1,4 +1,6 @@
 //! Errors, counts of bits, and values that are known to fit a count.
+//!
+//! Ported from `bitstream-io` 4.10.0 by Brian Langenberger; MIT OR Apache-2.0, see `LICENSE`.
 #![tactic(auto)]
 
 mod checked_error;

@@ -1,5 +1,7 @@
 //! Reads and writes values of any number of bits, in either order of bits.
 //!
+//! Ported from `bitstream-io` 4.10.0 by Brian Langenberger; MIT OR Apache-2.0, see `LICENSE`.
+//!
 //! The items stand in modules by subject. Most stand here too.
 //!
 //! # Examples

@@ -1,4 +1,6 @@
 //! Readers and writers of bits and of bytes.
+//!
+//! Ported from `bitstream-io` 4.10.0 by Brian Langenberger; MIT OR Apache-2.0, see `LICENSE`.
 #![tactic(auto)]
 
 pub mod byte_read;

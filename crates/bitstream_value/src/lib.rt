@@ -1,4 +1,6 @@
 //! Values of any type that is read and written as bits.
+//!
+//! Ported from `bitstream-io` 4.10.0 by Brian Langenberger; MIT OR Apache-2.0, see `LICENSE`.
 #![tactic(auto)]
 
 pub mod build;
