@@ -1,8 +1,7 @@
 //! Packs decimal values into bit fields, counts their bits, unpacks bit fields into decimal values, and repacks them.
 #![tactic(auto)]
 
-use bitfields_core::run::{report, run};
-use bitfields_core::{Fault, Reason};
+use bitfields_core::{Fault, Reason, report, run};
 use std::io::ErrorKind;
 use std::process::ExitCode;
 use std::{env, io};

@@ -2,10 +2,10 @@
 use Rattle.std.specs.Prelude.{ℕ, if◌then◌else◌, List, [], ◌∷◌, codes, Option, Some, None, nat_eq}
 use Rattle.std.specs.Cmp.Lexicographic.{pointwise}
 use Rattle.bitstream_io.specs.Word.{Order, High, Low}
-use Rattle.bitfields_core.specs.declared.run.Command.{Command}
-use Rattle.bitfields_core.specs.declared.run.Command.TheVariants.{Pack, Unpack, Size, Repack}
-use Rattle.bitfields_core.specs.declared.run.NamedOrder.{NamedOrder}
-use Rattle.bitfields_core.specs.declared.run.NamedOrder.TheVariants.{Big, Little}
+use Rattle.bitfields_core.specs.declared.running.Command.{Command}
+use Rattle.bitfields_core.specs.declared.running.Command.TheVariants.{Pack, Unpack, Size, Repack}
+use Rattle.bitfields_core.specs.declared.running.NamedOrder.{NamedOrder}
+use Rattle.bitfields_core.specs.declared.running.NamedOrder.TheVariants.{Big, Little}
 
 -- the command that a word names
 abbrev pub command_of : List ℕ → Option Command

@@ -9,8 +9,8 @@ use Rattle.bitfields_core.specs.declared.fault.Reason.TheVariants.{BadArguments,
 use Rattle.bitfields_core.specs.declared.fault.Fault.{Fault}
 use Rattle.bitfields_core.specs.declared.field.Field.{Field}
 use Rattle.bitfields_core.specs.declared.field_value.FieldValue.{FieldValue}
-use Rattle.bitfields_core.specs.declared.run.Command.{Command}
-use Rattle.bitfields_core.specs.declared.run.Command.TheVariants.{Pack, Unpack, Size, Repack}
+use Rattle.bitfields_core.specs.declared.running.Command.{Command}
+use Rattle.bitfields_core.specs.declared.running.Command.TheVariants.{Pack, Unpack, Size, Repack}
 use Rattle.bitfields_core.specs.Call.{Request}
 use Rattle.bitfields_core.specs.Fault.{fault, fault_line}
 use Rattle.bitfields_core.specs.Layout.{IsUnlessMemory, layout_of}

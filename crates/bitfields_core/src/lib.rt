@@ -2,9 +2,9 @@
 //! bits, unpacks bit fields into decimal values, and repacks them.
 //!
 //! [`parse_layout`] gives the [`Layout`] that a text spells. [`pack`], [`unpack`],
-//! [`size`](size::size) and [`repack`] do what a layout means, in either order of bits.
-//! [`run`](run::run) is a whole call of the program `bitfields`, over its words and its streams, and
-//! [`report`](run::report) prints why a call failed, which is a [`Fault`]. The [`laws`] are those of
+//! [`size`] and [`repack`] do what a layout means, in either order of bits.
+//! [`run`] is a whole call of the program `bitfields`, over its words and its streams, and
+//! [`report`] prints why a call failed, which is a [`Fault`]. The [`laws`] are those of
 //! layouts and values, whatever parses or packs them.
 #![tactic(auto)]
 
@@ -20,8 +20,8 @@ mod layout;
 mod lines;
 mod packing;
 mod repacking;
-pub mod run;
-pub mod size;
+mod running;
+mod sizing;
 mod unpacking;
 mod value;
 
@@ -32,4 +32,6 @@ pub use input::Input;
 pub use layout::{Layout, parse_layout};
 pub use packing::pack;
 pub use repacking::repack;
+pub use running::{report, run};
+pub use sizing::size;
 pub use unpacking::unpack;

@@ -14,7 +14,7 @@ use crate::input::Input;
 use crate::layout::{Layout, parse_layout};
 use crate::packing::pack;
 use crate::repacking::repack;
-use crate::size::size;
+use crate::sizing::size;
 use crate::unpacking::unpack;
 use bitstream_io::{BigEndian, Endianness, LittleEndian, Target};
 use std::alloc::{AllocError, Global};

@@ -5,8 +5,7 @@ use crate::program_rows::{
     BYTES, CONSTANTS, D, HEADLINE, PACKED, PIPELINES, REDUNDANT, REPACKED, REPACKINGS, ROWS, Row,
     SIZED, SIZES, UNPACKED,
 };
-use bitfields_core::run::run;
-use bitfields_core::{Fault, Reason, parse_layout};
+use bitfields_core::{Fault, Reason, parse_layout, run};
 use std::alloc::{AllocError, Global};
 use std::io::ErrorKind;
 use std::process::Abort;

@@ -1,9 +1,9 @@
 use Rattle.std.proofs.Common.{◌≡◌, ◌≢◌, ℕ, ◌<◌, ◌≤◌, List, [], ◌∷◌, length, get_or, map, None, Some, Err, ap, arith, refl, rules, string_bytes, sym, ◌∙◌}
-use Rattle.bitfields_core.specs.declared.run.Command.{Command}
-use Rattle.bitfields_core.specs.declared.run.NamedOrder.{NamedOrder}
+use Rattle.bitfields_core.specs.declared.running.Command.{Command}
+use Rattle.bitfields_core.specs.declared.running.NamedOrder.{NamedOrder}
 use Rattle.bitfields_core.specs.Call.{Request, bit_order, command_of, order_of, request_of}
-use Rattle.bitfields_core.proofs.run.call.Goals as goal
-use Rattle.bitfields_core.proofs.run.call.Goals.{in_default-via-then-words-lt3, in_default-via-else-words-lt3+else-words-lt4}
+use Rattle.bitfields_core.proofs.running.call.Goals as goal
+use Rattle.bitfields_core.proofs.running.call.Goals.{in_default-via-then-words-lt3, in_default-via-else-words-lt3+else-words-lt4}
 
 -- three words, of which the first two name a command and an order
 asked : {S : Type 0} (text : S → List ℕ) (words : List S) {x y z : S} {command : Command}

@@ -3,7 +3,7 @@ use Rattle.bitfields_core.specs.Run.{refused_input}
 use Rattle.bitfields_core.specs.Streams.{ReadToEnd}
 use Rattle.bitfields_core.proofs.PackingLemmas.{result_err}
 use Rattle.bitfields_core.proofs.RunLemmas.{packed_input, packing_fault, packing_unflushed}
-use Rattle.bitfields_core.proofs.run.pack_input.Goals as goal
+use Rattle.bitfields_core.proofs.running.pack_input.Goals as goal
 
 pub returns-in_err-bytes : goal.returns-in_err-bytes
 returns-in_err-bytes g c =

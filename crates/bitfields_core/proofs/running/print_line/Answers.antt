@@ -1,6 +1,6 @@
 use Rattle.bitfields_core.specs.Streams.{output_stream}
 use Rattle.bitfields_core.proofs.RunLemmas.{reported}
-use Rattle.bitfields_core.proofs.run.print_line.Goals as goal
+use Rattle.bitfields_core.proofs.running.print_line.Goals as goal
 
 pub returns : goal.returns
 returns g c =

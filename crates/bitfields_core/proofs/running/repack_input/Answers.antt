@@ -1,7 +1,7 @@
 use Rattle.std.proofs.Common.{refl}
 use Rattle.bitfields_core.specs.Run.{not_repacked, unflushed}
 use Rattle.bitfields_core.proofs.PackingLemmas.{result_err}
-use Rattle.bitfields_core.proofs.run.repack_input.Goals as goal
+use Rattle.bitfields_core.proofs.running.repack_input.Goals as goal
 
 pub returns-in_err-repack : goal.returns-in_err-repack
 returns-in_err-repack g c =

@@ -1,5 +1,5 @@
 use Rattle.std.proofs.Common.{Ok, Err, refl}
-use Rattle.bitfields_core.proofs.run.run.Goals as goal
+use Rattle.bitfields_core.proofs.running.run.Goals as goal
 
 pub returns-in-Ok : goal.returns-in-Ok
 returns-in-Ok g c = record { outcome = Ok tt; calls = c.in-Ok.ensures; reports = refl; ends = refl }

@@ -3,7 +3,7 @@ use Rattle.bitfields_core.specs.Run.{unknown_values}
 use Rattle.bitfields_core.specs.Streams.{ReadToEnd}
 use Rattle.bitfields_core.proofs.PackingLemmas.{result_err}
 use Rattle.bitfields_core.proofs.RunLemmas.{sizing_fault, sizing_refused, sizing_unflushed, sized}
-use Rattle.bitfields_core.proofs.run.size_input.Goals as goal
+use Rattle.bitfields_core.proofs.running.size_input.Goals as goal
 
 pub returns-in_err-text : goal.returns-in_err-text
 returns-in_err-text g c =

@@ -1,7 +1,7 @@
 use Rattle.std.proofs.Common.{refl}
 use Rattle.bitfields_core.specs.Run.{refused_lines, stopped_input, unflushed_lines}
 use Rattle.bitfields_core.proofs.PackingLemmas.{result_err}
-use Rattle.bitfields_core.proofs.run.unpack_input.Goals as goal
+use Rattle.bitfields_core.proofs.running.unpack_input.Goals as goal
 
 pub returns-in_err-lines : goal.returns-in_err-lines
 returns-in_err-lines g c =

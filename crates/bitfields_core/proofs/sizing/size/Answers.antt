@@ -2,7 +2,7 @@ use Rattle.std.proofs.Common.{arith, refl, ◌∙◌}
 use Rattle.bitfields_core.proofs.MemoryLemmas.{value_expected, fault_expected}
 use Rattle.bitfields_core.proofs.PackingLemmas.{result_err}
 use Rattle.bitfields_core.proofs.SizeLemmas.{counts-size, size-done, size-fault}
-use Rattle.bitfields_core.proofs.size.size.Goals as goal
+use Rattle.bitfields_core.proofs.sizing.size.Goals as goal
 
 pub returns-in_err-values : goal.returns-in_err-values
 returns-in_err-values c =
