@@ -272,8 +272,8 @@ fn refused_at(refusing: Refusing, kind: ErrorKind) -> Refused {
     }
 }
 
-/// Whether a call that had this request refused made it last, and asked for no output if it was the
-/// input's, or else made no such request.
+/// Whether the refused request was the last one made, with no output asked for behind one of the
+/// input's; `None` if the call never made it.
 fn is_last(ended: &Ended, refusing: Refusing) -> Option<bool> {
     let (input, output, _) = ended.requests;
     match refusing {

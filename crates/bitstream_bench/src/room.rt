@@ -81,8 +81,8 @@ const ROWS: [Row; 7] = [
     },
 ];
 
-/// Whether a packet in this much room is written if there is room for it, and else is refused for want
-/// of it and fails its writer, and leaves this memory, of which it tells.
+/// Checks one row: with enough room the packet is written, else it is refused for want of it and the
+/// writer fails; the buffer is `wanted`, of which `written` bytes are told as written.
 fn leaves<E: Endianness>(room: usize, written: usize, wanted: [u8; 6]) -> bool {
     let room = room.min(6);
     let mut memory = [0xee_u8; 6];

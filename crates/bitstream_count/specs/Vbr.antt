@@ -44,8 +44,7 @@ vbr_word o field v = groups v o field v
 
 -- ---- reading
 
--- the number of a group with these low digits and of the groups behind it, which stand for `high`; for a strict read
--- they do not stand for 0
+-- low digits + high * 2^payload, of a group and the groups behind it; a strict read also requires high > 0
 abbrev pub joined : Bool → ℕ → ℕ → ℕ → Result ℕ Error
 joined strict field low high =
     if strict && nat_lt high 1 then Err RedundantGroup else Ok (low + 2 ^ (field - 1) * high)

@@ -76,19 +76,20 @@ place_behind p (step ∷ run) = place_behind step.1 run
 abbrev pub failed_answers : Order → List ReadCall → List (Option (Result Answer Error))
 failed_answers o calls = map (λ call. Some (read_entry o call).on_failed) calls
 
--- What read calls answer, if the bits left are these. A reader that had failed is as it was. Else each call answers
--- as the read run; or up to one that finds a run too long; or up to one of which a request was refused, or memory.
--- Behind these each call answers as on a failed reader. A call is refused at a true end only if it has no front.
+-- What read calls answer, if the bits left are these: one of five outcomes.
 pub data ReadsRun {R : Type 0} (K : BitSource R) (calls : List ReadCall) (bits : List Bool) (old : R)
     (answers : List (Option (Result Answer Error))) (new : R) : Type 0 where
+  -- The reader had failed: each call answers so, and nothing changes.
   had_failed : (K.state old).failed ≡ true → answers ≡ failed_answers K.order calls → K.state new ≡ K.state old
       → ReadsRun K calls bits old answers new
+  -- Each call answers as the read run.
   was_done : (K.state old).failed ≡ false → (K.state new).failed ≡ false
       → length (read_run (read_entries K.order calls) (K.state old).taken bits) ≡ length calls
       → answers ≡ run_answers (read_run (read_entries K.order calls) (K.state old).taken bits)
       → (K.state new).taken ≡ place_behind (K.state old).taken
       (read_run (read_entries K.order calls) (K.state old).taken bits)
       → ReadsRun K calls bits old answers new
+  -- Up to a call that finds a run too long; each behind it answers as on a failed reader.
   too_long : (before behind : List ReadCall) (first : List (Result Answer Error × ℕ)) (place : ℕ)
       → (K.state old).failed ≡ false → (K.state new).failed ≡ true
       → calls ≡ before ++ behind → length before ≡ length first + 1
@@ -96,6 +97,8 @@ pub data ReadsRun {R : Type 0} (K : BitSource R) (calls : List ReadCall) (bits :
       → answers ≡ run_answers first ++ Some (Err RunTooLong) ∷ failed_answers K.order behind
       → (K.state new).taken ≡ place
       → ReadsRun K calls bits old answers new
+  -- Up to a call whose request was refused, at a true end only if it has no front; each behind it answers as on a
+  -- failed reader.
   was_refused : (before : List ReadCall) (call : ReadCall) (behind : List ReadCall)
       (first others : List (Result Answer Error × ℕ)) (refusal : Refusal)
       → (K.state old).failed ≡ false → (K.state new).failed ≡ true
@@ -105,6 +108,7 @@ pub data ReadsRun {R : Type 0} (K : BitSource R) (calls : List ReadCall) (bits :
       → (IsTrueEnd refusal → others ≡ [])
       → answers ≡ run_answers first ++ Some (Err (read_refusal_of refusal.kind)) ∷ failed_answers K.order behind
       → ReadsRun K calls bits old answers new
+  -- Up to a call to which memory was refused; each behind it answers as on a failed reader.
   memory_refused : (before : List ReadCall) (call : ReadCall) (behind : List ReadCall)
       (first others : List (Result Answer Error × ℕ))
       → (K.state old).failed ≡ false → (K.state new).failed ≡ true

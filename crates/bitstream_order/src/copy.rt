@@ -40,8 +40,8 @@ pub(crate) fn copy(to: &mut [u8], from: &[u8])
 }
 
 /// Copies the first `count` bytes to the front of a buffer, if there are so many, and returns whether
-/// there are. What stands behind them in the buffer is not told: if there are enough bytes to fill it,
-/// it is filled, as its length is mostly known as the program is compiled.
+/// there are. The rest of the buffer is unspecified: it may be overwritten, because a copy of constant
+/// length is faster.
 #[inline(always)]
 pub(crate) fn copy_front(to: &mut [u8], from: &[u8], count: usize) -> bool
     requires { count ≤ length to.old }

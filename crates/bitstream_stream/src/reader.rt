@@ -109,8 +109,8 @@ impl<R: Source, E: Endianness> BitReader<R, E> {
     {
         let queued = self.queued;
         let queue = U::from_u8(E::first(self.queue, queued));
-        // A refused request leaves by the `?` below. So the reader is what it is to be then: it has
-        // failed, its queue is empty, and the queued bits are taken.
+        // Set the failed state first: if the request below is refused, `?` returns, and the reader must
+        // have failed already. Success undoes it.
         self.queue = 0;
         self.queued = 0;
         self.failed = true;

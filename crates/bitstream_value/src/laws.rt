@@ -52,9 +52,8 @@ pub fn limited_runs_are_paths()
         → IfSome v (λ k. k < most) × (w ≡ limited_unary stop most v) }
 {}
 
-/// What `bits` answers is the number of bits that `to_writer` appends behind whole bytes, or
-/// `CounterOverflow` if C does not hold it: if the words of the value have one length in both orders
-/// of bits, at all places that are as far behind a whole byte.
+/// If a value's words have the same length in both orders of bits, `bits` is the number of bits that
+/// `to_writer` appends at a byte boundary, or `CounterOverflow` if C cannot hold it.
 pub fn bits_are_those_appended<T: ToBitStream, C: Counter, W: BitWrite>()
     ensures { (value : T) (old new : W) (bits : Result C T.Error) (n : ℕ)
         → HasOneLength (λ o. T.writes o value) → W.sink.len old % 8 ≡ 0

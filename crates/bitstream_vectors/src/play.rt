@@ -72,8 +72,8 @@ impl Fault {
 }
 
 impl Way {
-    /// What a call of a row answers on such a stream: on one that refuses, the answer of the row
-    /// before the call that is refused, that of the refusal there, and what it leads to behind it.
+    /// What a call of a row answers on such a stream. Before the refused call: the row's answer; at it:
+    /// the refusal; after it: `later_answer`.
     fn answer<'a>(self, row: &Row<'_>, at: usize, call: &Call<'a>) -> &'a str {
         match self {
             Way::Refused(fault) if at == fault.call => fault.answer(row.kind),

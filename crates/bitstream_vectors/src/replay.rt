@@ -193,8 +193,8 @@ fn seeks_at(row: &Row<'_>, steps: &[Moved], call: usize, served: u64) -> bool {
     served.saturating_sub(before) < seeks
 }
 
-/// How many requests a row's calls make from the one on that is refused: that one, and each seek behind
-/// it; or, of a reader or writer of bytes, one for each call from there on that asks for anything.
+/// Requests made from the refused one on. Bits: that one, and later seeks. Bytes: one for each later
+/// call that asks for anything.
 fn refusals(row: &Row<'_>, fault: Fault) -> u64 {
     match row.layer {
         Layer::Bits => {

@@ -75,9 +75,9 @@ pub fn lists_of_reads_are_known<R: BitRead>()
         ((R.source.state old).queue ++ bits_of R.source.order bytes)) }
 {}
 
-/// What a list of write calls appends, the matching reads of its accepted calls read back, whatever
-/// follows it: each value that was written is answered, and 0 where it was written in no bits. The
-/// reads begin at the same place in a byte as the writes, which may be another number of bits.
+/// Reading back: the matching reads of the accepted calls return the values written (0 for a field of
+/// 0 bits), whatever bits follow. The reads begin at the same place in a byte as the writes, which may
+/// be another number of bits.
 pub fn written_calls_are_read()
     ensures answers { (o : Order) (calls : List WriteCall) (len p : ℕ) (more : List Bool)
         → All IsCall calls → p % 8 ≡ len % 8

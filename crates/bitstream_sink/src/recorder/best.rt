@@ -25,9 +25,9 @@ pub trait Recorder: BitWrite + Sized {
         ensures { IsTrue result ↔ ((Self.sink.failed self.now ≡ false)
             × (Self.sink.len self.now < Self.sink.len other.now)) };
 
-    /// Clears a candidate, has a function record with it, and returns the candidate if it has not
-    /// failed and has fewer bits than this recorder, which stands in its place then. Else it returns
-    /// this one, and the candidate stays as the function left it.
+    /// Clears `candidate`, records into it with `f`, and returns the shorter of the two; this recorder
+    /// on a tie, or if the candidate has failed. If the candidate wins, `*candidate` becomes the old
+    /// recorder. Else it stays as the function left it.
     ///
     /// # Errors
     ///
