@@ -45,6 +45,11 @@ pub trait UnsignedInteger: Numeric {
 
     ghost signed: { Self.Signed → ℤ };
 
+    /// Converts a number, which must be in the type's range.
+    fn from_u64(number: u64) -> Self
+        requires { number < 2 ^ Self.BITS_SIZE }
+        ensures { value result ≡ number };
+
     /// Converts a number to the signed type. Its most significant bit must be 0.
     fn as_non_negative(self) -> Self::Signed
         requires { value self < 2 ^ (Self.BITS_SIZE - 1) }

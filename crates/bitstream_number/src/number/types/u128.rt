@@ -143,6 +143,10 @@ impl UnsignedInteger for u128 {
 
     ghost signed = { λ z. z };
 
+    fn from_u64(number: u64) -> u128 {
+        number as u128
+    }
+
     fn as_non_negative(self) -> i128 {
         self as i128
     }

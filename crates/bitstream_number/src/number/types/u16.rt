@@ -143,6 +143,10 @@ impl UnsignedInteger for u16 {
 
     ghost signed = { λ z. z };
 
+    fn from_u64(number: u64) -> u16 {
+        number as u16
+    }
+
     fn as_non_negative(self) -> i16 {
         self as i16
     }

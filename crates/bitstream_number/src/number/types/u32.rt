@@ -143,6 +143,10 @@ impl UnsignedInteger for u32 {
 
     ghost signed = { λ z. z };
 
+    fn from_u64(number: u64) -> u32 {
+        number as u32
+    }
+
     fn as_non_negative(self) -> i32 {
         self as i32
     }

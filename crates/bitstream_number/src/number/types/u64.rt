@@ -143,6 +143,10 @@ impl UnsignedInteger for u64 {
 
     ghost signed = { λ z. z };
 
+    fn from_u64(number: u64) -> u64 {
+        number
+    }
+
     fn as_non_negative(self) -> i64 {
         self as i64
     }

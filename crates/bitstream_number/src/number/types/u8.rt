@@ -143,6 +143,10 @@ impl UnsignedInteger for u8 {
 
     ghost signed = { λ z. z };
 
+    fn from_u64(number: u64) -> u8 {
+        number as u8
+    }
+
     fn as_non_negative(self) -> i8 {
         self as i8
     }
