@@ -184,7 +184,7 @@ begins_low v at le =
     ap (λ n. word Low n (v / 2 ^ at)) turn ∙ word-add Low at k (v / 2 ^ at)
     ∙ ap (λ x. x ++ word Low at (v / 2 ^ at / 2 ^ k)) (sym rest)
 
-rest_long : (o : Order) (v at : ℕ) → length (drop at (word o 64 v)) ≡ 64 - at
+pub rest_long : (o : Order) (v at : ℕ) → length (drop at (word o 64 v)) ≡ 64 - at
 rest_long o v at = length-drop at (word o 64 v) ∙ ap (λ n. n - at) (length-word o 64 v)
 
 -- a run that ends within the bits of a number behind the first few, from a number that begins with them

@@ -8,6 +8,11 @@ pub mod GroupLemmas
 pub mod LawLemmas
 pub mod LentLemmas
 pub mod LentWalk
+pub mod MemoryBytes
+pub mod MemoryLemmas
+pub mod MemoryRuns
+pub mod MemoryWindows
+pub mod MemoryWords
 pub mod PlaceLemmas
 pub mod ReaderLemmas
 pub mod ReadsLemmas

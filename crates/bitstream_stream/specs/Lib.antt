@@ -5,6 +5,10 @@ pub mod ByteSink
 pub mod ByteWriter
 pub mod Carries
 pub mod Groups
+pub mod Memory
+pub mod MemorySource
+pub mod MemoryState
+pub mod MemoryTakes
 pub mod Place
 pub mod ReadTable
 pub mod Reader

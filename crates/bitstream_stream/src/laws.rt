@@ -25,6 +25,7 @@ ghost use Rattle.bitstream_stream.specs.Writer.{writer_state};
 use crate::byte_write::ByteWrite;
 use crate::read::BitRead;
 use crate::reader::BitReader;
+use crate::slice_reader::SliceReader;
 use crate::write::BitWrite;
 use crate::writer::BitWriter;
 use bitstream_order::growing::Growing;
@@ -129,4 +130,9 @@ pub fn slices_tell_their_rest<E: Endianness>()
 /// A [`Slice`] refuses none of the seeks that a seek of a reader makes.
 pub fn slices_refuse_no_seek()
     ensures { (refusal : Refusal) → MaySeek (MayRefuseSeek slice_remaining (λ _. []) slice_refuses_seek) refusal → ⊥ }
+{}
+
+/// A reader of bytes in memory is refused only at a true end.
+pub fn memory_ends<E: Endianness>()
+    ensures { TrueEnds ⟦<SliceReader<'static, E> as BitRead>⟧.source.may }
 {}

@@ -16,6 +16,7 @@ mod piece;
 pub mod place;
 pub mod read;
 pub mod reader;
+pub mod slice_reader;
 pub mod vbr;
 mod width;
 pub mod write;
