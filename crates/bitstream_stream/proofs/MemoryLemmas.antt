@@ -1,6 +1,7 @@
 -- A reader of bytes in memory goes on by some bits.
-use Rattle.std.specs.Prelude.{if◌then◌else◌, option_map, IfSome}
-use Rattle.std.proofs.Common.{◌≡◌, ℕ, suc, not, replicate, ◌+◌, ◌-◌, ◌*◌, ◌/◌, ◌%◌, ◌^◌, ◌<◌, ◌≤◌, Bool, true, false, List, [], ◌∷◌, ◌++◌, length, take, drop, Some, Result, Ok, Err, refl, sym, ap, ap₂, ◌∙◌, subst, arith, append_assoc, append-nil, length-append, take-append-drop}
+use Rattle.std.specs.Prelude.{if◌then◌else◌, option_map, IfSome, IsTrue, ◌↔◌, ◌==◌}
+use Rattle.std.proofs.Common.{◌≡◌, ℕ, suc, not, replicate, ◌+◌, ◌-◌, ◌*◌, ◌/◌, ◌%◌, ◌^◌, ◌<◌, ◌≤◌, Bool, true, false, List, [], ◌∷◌, ◌++◌, length, take, drop, Some, Result, Ok, Err, refl, sym, ap, ap₂, ◌∙◌, subst, arith, append_assoc, append-nil, length-append, take-append-drop, inl, inr}
+use Rattle.std.proofs.lemmas.Bool.Decides.{eqb_tells}
 use Rattle.std.proofs.KnownBytes.{Consumes-nil}
 use Rattle.std.proofs.Math.Nat.{mod-eq_of_lt}
 use Rattle.std.proofs.lemmas.List.{length-take-le, length-drop, drop-take, drop-drop, drop-append-le, take-append-le}
@@ -15,11 +16,11 @@ use Rattle.bitstream_number.proofs.WordLemmas.{length-bits, bits-append, length-
 use Rattle.bitstream_order.specs.Refusal.{Refusal}
 use Rattle.bitstream_order.specs.Tail.{IsTail}
 use Rattle.bitstream_stream.specs.Reads.{ReaderState, Reads, ReadDone, had_failed, was_done, was_refused, bits_left, failed_reader}
-use Rattle.bitstream_stream.specs.ReadTable.{unsigned_entry, unary_entry, skip_entry, align_entry}
+use Rattle.bitstream_stream.specs.ReadTable.{unsigned_entry, unary_entry, skip_entry, align_entry, whole_bytes_entry}
 use Rattle.bitstream_stream.specs.Alignment.{to_boundary}
 use Rattle.bitstream_stream.specs.Reader.{new_reader_state}
 use Rattle.bitstream_stream.proofs.EntryLemmas.{word_front-some, word_front-none, word_needs}
-use Rattle.bitstream_stream.proofs.ReadsLemmas.{Took, Took-too_long}
+use Rattle.bitstream_stream.proofs.ReadsLemmas.{Took, Took-too_long, Reads-chain-ok}
 use Rattle.bitstream_stream.proofs.TableLemmas.{unsigned-takes}
 use Rattle.bitstream_stream.specs.Memory.{held, rest_bits, taken_bits, memory_state}
 use Rattle.bitstream_stream.specs.MemoryState.{held_there, rest_length}
@@ -278,6 +279,19 @@ pub left_known : {E : Type 0} (o : Order) (r : SliceReader E) (P : ℕ → Type 
     → P (8 * length r.bytes.now - r.bit) → IfSome (bits_left o ((memory_source o).state r)) (λ left. P (length left))
 left_known o r P fine h = subst P (sym (some_is (left_size o r fine))) h
 
+-- no bits are left of no bytes
+pub end_known : (len bit : ℕ) (empty : Bool) → bit < 8 → empty ≡ (len == 0) → IsTrue empty ↔ (8 * len - bit ≡ 0)
+end_known len bit empty few is = elim (eqb_tells len 0) [
+  | inl same ↦
+      let none = same.1 in
+      let yes : empty ≡ true = is ∙ same.0 in
+      ((λ _. omega (arith, none)), (λ _. yes))
+  | inr other ↦
+      let some = other.1 in
+      let no : empty ≡ false = is ∙ other.0 in
+      ((λ h. cc), (λ none. absurd (omega (arith, none, some, few))))
+]
+
 -- a new reader
 pub new_state : (o : Order) (bytes : List ℕ) → memory_state o bytes bytes 0 false [] ≡ new_reader_state (Some bytes) []
 new_state o bytes =
@@ -354,14 +368,30 @@ run_long {E = E} o stop old mid new fine long h broken =
     broken (λ more. others_long stop n more refl)
     (λ front c back parts. begins_others stop n front c back (omega arith) parts))
 
--- at a boundary no bit of the first byte is taken
-pub at_boundary : (a bit : ℕ) → bit < 8 → (8 * a + bit) % 8 ≡ 0 → bit ≡ 0
-at_boundary a bit few whole = omega arith
+-- whole bytes that are taken behind the end of a byte
+pub whole_failed : {E : Type 0} (o : Order) (n : ℕ) (r : SliceReader E) → r.failed ≡ true
+    → Reads (memory_source o) (whole_bytes_entry n) r (Err Failed) r
+whole_failed o n r failed =
+    Reads-chain-ok align_entry (λ _. skip_entry (8 * n)) (align_failed o r failed) (skip_failed o (8 * n) r failed)
 
--- the reader of a part
-pub part_state : (o : Order) (all bytes known : List ℕ) (bit n : ℕ) (failed : Bool) (refusals : List Refusal) (s : ReaderState)
-    → bit ≡ 0 → (memory_state o all bytes bit failed refusals).bytes ≡ Some known
-    → s ≡ new_reader_state (Some (take n bytes)) [] → s ≡ new_reader_state (Some (take n known)) []
-part_state o all bytes known bit n failed refusals s none told is =
-    let same : bytes ≡ known = some_is (ap (λ k. Some (drop (held k) bytes)) (sym none) ∙ told) in
-    is ∙ ap (λ xs. new_reader_state (Some (take n xs)) []) same
+pub whole_read : {E : Type 0} (o : Order) (n : ℕ) (old mid new : SliceReader E) → old.failed ≡ false
+    → GoesOn ((8 - old.bit) % 8) old mid → GoesOn (8 * n) mid new
+    → Reads (memory_source o) (whole_bytes_entry n) old (Ok tt) new
+whole_read o n old mid new fine h k =
+    Reads-chain-ok align_entry (λ _. skip_entry (8 * n)) (aligned o ((8 - old.bit) % 8) old mid fine refl h)
+    (skipped o (8 * n) mid new (h.failed ∙ fine) k)
+
+pub whole_refused : {E : Type 0} (o : Order) (n : ℕ) (old mid new : SliceReader E) → old.failed ≡ false
+    → GoesOn ((8 - old.bit) % 8) old mid → length mid.bytes.now < n → FailsAtEnd mid new
+    → Reads (memory_source o) (whole_bytes_entry n) old (Err EndOfInput) new
+whole_refused o n old mid new fine h short k =
+    let whole : mid.bit ≡ 0 = omega (arith, h.bit, old.few) in
+    Reads-chain-ok align_entry (λ _. skip_entry (8 * n)) (aligned o ((8 - old.bit) % 8) old mid fine refl h)
+    (skip_refused o (8 * n) mid new (h.failed ∙ fine) (omega (arith, whole, short)) k)
+
+-- the bytes behind the end of a byte are those of which no bit is taken
+pub behind_byte : {E : Type 0} (bytes : List ℕ) (old mid : SliceReader E) → GoesOn ((8 - old.bit) % 8) old mid
+    → Some (drop (held old.bit) old.bytes.now) ≡ Some bytes → mid.bytes.now ≡ bytes
+behind_byte bytes old mid h told =
+    let same : (old.bit + (8 - old.bit) % 8) / 8 ≡ held old.bit = omega (arith, old.few) in
+    h.bytes ∙ ap (λ k. drop k old.bytes.now) same ∙ some_is told

@@ -1,5 +1,5 @@
 //! A reader of the bits of bytes in memory, which knows its place, its rest and its end.
-ghost use Rattle.std.specs.Prelude.{◌≡◌, ◌+◌, ◌*◌, ◌<◌, ◌≤◌, ◌^◌, false, [], length, Some, IfSome};
+ghost use Rattle.std.specs.Prelude.{◌≡◌, ◌+◌, ◌*◌, ◌<◌, ◌≤◌, ◌^◌, ◌↔◌, IsTrue, false, [], length, Some, IfSome};
 ghost use Rattle.bitstream_order.specs.Tail.{IsTail};
 ghost use Rattle.bitstream_stream.specs.Reader.{new_reader_state};
 
@@ -89,6 +89,15 @@ impl<'a, E: Endianness> SliceReader<'a, E> {
     {
         let left = 8 * self.bytes.len() as u128 - self.bit as u128;
         if left < 1 << 64 { left as u64 } else { u64::MAX }
+    }
+
+    /// Returns whether no bit is left. Of a reader that has failed, whether none was left before.
+    pub fn is_at_end(&self) -> bool
+        ensures { ((memory_source E.order).state self.now).failed ≡ false
+            → IfSome (bits_left E.order ((memory_source E.order).state self.now))
+            (λ left. IsTrue result ↔ (length left ≡ 0)) }
+    {
+        self.bytes.is_empty()
     }
 
     /// Returns the bytes of which no bit is taken, also of a reader that has failed.
