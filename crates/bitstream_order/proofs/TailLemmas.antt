@@ -1,7 +1,7 @@
 -- The last bytes of some, of which the first are taken, and the place at which they begin.
-use Rattle.std.proofs.Common.{◌≡◌, ℕ, zero, suc, ◌+◌, ◌-◌, ◌<◌, List, [], ◌++◌, length, take, drop, refl, sym, ap, ap₂, ◌∙◌, subst, arith, append_assoc, length-append, take-append-drop}
+use Rattle.std.proofs.Common.{◌≡◌, ℕ, zero, suc, ◌+◌, ◌-◌, ◌<◌, ◌≤◌, List, [], ◌++◌, length, take, drop, refl, sym, ap, ap₂, ◌∙◌, subst, arith, append_assoc, length-append, take-append-drop}
 use Rattle.std.proofs.Math.Seq.{take-append_seam, drop-append-add, drop-nil}
-use Rattle.std.proofs.lemmas.List.{length-take-le}
+use Rattle.std.proofs.lemmas.List.{length-drop, length-take-le}
 use Rattle.bitstream_order.specs.Tail.{IsTail}
 
 -- bytes behind some others are the last of both
@@ -36,3 +36,12 @@ behind_place past bytes all tail ended =
     let size : length front ≡ length all - length bytes =
     length-take-le (length all - length bytes) all (omega arith) in
     ap₂ (λ n xs. drop (n + past) xs) (sym size) tail ∙ drop-append-add front bytes past ∙ none_past past bytes ended
+
+-- behind the first of the last bytes the place is as many further on
+pub place_behind : (n past : ℕ) (bytes all back : List ℕ) → IsTail bytes all → back ≡ drop n bytes → n ≤ length bytes
+    → (length all - length back) + past ≡ ((length all - length bytes) + past) + n
+place_behind n past bytes all back tail cut enough =
+    let front = take (length all - length bytes) all in
+    let whole : length all ≡ length front + length bytes = ap length tail ∙ length-append front bytes in
+    let left : length back ≡ length bytes - n = ap length cut ∙ length-drop n bytes in
+    omega arith

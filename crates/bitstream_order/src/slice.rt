@@ -88,13 +88,15 @@ impl<'a> Slice<'a> {
 }
 
 impl<'a> Source for Slice<'a> {
-    ghost use Rattle.bitstream_order.specs.Slice.{slice_remaining, slice_refuses};
+    ghost use Rattle.bitstream_order.specs.Slice.{slice_remaining, slice_refuses, slice_takes};
 
     ghost remaining = { slice_remaining };
 
     ghost references = { λ _. [] };
 
     ghost refuses = { slice_refuses };
+
+    ghost takes = { slice_takes };
 
     #[inline(always)]
     fn read_exact(&mut self, buf: &mut [u8]) -> io::Result<()> {
