@@ -2,7 +2,7 @@
 use Rattle.std.proofs.Common.{◌≡◌, ℕ, zero, suc, pos, ℤ, ◌+◌, ◌*◌, ◌/◌, ◌%◌, ◌^◌, ◌<◌, ◌≤◌, nat_le, Bool, true, false, if◌then◌else◌, List, [], ◌∷◌, ◌++◌, length, take, drop, Option, Some, None, Result, Ok, Err, refl, sym, ap, ap₂, ◌∙◌, subst, arith, length-append}
 use Rattle.std.proofs.Math.Seq.{drop-append_seam, drop-append-add, drop-nil}
 use Rattle.std.proofs.lemmas.Bool.{lt-ltb, leb-false}
-use Rattle.std.proofs.lemmas.List.{length-drop}
+use Rattle.std.proofs.lemmas.List.{length-drop, drop_all}
 use Rattle.std.specs.Prelude.{option_map, IfSome}
 use Rattle.std.specs.Result.{IsErrAnd}
 use Rattle.std.specs.declared.io.ErrorKind.{ErrorKind}
@@ -139,6 +139,11 @@ skip_refused K place at old mid new x r same begins h = record {
     refusal = h.refusal;
     allowed = h.allowed;
     answer = same ∙ h.answer;
+    after = h.after;
+    fetched =
+        let few = skipped_few K.source.order (place % 8) _ _ (omega arith) h.few in
+        let size = length-append (K.source.state mid).queue (bits K.source.order h.gone) in
+        omega (arith, few, size, length-bits K.source.order h.gone, h.fetched, begins.fetched);
     refusals = h.refusals ∙ ap (λ l. h.refusal ∷ l) begins.refusals;
     references = h.references ∙ begins.references;
     queue = K.source.empties new h.failed;
@@ -171,17 +176,18 @@ error_is : {A : Type 0} {x : Error} (r : Result A Error) → IsErrAnd r (λ y. y
 error_is (Ok v) same = absurd same
 error_is (Err y) same = ap Err same
 
-pub goes : {R : Type 0} {K : SeekerOf R} {place at v : ℕ} {old mid new : R} → Begins K (Start (place / 8)) old at mid
-    → Reads K.source (unsigned_entry K.source.order 8 (place % 8)) mid (Ok v) new → GoesTo K place old (Ok place) new
+pub goes : {R : Type 0} {K : SeekerOf R} {place counted at v : ℕ} {old mid new : R} → Begins K (Start (place / 8)) old at mid
+    → Reads K.source (unsigned_entry K.source.order 8 (place % 8)) mid (Ok v) new
+    → GoesTo K place counted old (Ok place) new
 goes {K = K} {place = place} begins h =
     GoesTo.was_done refl (lands K place _ _ _ _ _ begins
     (ok_front (ap (λ (e : ReadEntry ℕ). e.on_failed) (unsigned-takes K.source.order 8 (place % 8) (omega arith)))
     h))
 
-pub goes_too_far : {R : Type 0} {K : SeekerOf R} {place at : ℕ} {x : Error} {old mid new : R} (r : Result ℕ Error)
+pub goes_too_far : {R : Type 0} {K : SeekerOf R} {place counted at : ℕ} {x : Error} {old mid new : R} (r : Result ℕ Error)
     → IsErrAnd r (λ y. y ≡ x) → Begins K (Start (place / 8)) old at mid
     → Reads K.source (unsigned_entry K.source.order 8 (place % 8)) mid (Err x) new
-    → GoesTo K place old r new
+    → GoesTo K place counted old r new
 goes_too_far r same begins (ReadOutcome.had_failed h) = let p = h.failed in let q = begins.failed in cc
 goes_too_far {K = K} {place = place} r same begins (ReadOutcome.was_done h) =
     absurd (skip_answers K.source.order (place % 8) _ _ (h.word ++ []) _ (omega arith) (h.decides []))
@@ -218,14 +224,17 @@ means_here K to old at queued place here answer size meant = record {
 
 -- ---- from one reader to another
 
-refused_from : {A : Type 0} (e : ErrorKind → Error) (may : Refusal → Type 0) (old mid new : ReaderState)
+refused_from : {A : Type 0} (e : ErrorKind → Error) (may : Refusal → Type 0) (counted : ℕ) (old mid new : ReaderState)
     (r : Result A Error) → mid.refusals ≡ old.refusals → mid.references ≡ old.references
-    → (h : RequestRefused e may mid r new) → (k : RequestRefused e may old r new) × (k.refusal ≡ h.refusal)
-refused_from e may old mid new r refusals names h = (
+    → (h : RequestRefused e may counted mid r new)
+    → (k : RequestRefused e may counted old r new) × (k.refusal ≡ h.refusal)
+refused_from e may counted old mid new r refusals names h = (
   record {
     refusal = h.refusal;
     allowed = h.allowed;
     answer = h.answer;
+    after = h.after;
+    fetched = h.fetched;
     refusals = h.refusals ∙ ap (λ l. h.refusal ∷ l) refusals;
     references = h.references ∙ names;
     queue = h.queue;
@@ -234,10 +243,11 @@ refused_from e may old mid new r refusals names h = (
   refl,
 )
 
-pub goes_from : {R : Type 0} {K : SeekerOf R} {place : ℕ} {old mid new : R} {r : Result ℕ Error}
+pub goes_from : {R : Type 0} {K : SeekerOf R} {place counted : ℕ} {old mid new : R} {r : Result ℕ Error}
     → (K.source.state mid).refusals ≡ (K.source.state old).refusals → (K.source.state mid).references
     ≡ (K.source.state old).references
-    → ((xs : List ℕ) → Tells K old xs → Tells K mid xs) → GoesTo K place mid r new → GoesTo K place old r new
+    → ((xs : List ℕ) → Tells K old xs → Tells K mid xs) → GoesTo K place counted mid r new
+    → GoesTo K place counted old r new
 unfolding refused_from
 goes_from refusals names told (GoesTo.was_done answer h) = GoesTo.was_done answer (record {
   failed = h.failed;
@@ -248,9 +258,9 @@ goes_from refusals names told (GoesTo.was_done answer h) = GoesTo.was_done answe
   references = h.references ∙ names;
   left = λ xs t. h.left xs (told xs t);
 })
-goes_from refusals names told (GoesTo.was_refused h) = GoesTo.was_refused (refused_from _ _ _ _ _ _ refusals names h).0
+goes_from refusals names told (GoesTo.was_refused h) = GoesTo.was_refused (refused_from _ _ _ _ _ _ _ refusals names h).0
 goes_from refusals names told (GoesTo.was_too_far h) = GoesTo.was_too_far (record {
-  refused = (refused_from _ _ _ _ _ _ refusals names h.refused).0;
+  refused = (refused_from _ _ _ _ _ _ _ refusals names h.refused).0;
   some = h.some;
   ended = λ end xs t. h.ended end xs (told xs t);
 })
@@ -258,13 +268,16 @@ goes_from refusals names told (GoesTo.was_too_far h) = GoesTo.was_too_far (recor
 -- ---- whole seeks
 
 pub goes_on : {R : Type 0} {K : SeekerOf R} {d : ℤ} {place : ℕ} {old mid new : R} {r : Result ℕ Error}
-    → AsksPlace K (Current d) old (Ok place) mid → GoesTo K place mid r new → SeeksBits K (Current d) old r new
+    → AsksPlace K (Current d) old (Ok place) mid → GoesTo K place (K.source.state mid).fetched mid r new
+    → SeeksBits K (Current d) old r new
 goes_on (AsksPlace.had_failed h) goes = let p = h.answer in cc
-goes_on {K = K} {d = d} {place = place} {old = old} (AsksPlace.was_done at fine means answer asked) goes =
+goes_on {K = K} {d = d} {place = place} {old = old} {new = new} {r = r} (AsksPlace.was_done at fine means answer asked)
+    goes =
     let same : at ≡ place = cc in
     SeeksBits.was_meant place (λ _. fine) (subst (λ n. Means K (Current d) old (Some n)) same means)
+    (subst (λ n. GoesTo K place n old r new) (ap (λ (s : ReaderState). s.fetched) asked.same)
     (goes_from (ap (λ (s : ReaderState). s.refusals) asked.same)
-    (ap (λ (s : ReaderState). s.references) asked.same) (told_still asked) goes)
+    (ap (λ (s : ReaderState). s.references) asked.same) (told_still asked) goes))
 goes_on (AsksPlace.was_refused fine h) goes = let p = h.answer in cc
 goes_on (AsksPlace.was_rejected fine means answer asked) goes = cc
 
@@ -282,6 +295,8 @@ asks_in_vain {K = K} same (AsksPlace.was_refused fine h) =
       refusal = h.refusal;
       allowed = h.allowed;
       answer = same ∙ h.answer;
+      after = h.after;
+      fetched = h.fetched;
       refusals = h.refusals;
       references = h.references;
       queue = h.queue;
@@ -306,26 +321,40 @@ end_means {K = K} n {old = old} {mid = mid} {at = at} begins meant = record {
 }
 
 pub goes_back : {R : Type 0} {K : SeekerOf R} {n : ℤ} {old mid new : R} {at place : ℕ} {r : Result ℕ Error}
-    → Begins K (End (pos 0)) old at mid → place_of (bit_meant at 0 (End n)) ≡ Some place → GoesTo K place mid r new
-    → SeeksBits K (End n) old r new
-goes_back {n = n} {place = place} begins meant goes = SeeksBits.was_meant place (λ h. absurd h)
-    (end_means n begins meant) (goes_from begins.refusals begins.references (told_anew begins) goes)
+    → Begins K (End (pos 0)) old at mid → place_of (bit_meant at 0 (End n)) ≡ Some place
+    → GoesTo K place (K.source.state mid).fetched mid r new → SeeksBits K (End n) old r new
+goes_back {K = K} {n = n} {old = old} {new = new} {place = place} {r = r} begins meant goes =
+    SeeksBits.was_meant place (λ h. absurd h) (end_means n begins meant)
+    (subst (λ m. GoesTo K place m old r new) begins.fetched
+    (goes_from begins.refusals begins.references (told_anew begins) goes))
+
+-- nothing is left behind the end
+left_at_end : {R : Type 0} (K : SeekerOf R) (old mid : R) (at : ℕ) (xs : List ℕ) → Begins K (End (pos 0)) old at mid
+    → Tells K old xs → (K.source.state mid).bytes ≡ Some []
+left_at_end K old mid at xs begins told =
+    let move = moved K (End (pos 0)) old at mid xs begins told in
+    let target = subst (λ b. IsSeekTarget told.at b (End (pos 0)) at) told.bytes move.0 in
+    told.rest mid at xs move.1 (kept (K.bytes old) (K.bytes mid) xs begins.bytes told.bytes)
+    ∙ ap Some (drop_all at xs (omega (arith, target)))
 
 pub none_back : {R : Type 0} {K : SeekerOf R} {n : ℤ} {old mid new : R} {at : ℕ} → Begins K (End (pos 0)) old at mid
     → place_of (bit_meant at 0 (End n)) ≡ None → K.source.state new ≡ failed_reader (K.source.state mid)
     → SeeksBits K (End n) old (Err Place) new
-none_back {n = n} begins meant fails = SeeksBits.was_rejected (λ h. absurd h) (end_means n begins meant) refl (record {
-  failed = ap (λ (s : ReaderState). s.failed) fails;
-  queue = ap (λ (s : ReaderState). s.queue) fails;
-  refusals = ap (λ (s : ReaderState). s.refusals) fails ∙ begins.refusals;
-  references = ap (λ (s : ReaderState). s.references) fails ∙ begins.references;
-})
+none_back {K = K} {n = n} {old = old} {mid = mid} {at = at} begins meant fails =
+    SeeksBits.was_rejected (λ h. absurd h) (end_means n begins meant) refl (record {
+      failed = ap (λ (s : ReaderState). s.failed) fails;
+      queue = ap (λ (s : ReaderState). s.queue) fails;
+      fetched = ap (λ (s : ReaderState). s.fetched) fails ∙ begins.fetched;
+      refusals = ap (λ (s : ReaderState). s.refusals) fails ∙ begins.refusals;
+      references = ap (λ (s : ReaderState). s.references) fails ∙ begins.references;
+      ended = λ xs told. ap (λ (s : ReaderState). s.bytes) fails ∙ left_at_end K old mid at xs begins told;
+    })
 
 start_place : (x : ℕ) → x < 2 ^ 64 → place_of (pos x) ≡ Some x
 start_place x below = ap (λ b. if b then Some x else None) (lt-ltb x (2 ^ 64) below)
 
 pub goes_there : {R : Type 0} {K : SeekerOf R} {place : ℕ} {old new : R} {r : Result ℕ Error} → place < 2 ^ 64
-    → GoesTo K place old r new → SeeksBits K (Start place) old r new
+    → GoesTo K place (K.source.state old).fetched old r new → SeeksBits K (Start place) old r new
 goes_there {place = place} below goes = SeeksBits.was_meant place (λ h. absurd h) (record {
   at = 0;
   counts = tt;

@@ -79,12 +79,15 @@ pub record Lands {R : Type 0} (K : SeekerOf R) (place : ℕ) (old new : R) : Typ
   pub left : (xs : List ℕ) → Tells K old xs → bits_left K.source.order (K.source.state new)
       ≡ Some (drop place (bits K.source.order xs))
 
--- a request was refused, as the stream may refuse it, with the error for its kind, and the reader has failed
-pub record RequestRefused {A : Type 0} (error_of : ErrorKind → Error) (may : Refusal → Type 0)
+-- A request was refused, as the stream may refuse it, with the error for its kind, and the reader has failed. The stream
+-- is as the refusal left it, and this number of fetched bytes stays counted.
+pub record RequestRefused {A : Type 0} (error_of : ErrorKind → Error) (may : Refusal → Type 0) (counted : ℕ)
     (old : ReaderState) (result : Result A Error) (new : ReaderState) : Type 0 where
   pub refusal : Refusal
   pub allowed : may refusal
   pub answer : result ≡ Err (error_of refusal.kind)
+  pub after : new.bytes ≡ refusal.after
+  pub fetched : new.fetched ≡ counted
   pub refusals : new.refusals ≡ refusal ∷ old.refusals
   pub references : new.references ≡ old.references
   pub queue : new.queue ≡ []
@@ -101,23 +104,24 @@ abbrev pub MaySeek : (SeekFrom → Refusal → Type 0) → Refusal → Type 0
 MaySeek may refusal = (to : SeekFrom) × IsByteSeek to × may to refusal
 
 -- the stream refused a seek, with the error of a refused write
-abbrev pub SeekRefused : {R A : Type 0} → SeekerOf R → R → Result A Error → R → Type 0
-SeekRefused K old result new = RequestRefused refusal_of (MaySeek K.may) (K.source.state old) result
+abbrev pub SeekRefused : {R A : Type 0} → SeekerOf R → ℕ → R → Result A Error → R → Type 0
+SeekRefused K counted old result new = RequestRefused refusal_of (MaySeek K.may) counted (K.source.state old) result
     (K.source.state new)
 
--- The stream refused the byte whose first bits were to be skipped, with the error of a refused read. At a true end the
--- place lies past all bytes.
+-- The stream refused the byte whose first bits were to be skipped, with the error of a refused read. No byte was fetched
+-- from the byte sought on. At a true end the place lies past all bytes.
 pub record SkipRefused {R A : Type 0} (K : SeekerOf R) (place : ℕ) (old : R) (result : Result A Error) (new : R) :
     Type 0 where
-  pub refused : RequestRefused read_refusal_of K.source.may (K.source.state old) result (K.source.state new)
+  pub refused : RequestRefused read_refusal_of K.source.may 0 (K.source.state old) result (K.source.state new)
   pub some : 0 < place % 8
   pub ended : IsTrueEnd refused.refusal → (xs : List ℕ) → Tells K old xs → length xs ≤ place / 8
 
--- going to a place in bits
-pub data GoesTo {R : Type 0} (K : SeekerOf R) (place : ℕ) (old : R) (result : Result ℕ Error) (new : R) : Type 0 where
-  was_done : result ≡ Ok place → Lands K place old new → GoesTo K place old result new
-  was_refused : SeekRefused K old result new → GoesTo K place old result new
-  was_too_far : SkipRefused K place old result new → GoesTo K place old result new
+-- going to a place in bits, with this number of fetched bytes counted before
+pub data GoesTo {R : Type 0} (K : SeekerOf R) (place counted : ℕ) (old : R) (result : Result ℕ Error) (new : R) :
+    Type 0 where
+  was_done : result ≡ Ok place → Lands K place old new → GoesTo K place counted old result new
+  was_refused : SeekRefused K counted old result new → GoesTo K place counted old result new
+  was_too_far : SkipRefused K place old result new → GoesTo K place counted old result new
 
 -- a reader that had failed answers so to a seek from where it stands, and nothing changes
 pub record HadFailed {R A : Type 0} (K : SeekerOf R) (to : SeekFrom) (old : R) (result : Result A Error) (new : R) :
@@ -133,18 +137,27 @@ pub record OnlyAsked {R : Type 0} (K : SeekerOf R) (old new : R) : Type 0 where
   pub position : StaysAt (K.position old) (K.position new)
   pub bytes : Keeps (K.bytes old) (K.bytes new)
 
--- the reader has failed, with the refusals that it had
-pub record Fails (old new : ReaderState) : Type 0 where
-  pub failed : new.failed ≡ true
-  pub queue : new.queue ≡ []
-  pub refusals : new.refusals ≡ old.refusals
-  pub references : new.references ≡ old.references
+-- The reader has failed, with the refusals that it had. The stream stands at its end, if it tells that, and the fetched
+-- bytes are counted anew from there.
+pub record Fails {R : Type 0} (K : SeekerOf R) (old new : R) : Type 0 where
+  pub failed : (K.source.state new).failed ≡ true
+  pub queue : (K.source.state new).queue ≡ []
+  pub fetched : (K.source.state new).fetched ≡ 0
+  pub refusals : (K.source.state new).refusals ≡ (K.source.state old).refusals
+  pub references : (K.source.state new).references ≡ (K.source.state old).references
+  pub ended : (xs : List ℕ) → Tells K old xs → (K.source.state new).bytes ≡ Some []
 
 -- what a reader becomes whose place is out of range: from `Current` it stays as it was, from `End` it has failed
 abbrev pub Stops : {R : Type 0} → SeekerOf R → SeekFrom → R → R → Type 0
 Stops K (Start x) old new = ⊥
-Stops K (End n) old new = Fails (K.source.state old) (K.source.state new)
+Stops K (End n) old new = Fails K old new
 Stops K (Current d) old new = OnlyAsked K old new
+
+-- the fetched bytes that are counted as a reader sets off to a place: from the end none, else those of before
+abbrev pub counted_before : SeekFrom → ReaderState → ℕ
+counted_before (Start x) s = s.fetched
+counted_before (End n) s = 0
+counted_before (Current d) s = s.fetched
 
 -- A seek. The reader had failed, and it is a `Current`; or the reader goes to the place that is meant; or the stream
 -- refused to tell its position or its end; or no place is meant.
@@ -152,8 +165,9 @@ pub data SeeksBits {R : Type 0} (K : SeekerOf R) (to : SeekFrom) (old : R) (resu
     Type 0 where
   had_failed : HadFailed K to old result new → SeeksBits K to old result new
   was_meant : (place : ℕ) → KnowsStart to (K.source.state old) → Means K to old (Some place)
-      → GoesTo K place old result new → SeeksBits K to old result new
-  was_refused : KnowsStart to (K.source.state old) → SeekRefused K old result new → SeeksBits K to old result new
+      → GoesTo K place (counted_before to (K.source.state old)) old result new → SeeksBits K to old result new
+  was_refused : KnowsStart to (K.source.state old) → SeekRefused K (K.source.state old).fetched old result new
+      → SeeksBits K to old result new
   was_rejected : KnowsStart to (K.source.state old) → Means K to old None → result ≡ Err Place → Stops K to old new
       → SeeksBits K to old result new
 
@@ -164,7 +178,8 @@ pub data AsksPlace {R : Type 0} (K : SeekerOf R) (to : SeekFrom) (old : R) (resu
   had_failed : HadFailed K to old result new → AsksPlace K to old result new
   was_done : (place : ℕ) → (K.source.state old).failed ≡ false → Means K to old (Some place) → result ≡ Ok place
       → OnlyAsked K old new → AsksPlace K to old result new
-  was_refused : (K.source.state old).failed ≡ false → SeekRefused K old result new → AsksPlace K to old result new
+  was_refused : (K.source.state old).failed ≡ false → SeekRefused K (K.source.state old).fetched old result new
+      → AsksPlace K to old result new
   was_rejected : (K.source.state old).failed ≡ false → Means K to old None → result ≡ Err Place → OnlyAsked K old new
       → AsksPlace K to old result new
 
@@ -182,5 +197,5 @@ pub record Begins {R : Type 0} (K : SeekerOf R) (to : SeekFrom) (old : R) (at : 
 -- one seek of the stream, and its answer
 abbrev pub SeeksBytes : {R : Type 0} → SeekerOf R → SeekFrom → R → Result ℕ Error → R → Type 0
 SeeksBytes K to old (Ok at) new = Begins K to old at new
-SeeksBytes K to old (Err error) new = RequestRefused {A = ℕ} refusal_of (K.may to) (K.source.state old) (Err error)
-    (K.source.state new)
+SeeksBytes K to old (Err error) new = RequestRefused {A = ℕ} refusal_of (K.may to) (K.source.state old).fetched
+    (K.source.state old) (Err error) (K.source.state new)

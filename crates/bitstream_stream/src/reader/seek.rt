@@ -13,7 +13,7 @@ use bitstream_order::tally::Tally;
 use std::io::SeekFrom;
 
 impl<R: SeekSource, E: Endianness> BitReader<R, E> {
-    ghost use Rattle.bitstream_stream.specs.Reader.{requests_made};
+    ghost use Rattle.bitstream_stream.specs.Reader.{requests_made, bytes_fetched};
     ghost use Rattle.bitstream_stream.specs.Seek.{reader_seeker, IsFromHere, IsByteSeek, AsksPlace, GoesTo, SeeksBits, SeeksBytes};
 
     /// Goes to a place in bits, and returns it: x for `Start(x)`, n bits back from the end of the
@@ -24,9 +24,9 @@ impl<R: SeekSource, E: Endianness> BitReader<R, E> {
     /// # Errors
     ///
     /// - `Place` if the place is below 0 or above 2^64 - 1. From `Current` the reader stays as it
-    ///   was; from `End` it has failed.
+    ///   was; from `End` it has failed, and the stream stands at its end.
     /// - `EndOfInput`, `OutOfMemory` or `Stream` if the stream refuses a request. The reader has
-    ///   failed then.
+    ///   failed then, and the stream is as the refusal left it.
     /// - `Failed` for `Current` if the reader has failed. `Start` and `End` make it read again.
     ///
     /// # Examples
@@ -64,7 +64,8 @@ impl<R: SeekSource, E: Endianness> BitReader<R, E> {
     /// # Errors
     ///
     /// - `Place` if the place is below 0 or above 2^64 - 1. The reader stays as it was.
-    /// - `OutOfMemory` or `Stream` if the stream refuses the request. The reader has failed then.
+    /// - `OutOfMemory` or `Stream` if the stream refuses the request. The reader has failed then,
+    ///   and the stream is as the refusal left it.
     /// - `Failed` if the reader has failed.
     pub fn position_in_bits(&mut self) -> Result<u64, Error>
         ensures asks { AsksPlace (reader_seeker ⟦<Self as BitRead>⟧.source R.position R.bytes
@@ -117,7 +118,8 @@ impl<R: SeekSource, E: Endianness> BitReader<R, E> {
     /// Goes to a place in bits.
     fn go_to(&mut self, place: u64) -> Result<u64, Error>
         ensures { GoesTo (reader_seeker ⟦<Self as BitRead>⟧.source R.position R.bytes
-            (MayRefuseSeek R.remaining R.references R.refuses_seek)) place self.old result self.new }
+            (MayRefuseSeek R.remaining R.references R.refuses_seek)) place (bytes_fetched self.old)
+            self.old result self.new }
     {
         let _at = self.seek_bytes(SeekFrom::Start(place / 8))?;
         let _skipped: u8 = self.read_unsigned_var((place % 8) as u32)?;
