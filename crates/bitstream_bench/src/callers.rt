@@ -1,7 +1,7 @@
 //! What no clause of the callers says: callers without contracts, types of a user's own on their happy path,
 //! that memory is not called refused while it is left, and the kind of a write with no room. What the others
 //! say of the formats' bytes is proved: the worked rows of `bitstream_callers`.
-use crate::asserts::{are, each_holds, ended, gives, holds, same};
+use crate::asserts::{are, each_holds, ended, failed, gives, holds, same};
 use bitstream_callers::block_header::{BlockHeader, append};
 use bitstream_callers::header::version;
 use bitstream_callers::packet_header::{PacketError, PacketHeader};
@@ -19,6 +19,8 @@ use bitstream_io::{
 };
 use std::alloc::Global;
 use std::io::ErrorKind;
+use std::process::Abort;
+use test_streams::{Drip, Refuse};
 
 /// The fields of a block, in their order.
 fn fields(info: &StreamInfo) -> [u64; 8] {
@@ -57,6 +59,71 @@ fn has_272_bits(block: &StreamInfoBlock) -> bool {
         & matches!(block.bits::<u8>(), Err(Error::CounterOverflow))
 }
 
+/// How many bytes of a block went before each request that its fields make, and then all of them. A reader
+/// asks for the bytes that a field lacks, and a writer sends those that it fills; the 3 bits of the channels
+/// need none.
+const READ: [usize; 9] = [0, 2, 4, 7, 10, 13, 14, 18, 34];
+
+const WRITTEN: [usize; 9] = [0, 2, 4, 7, 10, 12, 13, 18, 34];
+
+/// A stream that drips, and refuses behind the given number of requests.
+fn stream<S>(inner: S, served: usize) -> Refuse<Drip<S>> {
+    Refuse {
+        inner: Drip { inner, drips: true },
+        left: u32::try_from(served).ok(),
+        once: false,
+        kind: ErrorKind::ConnectionReset,
+    }
+}
+
+/// Whether an answer is the refusal of such a stream.
+fn refused<T: Drop>(answer: Result<T, Error>) -> bool {
+    matches!(answer, Err(Error::Stream(ErrorKind::ConnectionReset)))
+}
+
+/// Whether a block is parsed if each request is served, and else the refusal is told, and the reader fails.
+fn parses<R: BitRead>(reader: &mut R, block: &StreamInfoBlock, served: bool) -> bool {
+    let answer: Result<StreamInfoBlock, Error> = reader.parse();
+    if served {
+        gives(answer, *block)
+    } else {
+        refused(answer) & failed(reader.read_bit())
+    }
+}
+
+/// Whether a block is built if each request is served, and else the refusal is told, and the writer fails.
+fn builds<W: BitWrite>(writer: &mut W, block: &StreamInfoBlock, served: bool) -> bool {
+    let answer = writer.build(block);
+    if served {
+        answer.is_ok()
+    } else {
+        refused(answer) & failed(writer.write_bit(true))
+    }
+}
+
+/// Asserts that a block is parsed over a stream that drips, and takes the bytes before a request that is
+/// refused.
+fn parses_up_to_each(rt: &impl Abort, block: &StreamInfoBlock, read: &[usize]) {
+    for (served, read) in read.iter().enumerate() {
+        let mut reader = BitReader::<_, BE>::new(stream(WHOLE_BLOCK.as_slice(), served));
+        let parsed = parses(&mut reader, block, served == 8);
+        let left = reader.into_reader().inner.inner;
+        same(rt, (served, parsed), (served, true));
+        are(rt, left, &WHOLE_BLOCK[*read..]);
+    }
+}
+
+/// Asserts that a block is built over a stream that drips, and hands on the bytes before a request that is
+/// refused.
+fn builds_up_to_each(rt: &impl Abort, alloc: Global, block: &StreamInfoBlock, written: &[usize]) {
+    for (served, written) in written.iter().enumerate() {
+        let mut writer = BitWriter::<_, BE>::new(stream(Vec::new(alloc), served));
+        let built = builds(&mut writer, block, served == 8);
+        same(rt, (served, built), (served, true));
+        are(rt, &writer.into_writer().inner.inner, &WHOLE_BLOCK[..*written]);
+    }
+}
+
 #[test]
 fn parses_and_builds_a_stream_info(rt: HostRuntime) {
     let mut reader = BitReader::<_, BE>::new(Slice::new(&WHOLE_BLOCK));
@@ -64,6 +131,8 @@ fn parses_and_builds_a_stream_info(rt: HostRuntime) {
     same(&rt, fields(&block.info), FIELDS);
     are(&rt, &block.md5, &WHOLE_BLOCK[18..]);
     holds(&rt, goes_back(&block) & has_272_bits(&block));
+    parses_up_to_each(&rt, &block, &READ);
+    builds_up_to_each(&rt, rt.alloc(), &block, &WRITTEN);
 }
 
 /// Whether a turn of a wheel is this byte.

@@ -1,5 +1,6 @@
 //! The texts and kinds of errors.
-use crate::asserts::holds_of;
+use crate::asserts::{holds_of, same};
+use bitstream_io::write::Overflowed;
 use bitstream_io::{CheckedError, Error};
 use std::alloc::Global;
 use std::io;
@@ -90,4 +91,6 @@ fn each_says(rt: &impl Abort, alloc: Global, rows: [(Error, &str, ErrorKind); 15
 #[test]
 fn each_error_has_its_text_and_kind(rt: HostRuntime) {
     each_says(&rt, rt.alloc(), ROWS);
+    let said = format!(in rt.alloc(); "{Overflowed}").expect(&rt, "memory is left");
+    same(&rt, said.as_str(), "overflow occured in counter");
 }

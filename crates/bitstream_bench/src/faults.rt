@@ -1,5 +1,5 @@
 //! Readers and writers behind a request that was refused.
-use crate::asserts::{are, ended, failed, gives, holds, same};
+use crate::asserts::{are, each_holds, ended, failed, gives, holds, same};
 use bitstream_io::{
     BE, BitRead, BitReadExt, BitReader, BitWrite, BitWriteExt, BitWriter, Bits, ByteRead,
     ByteReader, Error, Slice,
@@ -48,6 +48,24 @@ fn r13_faults(rt: HostRuntime) {
         kind: ErrorKind::ConnectionReset,
     });
     holds(&rt, fails_to_read(rt.alloc(), &mut reader));
+}
+
+/// A refused flush fails the writer, and its queued bits are lost. The first flush is served.
+#[test]
+fn a_refused_flush_fails_the_writer(rt: HostRuntime) {
+    let mut writer = BitWriter::<_, BE>::new(Refuse {
+        inner: Vec::new(rt.alloc()),
+        left: Some(1),
+        once: true,
+        kind: ErrorKind::BrokenPipe,
+    });
+    let queued = writer.write_bit(true).is_ok();
+    let flushed = writer.flush().is_ok();
+    let refused = refused(writer.flush(), ErrorKind::BrokenPipe);
+    let again = failed(writer.flush()) & failed(writer.byte_align());
+    let kept = writer.writer().is_none() & failed(writer.aligned_writer().map(|_| ()));
+    each_holds(&rt, &[queued, flushed, refused, again, kept]);
+    are(&rt, &writer.into_writer().inner, &[]);
 }
 
 /// A length that no stream has ends with the bytes: a reader of bits has failed then, and one of bytes

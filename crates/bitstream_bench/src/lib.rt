@@ -20,6 +20,10 @@ mod examples;
 #[cfg(test)]
 mod faults;
 #[cfg(test)]
+mod inherited;
+#[cfg(test)]
+mod lent;
+#[cfg(test)]
 mod numbers;
 #[cfg(test)]
 mod older;
