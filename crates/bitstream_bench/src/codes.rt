@@ -63,10 +63,10 @@ fn r12_flat_trees(rt: HostRuntime) {
 
 #[test]
 fn r12_long_chain(rt: HostRuntime) {
-    let tree = chain(rt.alloc(), 10000).expect(&rt, "memory is left");
-    // The words have 1, 10000, 5001, 2 and 10000 bits.
-    let bytes = come_back(rt.alloc(), &tree, &[0, 10000, 5000, 1, 9999]);
-    same(&rt, bytes, Some(3126));
+    let tree = chain(rt.alloc(), 16000).expect(&rt, "memory is left");
+    // The words have 1, 16000, 8001, 2 and 16000 bits.
+    let bytes = come_back(rt.alloc(), &tree, &[0, 16000, 8000, 1, 15999]);
+    same(&rt, bytes, Some(5001));
 }
 
 /// The tree of 20 symbols whose nodes have memory for the given number of blocks.

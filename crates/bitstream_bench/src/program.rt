@@ -1,6 +1,6 @@
 //! Whole calls of the program, from bytes to bytes, over streams that count their requests and may
 //! refuse one of them.
-use crate::asserts::{holds, holds_of, same};
+use crate::asserts::{each_holds, holds, holds_of, same};
 use crate::program_rows::{
     BYTES, CONSTANTS, D, HEADLINE, PACKED, PIPELINES, REDUNDANT, REPACKED, REPACKINGS, ROWS, Row,
     SIZED, SIZES, UNPACKED,
@@ -114,12 +114,15 @@ fn ends(alloc: Global, ended: &Ended, status: u8, output: &[u8], fault: &str) ->
     told & (ended.status == status) & (ended.output.as_slice() == output)
 }
 
-/// Whether a row ends as it should, over an input that gives its bytes at once and over one that
-/// drips.
+/// Whether a row ends as it should, over an input that gives its bytes at once, over one that drips, and
+/// if one request is refused.
 fn is_right(alloc: Global, row: &Row) -> bool {
     let at_once = play(alloc, row.0, row.1, false, NONE);
     let dripping = play(alloc, row.0, row.1, true, NONE);
-    ends(alloc, &at_once, row.4, row.2, row.3) & ends(alloc, &dripping, row.4, row.2, row.3)
+    let (inputs, outputs, _) = at_once.requests;
+    ends(alloc, &at_once, row.4, row.2, row.3)
+        & ends(alloc, &dripping, row.4, row.2, row.3)
+        & ends_at_each(alloc, row, inputs.max(outputs))
 }
 
 /// Asserts that each row ends as it should.
@@ -169,12 +172,12 @@ fn moves_records_of_other_formats(rt: HostRuntime) {
     are_right(&rt, rt.alloc(), &PIPELINES);
 }
 
-/// A text and `,u1` behind it as often as this, or less often if memory is refused.
-fn with_fields(alloc: Global, first: &str, more: u32) -> String {
+/// A text and another behind it as often as this, or less often if memory is refused.
+fn repeated(alloc: Global, first: &str, next: &str, times: usize) -> String {
     let mut text = String::new(alloc);
     let _ = text.push_str(first);
-    for _ in 0..more {
-        let _ = text.push_str(",u1");
+    for _ in 0..times {
+        let _ = text.push_str(next);
     }
     text
 }
@@ -192,11 +195,64 @@ fn has_too_many_fields(alloc: Global, text: &str) -> bool {
 
 #[test]
 fn layouts_have_256_fields_at_most(rt: HostRuntime) {
-    let most = with_fields(rt.alloc(), "u1", 255);
+    let most = repeated(rt.alloc(), "u1", ",u1", 255);
     holds(&rt, has_256_fields(rt.alloc(), most.as_str()));
     // Their number comes before what they spell.
-    let past = with_fields(rt.alloc(), "x", 256);
+    let past = repeated(rt.alloc(), "x", ",u1", 256);
     holds(&rt, has_too_many_fields(rt.alloc(), past.as_str()));
+}
+
+/// A large call: a field, alone and behind another, how many of it a layout has, how many bytes each of them
+/// is, and how many bits that makes, as `size` prints it. Each byte is 122, a `z`.
+#[derive(Drop)]
+struct Large(&'static str, &'static str, usize, usize, &'static str);
+
+const LARGE: [Large; 3] = [
+    Large("u8", ",u8", 256, 1, "2048\n"),
+    Large("b65536", ",b65536", 1, 65536, "524288\n"),
+    // Each line has 800 bytes, so there are 200,000 of them.
+    Large("b200", ",b200", 250, 200, "400000\n"),
+];
+
+/// Whether a command with this layout writes this for this input.
+fn writes(alloc: Global, command: &str, layout: &str, input: &str, output: &str) -> bool {
+    match format!(in alloc; "{command} be {layout}") {
+        Ok(words) => {
+            let ended = play(alloc, words.as_str(), input.as_bytes(), false, NONE);
+            ends(alloc, &ended, 0, output.as_bytes(), "")
+        }
+        Err(_) => false,
+    }
+}
+
+/// Whether each command moves a large input.
+fn moves(alloc: Global, large: &Large) -> [bool; 4] {
+    let Large(field, next, fields, decimals, size) = large;
+    let layout = repeated(alloc, field, next, fields.saturating_sub(1));
+    let mut line = repeated(alloc, "122", " 122", decimals.saturating_sub(1));
+    let _ = line.push_str("\n");
+    let lines = repeated(alloc, "", line.as_str(), *fields);
+    let bytes = repeated(alloc, "", "z", fields.saturating_mul(*decimals));
+    let (layout, lines, bytes) = (layout.as_str(), lines.as_str(), bytes.as_str());
+    [
+        writes(alloc, "pack", layout, lines, bytes),
+        writes(alloc, "size", layout, lines, size),
+        writes(alloc, "unpack", layout, bytes, lines),
+        writes(alloc, "repack", layout, bytes, bytes),
+    ]
+}
+
+/// Asserts that each command moves each of these.
+fn move_each(rt: &impl Abort, alloc: Global, rows: &[Large]) {
+    for row in rows {
+        each_holds(rt, &moves(alloc, row));
+    }
+}
+
+/// A body that wants memory only at a size meets the contracts.
+#[test]
+fn moves_large_inputs(rt: HostRuntime) {
+    move_each(&rt, rt.alloc(), &LARGE);
 }
 
 /// Which stream refuses a request, and which of its requests, the first of which is 0.
@@ -347,26 +403,15 @@ fn asks_nothing_more_after_a_refusal(rt: HostRuntime) {
     are_refused(&rt, rt.alloc(), &REPACKED, &OF_REPACK);
 }
 
-/// Whether a row ends as it should if one of the first requests of its input or output is refused.
-fn ends_at_each(alloc: Global, row: &Row) -> bool {
+/// Whether a row ends as it should if one of so many requests of its input or output is refused, and if
+/// the first one behind these is.
+fn ends_at_each(alloc: Global, row: &Row, requests: u64) -> bool {
     let mut right = true;
-    for at in 0..8 {
+    for at in 0..=u32::try_from(requests).unwrap_or(0) {
         right &= ends_at(alloc, row, Refusing::Input(at))
             & ends_at(alloc, row, Refusing::Output(at));
     }
     right
-}
-
-/// Asserts that each of these rows ends as it should if one of its first requests is refused.
-fn end_at_each(rt: &impl Abort, alloc: Global, rows: &[Row]) {
-    for row in rows {
-        holds_of(rt, ends_at_each(alloc, row), row.0);
-    }
-}
-
-#[test]
-fn each_request_of_a_repacking_may_be_refused(rt: HostRuntime) {
-    end_at_each(&rt, rt.alloc(), &REPACKINGS);
 }
 
 /// Whether an unpacking whose input says at this request that it ends is told as that.
