@@ -120,7 +120,11 @@ fn builds_up_to_each(rt: &impl Abort, alloc: Global, block: &StreamInfoBlock, wr
         let mut writer = BitWriter::<_, BE>::new(stream(Vec::new(alloc), served));
         let built = builds(&mut writer, block, served == 8);
         same(rt, (served, built), (served, true));
-        are(rt, &writer.into_writer().inner.inner, &WHOLE_BLOCK[..*written]);
+        are(
+            rt,
+            &writer.into_writer().inner.inner,
+            &WHOLE_BLOCK[..*written],
+        );
     }
 }
 
