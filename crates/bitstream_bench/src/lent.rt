@@ -93,4 +93,9 @@ fn lent_writers_of_bytes_write(rt: HostRuntime) {
     let stream = writer.into_writer();
     each_holds(&rt, &[front, behind, stream.requests == 3]);
     are(&rt, &stream.inner, &D);
+    let mut writer = ByteWriter::<_, BE>::new(counted(Vec::new(rt.alloc())));
+    let all = writes_whole(&mut writer, 0xa5, &MANY[1..]);
+    let stream = writer.into_writer();
+    each_holds(&rt, &[all, stream.requests == 2]);
+    are(&rt, &stream.inner, &MANY);
 }
