@@ -1,6 +1,6 @@
 -- Words in the midst of a number, and runs of its digits.
 use Rattle.std.specs.Prelude.{◌==◌, bit_and}
-use Rattle.std.proofs.Common.{◌≡◌, ℕ, zero, suc, ◌+◌, ◌-◌, ◌*◌, ◌/◌, ◌%◌, ◌^◌, ◌<◌, ◌≤◌, Bool, true, false, not, List, [], ◌∷◌, ◌++◌, length, take, drop, map, reverse, replicate, refl, sym, ap, ap₂, ◌∙◌, arith, append-nil, inl, inr, ◌⊎◌, w64, mod-lt, add-zero, div-le_self}
+use Rattle.std.proofs.Common.{◌≡◌, ℕ, zero, suc, ◌+◌, ◌-◌, ◌*◌, ◌/◌, ◌%◌, ◌^◌, ◌<◌, ◌≤◌, Bool, true, false, not, List, [], ◌∷◌, ◌++◌, length, drop, map, reverse, replicate, refl, sym, ap, ap₂, ◌∙◌, arith, append-nil, inl, inr, ◌⊎◌, w64, mod-lt, add-zero, div-le_self}
 use Rattle.std.specs.Int.{bit_at, bit_not}
 use Rattle.std.specs.Int.Count.{count_leading_zeros, count_trailing_zeros, leading_of_zero, under}
 use mathlib.Core.List.{reverse-cons}
@@ -11,7 +11,7 @@ use Rattle.std.proofs.lemmas.Nat.Bits.{bit_at_not}
 use Rattle.std.proofs.lemmas.List.{length-drop, map-append}
 use Rattle.bitstream_count.specs.Unary.{lead}
 use Rattle.bitstream_count.proofs.UnaryLemmas.{lead-others}
-use Rattle.bitstream_number.specs.Word.{Order, High, Low, digits, digit, word}
+use Rattle.bitstream_number.specs.Word.{Order, High, Low, digits, word}
 use Rattle.bitstream_number.proofs.WordLemmas.{digits-add, word-add, word-mod, length-word}
 
 -- ---- words in the midst

@@ -1,15 +1,15 @@
 -- Bytes that are taken from bytes in memory.
-use Rattle.std.proofs.Common.{◌≡◌, ℕ, ◌+◌, ◌-◌, ◌*◌, ◌<◌, ◌≤◌, Bool, false, true, List, [], ◌∷◌, ◌++◌, length, take, drop, Ok, Err, refl, sym, ap, ap₂, ◌∙◌, subst, arith, append_assoc, take-append-drop, take_all, get_or}
-use Rattle.std.proofs.lemmas.List.{at_drop_more, length-take-le, length-drop, drop-append-le, take-append-le}
-use Rattle.bitstream_count.specs.declared.error.Error.TheVariants.{EndOfInput, Failed}
+use Rattle.std.proofs.Common.{◌≡◌, ℕ, ◌+◌, ◌-◌, ◌*◌, ◌<◌, ◌≤◌, false, List, ◌++◌, length, take, drop, Ok, Err, refl, sym, ap, ap₂, ◌∙◌, arith, append_assoc, take-append-drop, take_all, get_or}
+use Rattle.std.proofs.lemmas.List.{take-append-le}
+use Rattle.bitstream_count.specs.declared.error.Error.TheVariants.{EndOfInput}
 use Rattle.bitstream_number.specs.Word.{Order, word, bits, bytes_of}
 use Rattle.bitstream_number.proofs.Bytes.{AreBytes}
 use Rattle.bitstream_number.proofs.ByteLemmas.{bytes_of-bits}
-use Rattle.bitstream_number.proofs.WordLemmas.{length-word, length-bits, bits-append}
+use Rattle.bitstream_number.proofs.WordLemmas.{length-bits, bits-append}
 use Rattle.bitstream_order.specs.Parts.{first_part, piece}
 use Rattle.bitstream_order.specs.Shift.{Shifts}
 use Rattle.bitstream_order.proofs.PieceLemmas.{first_bits}
-use Rattle.bitstream_stream.specs.Reads.{Reads, was_done, had_failed}
+use Rattle.bitstream_stream.specs.Reads.{Reads, was_done}
 use Rattle.bitstream_stream.specs.ReadTable.{bytes_entry}
 use Rattle.bitstream_stream.specs.Memory.{rest_bits}
 use Rattle.bitstream_stream.specs.MemorySource.{memory_source}

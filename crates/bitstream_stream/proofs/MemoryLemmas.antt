@@ -1,11 +1,10 @@
 -- A reader of bytes in memory goes on by some bits.
-use Rattle.std.specs.Prelude.{if◌then◌else◌, option_map, IfSome, IsTrue, ◌↔◌, ◌==◌}
-use Rattle.std.proofs.Common.{◌≡◌, ℕ, suc, not, replicate, ◌+◌, ◌-◌, ◌*◌, ◌/◌, ◌%◌, ◌^◌, ◌<◌, ◌≤◌, Bool, true, false, List, [], ◌∷◌, ◌++◌, length, take, drop, Some, Result, Ok, Err, refl, sym, ap, ap₂, ◌∙◌, subst, arith, append_assoc, append-nil, length-append, take-append-drop, inl, inr}
+use Rattle.std.specs.Prelude.{option_map, IfSome, IsTrue, ◌↔◌, ◌==◌}
+use Rattle.std.proofs.Common.{◌≡◌, ℕ, suc, not, replicate, ◌+◌, ◌-◌, ◌*◌, ◌/◌, ◌%◌, ◌^◌, ◌<◌, ◌≤◌, Bool, true, false, List, [], ◌++◌, length, take, drop, Some, Result, Ok, Err, refl, sym, ap, ap₂, ◌∙◌, subst, arith, append-nil, length-append, take-append-drop, inl, inr}
 use Rattle.std.proofs.lemmas.Bool.Decides.{eqb_tells}
-use Rattle.std.proofs.KnownBytes.{Consumes-nil}
 use Rattle.std.proofs.Math.Nat.{mod-eq_of_lt}
 use Rattle.std.proofs.lemmas.List.{length-take-le, length-drop, drop-take, drop-drop, drop-append-le, take-append-le}
-use Rattle.std.proofs.Math.Seq.{drop-append_seam, take-add}
+use Rattle.std.proofs.Math.Seq.{take-add}
 use Rattle.bitstream_count.specs.declared.error.Error.TheVariants.{EndOfInput, Failed, RunTooLong}
 use Rattle.bitstream_count.specs.declared.error.Error.{Error}
 use Rattle.bitstream_count.specs.Unary.{unary, lead}
@@ -23,11 +22,11 @@ use Rattle.bitstream_stream.proofs.EntryLemmas.{word_front-some, word_front-none
 use Rattle.bitstream_stream.proofs.ReadsLemmas.{Took, Took-too_long, Reads-chain-ok}
 use Rattle.bitstream_stream.proofs.TableLemmas.{unsigned-takes}
 use Rattle.bitstream_stream.specs.Memory.{held, rest_bits, taken_bits, memory_state}
-use Rattle.bitstream_stream.specs.MemoryState.{held_there, rest_length}
+use Rattle.bitstream_stream.specs.MemoryState.{held_there}
 use Rattle.bitstream_stream.specs.MemorySource.{memory_source}
 use Rattle.bitstream_stream.specs.MemoryTakes.{GoesOn, TakesNumber, FailsAtEnd}
 use Rattle.bitstream_stream.specs.declared.slice_reader.SliceReader.{SliceReader}
-use Rattle.bitstream_stream.proofs.MemoryWindows.{bits-take, bits-drop}
+use Rattle.bitstream_stream.proofs.MemoryWindows.{bits-drop}
 
 -- What is queued, with the bytes fetched, is what is taken and what is queued then. `last` bytes hold the bits taken
 -- and the bits queued then; `done` bytes are taken whole.

@@ -1,17 +1,10 @@
 -- Runs of zeros in a number, and of bits in bytes.
-use Rattle.std.specs.Prelude.{◌==◌}
-use Rattle.std.proofs.Common.{◌≡◌, ℕ, zero, suc, ◌+◌, ◌-◌, ◌*◌, ◌/◌, ◌%◌, ◌^◌, ◌<◌, ◌≤◌, Bool, true, false, not, List, [], ◌∷◌, ◌++◌, length, take, drop, replicate, refl, sym, ap, ap₂, ◌∙◌, subst, arith, append_assoc, append-nil, length-append, take-append-drop, inl, inr, ◌⊎◌, w64, mod-lt, add-zero, take_all, get_or}
-use Rattle.std.specs.Int.{leading_zeros, trailing_zeros}
-use Rattle.std.specs.Int.Count.{count_leading_zeros, count_trailing_zeros, leading_of_zero, under}
-use Rattle.std.proofs.Math.Nat.{mod-eq_of_lt, div-eq_of_lt, zero-div, div-one, two-pow-succ}
-use Rattle.std.proofs.Math.Seq.{drop-append_seam}
-use Rattle.std.proofs.lemmas.Bool.{cases_lt}
-use Rattle.std.proofs.lemmas.Nat.{pow_pos, pow-add, shl-shr, shr-shr, field_of, leading_top, shr_high}
-use Rattle.std.proofs.lemmas.List.{at_drop_more, length-take-le, length-drop, length-replicate, drop-append-le}
+use Rattle.std.proofs.Common.{◌≡◌, ℕ, ◌+◌, ◌-◌, ◌*◌, ◌<◌, ◌≤◌, Bool, not, List, ◌++◌, length, take, drop, replicate, sym, ap, ◌∙◌, arith, take-append-drop, take_all, get_or}
+use Rattle.std.proofs.lemmas.List.{at_drop_more, length-take-le, length-drop, drop-append-le}
 use Rattle.bitstream_count.specs.Unary.{lead}
 use Rattle.bitstream_count.proofs.UnaryLemmas.{lead-others, lead_le, take_others}
-use Rattle.bitstream_number.specs.Word.{Order, High, Low, digits, digit, word, bits}
-use Rattle.bitstream_number.proofs.WordLemmas.{digits-add, word-add, word-mod, length-word, length-digits, length-bits, bits-append}
+use Rattle.bitstream_number.specs.Word.{Order, word, bits}
+use Rattle.bitstream_number.proofs.WordLemmas.{length-word, length-bits, bits-append}
 use Rattle.bitstream_stream.specs.Memory.{rest_bits}
 use Rattle.bitstream_order.proofs.WindowLemmas.{lead-front, lead-longer, rest_long}
 use Rattle.bitstream_stream.proofs.MemoryWindows.{middle_word}

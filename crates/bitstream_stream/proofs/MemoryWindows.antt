@@ -1,15 +1,12 @@
 -- Numbers of bytes, and words in their midst.
-use Rattle.std.specs.Prelude.{bit_and}
-use Rattle.std.proofs.Common.{◌≡◌, ℕ, ◌+◌, ◌-◌, ◌*◌, ◌/◌, ◌%◌, ◌^◌, ◌<◌, ◌≤◌, List, ◌++◌, length, take, drop, refl, sym, ap, ap₂, ◌∙◌, arith, subst, take-append-drop, inl, inr}
-use Rattle.std.proofs.Math.Nat.{mod-eq_of_lt, div-eq_of_lt, pow-le-pow_right}
-use Rattle.std.proofs.lemmas.Nat.{pow_pos, field_of, shl-shr, shr-shr, and_mask, pow-add}
+use Rattle.std.proofs.Common.{◌≡◌, ℕ, ◌+◌, ◌*◌, ◌≤◌, List, ◌++◌, length, take, drop, sym, ap, ap₂, ◌∙◌, arith, take-append-drop, inl, inr}
 use Rattle.std.proofs.lemmas.Bool.{cases_lt}
 use Rattle.std.proofs.lemmas.List.{length-take-le, take_all}
 use Rattle.std.proofs.Math.Seq.{drop-append_seam}
-use Rattle.bitstream_number.specs.Word.{Order, Low, High, word, bits}
-use Rattle.bitstream_number.proofs.WordLemmas.{word-mod, word-add, length-word, length-bits, bits-append, same_from_word}
-use Rattle.bitstream_order.specs.Parts.{piece, first_part}
-use Rattle.bitstream_order.proofs.PieceLemmas.{front_bits, first_bits, piece_more, take_less}
+use Rattle.bitstream_number.specs.Word.{Order, word, bits}
+use Rattle.bitstream_number.proofs.WordLemmas.{length-word, length-bits, bits-append}
+use Rattle.bitstream_order.specs.Parts.{piece}
+use Rattle.bitstream_order.proofs.PieceLemmas.{front_bits, piece_more, take_less}
 
 -- the bits of the first bytes, and of those behind them
 pub bits-take : (o : Order) (k : ℕ) (xs : List ℕ) → k ≤ length xs → bits o (take k xs) ≡ take (8 * k) (bits o xs)

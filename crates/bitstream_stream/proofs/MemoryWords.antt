@@ -1,19 +1,19 @@
 -- Numbers that are taken from bytes in memory.
-use Rattle.std.proofs.Common.{◌≡◌, ℕ, ◌+◌, ◌-◌, ◌*◌, ◌/◌, ◌%◌, ◌^◌, ◌<◌, ◌≤◌, Bool, List, ◌++◌, length, take, drop, refl, sym, ap, ap₂, ◌∙◌, subst, arith, take-append-drop, mod-lt, inl, inr}
+use Rattle.std.proofs.Common.{◌≡◌, ℕ, ◌+◌, ◌-◌, ◌*◌, ◌/◌, ◌^◌, ◌<◌, ◌≤◌, List, ◌++◌, length, take, drop, sym, ap, ap₂, ◌∙◌, subst, arith, take-append-drop, mod-lt, inl, inr}
 use Rattle.std.proofs.lemmas.Bool.{cases_lt}
 use Rattle.std.proofs.lemmas.Nat.{pow_pos}
 use Rattle.std.proofs.Math.Nat.{pow-le-pow_right}
-use Rattle.std.proofs.lemmas.List.{length-take-le, take_all, length-drop, drop-take, drop-drop, drop-append-le, take-append-le}
+use Rattle.std.proofs.lemmas.List.{length-take-le, take_all, length-drop, drop-take, drop-drop, take-append-le}
 use Rattle.std.proofs.Math.Seq.{take-add}
 use Rattle.bitstream_number.specs.Word.{Order, High, Low, word, bits}
-use Rattle.bitstream_number.proofs.WordLemmas.{length-bits, bits-append, length-word}
+use Rattle.bitstream_number.proofs.WordLemmas.{length-bits, bits-append}
 use Rattle.bitstream_order.specs.Parts.{piece, put_number}
 use Rattle.bitstream_order.proofs.PartLemmas.{put_word, put_below}
-use Rattle.bitstream_order.proofs.PieceLemmas.{front_bits, take_less}
-use Rattle.bitstream_stream.specs.Memory.{held, rest_bits, taken_bits}
+use Rattle.bitstream_order.proofs.PieceLemmas.{take_less}
+use Rattle.bitstream_stream.specs.Memory.{rest_bits}
 use Rattle.bitstream_stream.specs.MemoryTakes.{GoesOn, TakesNumber}
 use Rattle.bitstream_stream.specs.declared.slice_reader.SliceReader.{SliceReader}
-use Rattle.bitstream_stream.proofs.MemoryWindows.{bits-take, bits-drop, middle_word}
+use Rattle.bitstream_stream.proofs.MemoryWindows.{bits-drop, middle_word}
 
 piece_below : (o : Order) (n v at k : ℕ) → piece o n v at k < 2 ^ k
 piece_below High n v at k = mod-lt (v / 2 ^ (n - (at + k))) (pow_pos k)

@@ -1,5 +1,4 @@
 -- What the states of a reader of bytes in memory mean.
-use Rattle.std.specs.Prelude.{◌≡◌, ℕ}
 use Rattle.bitstream_number.specs.Word.{Order}
 use Rattle.bitstream_stream.specs.Reads.{BitSource}
 use Rattle.bitstream_stream.specs.Memory.{memory_state, EndsInMemory}

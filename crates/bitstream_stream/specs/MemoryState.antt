@@ -1,14 +1,11 @@
 -- The laws of the state of a reader of bytes in memory.
-use Rattle.std.specs.Prelude.{if◌then◌else◌}
-use Rattle.std.proofs.Common.{◌≡◌, ℕ, ◌+◌, ◌-◌, ◌*◌, ◌/◌, ◌<◌, ◌≤◌, Bool, true, false, List, [], ◌++◌, length, take, drop, refl, sym, ap, ap₂, ◌∙◌, subst, arith, take-append-drop, inl, inr, ◌⊎◌}
-use Rattle.std.proofs.lemmas.List.{length-take-le, length-drop, drop-take, drop-drop}
-use Rattle.std.proofs.Math.Seq.{drop-append_seam}
+use Rattle.std.proofs.Common.{◌≡◌, ℕ, ◌+◌, ◌*◌, ◌<◌, ◌≤◌, Bool, true, false, List, length, take, refl, arith, inl, inr, ◌⊎◌}
+use Rattle.std.proofs.lemmas.List.{length-take-le, length-drop}
 use Rattle.bitstream_number.specs.Word.{Order, bits}
-use Rattle.bitstream_number.proofs.WordLemmas.{length-bits, bits-append}
+use Rattle.bitstream_number.proofs.WordLemmas.{length-bits}
 use Rattle.bitstream_order.specs.Refusal.{Refusal}
-use Rattle.bitstream_order.proofs.PieceLemmas.{front_bits}
 use Rattle.bitstream_stream.specs.Reads.{Demands, QueuesRest, Empties}
-use Rattle.bitstream_stream.specs.Memory.{held, rest_bits, taken_bits, memory_state}
+use Rattle.bitstream_stream.specs.Memory.{held, rest_bits, memory_state}
 
 pub state_demands : (o : Order) (all bytes : List ℕ) (bit : ℕ) (failed : Bool) (refusals : List Refusal)
     → Demands (memory_state o all bytes bit failed refusals)

@@ -1,5 +1,5 @@
 -- What is taken from bytes in memory.
-use Rattle.std.specs.Prelude.{◌≡◌, ℕ, ◌+◌, ◌*◌, ◌/◌, ◌%◌, ◌^◌, ◌<◌, ◌≤◌, ◌∷◌, Bool, true, false, List, length, take, drop, Some}
+use Rattle.std.specs.Prelude.{◌≡◌, ℕ, ◌+◌, ◌*◌, ◌/◌, ◌%◌, ◌^◌, ◌<◌, ◌≤◌, ◌∷◌, true, length, take, drop, Some}
 use Rattle.bitstream_number.specs.Word.{Order, word}
 use Rattle.bitstream_order.specs.Refusal.{Refusal}
 use Rattle.bitstream_stream.specs.Memory.{held, rest_bits, EndsInMemory}

@@ -74,7 +74,11 @@ impl<'a, E: Endianness> SliceReader<'a, E> {
             → result ≡ ((memory_source E.order).state self.now).taken }
     {
         let taken = 8 * (self.all.len() - self.bytes.len()) as u128 + self.bit as u128;
-        if taken < 1 << 64 { taken as u64 } else { u64::MAX }
+        if taken < 1 << 64 {
+            taken as u64
+        } else {
+            u64::MAX
+        }
     }
 
     /// Returns how many bits are left: at most 2^64 - 1, and exactly that number if it is less. Of a
@@ -88,7 +92,11 @@ impl<'a, E: Endianness> SliceReader<'a, E> {
             (λ left. length left < 2 ^ 64 → result ≡ length left) }
     {
         let left = 8 * self.bytes.len() as u128 - self.bit as u128;
-        if left < 1 << 64 { left as u64 } else { u64::MAX }
+        if left < 1 << 64 {
+            left as u64
+        } else {
+            u64::MAX
+        }
     }
 
     /// Returns whether no bit is left. Of a reader that has failed, whether none was left before.

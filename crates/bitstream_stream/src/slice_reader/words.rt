@@ -77,7 +77,11 @@ impl<'a, E: Endianness> SliceReader<'a, E> {
 
     /// Reads a number. `known` tells whether `bits` is known as the program is compiled.
     #[inline(always)]
-    pub(super) fn read_word<U: UnsignedInteger>(&mut self, bits: u32, known: bool) -> Result<U, Error>
+    pub(super) fn read_word<U: UnsignedInteger>(
+        &mut self,
+        bits: u32,
+        known: bool,
+    ) -> Result<U, Error>
         ensures { Reads (memory_source E.order) (unsigned_entry E.order U.BITS_SIZE bits) self.old
             (seen U.value result) self.new }
     {
@@ -119,7 +123,11 @@ impl<'a, E: Endianness> SliceReader<'a, E> {
 
     /// Reads the two's complement of a number.
     #[inline(always)]
-    pub(super) fn read_signed_word<S: SignedInteger>(&mut self, bits: u32, known: bool) -> Result<S, Error>
+    pub(super) fn read_signed_word<S: SignedInteger>(
+        &mut self,
+        bits: u32,
+        known: bool,
+    ) -> Result<S, Error>
         ensures { Reads (memory_source E.order) (signed_entry E.order S.BITS_SIZE bits) self.old
             (seen S.integer result) self.new }
     {

@@ -1,4 +1,4 @@
-use Rattle.std.proofs.Common.{arith, ◌≡◌, ◌+◌, ◌-◌, ap, ◌∙◌}
+use Rattle.std.proofs.Common.{arith, ◌∙◌}
 use Rattle.bitstream_order.proofs.WindowLemmas.{middle_high, two_shifts}
 use Rattle.bitstream_order.proofs.order.BigEndianEndianness.middle.Goals as goal
 

@@ -1,5 +1,4 @@
-use Rattle.std.proofs.Common.{◌≡◌, ◌+◌, ◌*◌, ◌%◌, ◌^◌, ◌<◌, ap, subst, sym, refl}
-use Rattle.bitstream_count.specs.Unary.{lead}
+use Rattle.std.proofs.Common.{refl}
 use Rattle.bitstream_order.proofs.WindowLemmas.{zeros_low, ones_low}
 use Rattle.bitstream_order.proofs.order.LittleEndianEndianness.lead_behind.Goals as goal
 

@@ -1,4 +1,4 @@
-use Rattle.std.proofs.Common.{arith, ◌≡◌, ◌+◌, ◌-◌, ap, ◌∙◌}
+use Rattle.std.proofs.Common.{arith}
 use Rattle.bitstream_order.proofs.WindowLemmas.{masked}
 use Rattle.bitstream_order.proofs.order.LittleEndianEndianness.middle.Goals as goal
 

@@ -1,4 +1,4 @@
-use Rattle.std.proofs.Common.{arith, ◌≡◌, ◌+◌, ◌*◌, ◌<◌, ◌≤◌, length, refl}
+use Rattle.std.proofs.Common.{arith, length}
 use Rattle.bitstream_number.proofs.Bytes.{AreBytes-from}
 use Rattle.bitstream_stream.proofs.MemoryBytes.{bytes_read, bytes_refused, aligned_bits}
 use Rattle.bitstream_stream.proofs.slice_reader.SliceReader.read_aligned.Goals as goal

@@ -1,4 +1,4 @@
-use Rattle.std.proofs.Common.{arith, ◌≡◌, ◌+◌, ◌*◌, ◌<◌, ◌≤◌, length, refl, inl, inr}
+use Rattle.std.proofs.Common.{arith, ◌+◌, ◌*◌, ◌<◌, ◌≤◌, length, inl, inr}
 use Rattle.std.proofs.lemmas.Bool.Decides.{eqb_tells}
 use Rattle.bitstream_stream.proofs.ReaderLemmas.{unsigned-failed}
 use Rattle.bitstream_stream.proofs.MemoryLemmas.{number_read, word_refused}

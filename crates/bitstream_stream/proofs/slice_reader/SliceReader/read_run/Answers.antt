@@ -1,4 +1,4 @@
-use Rattle.std.proofs.Common.{arith, ◌≡◌, ◌≤◌, ◌<◌, ◌^◌, ◌+◌, ◌*◌, ◌-◌, length, refl, subst}
+use Rattle.std.proofs.Common.{arith, ◌≤◌, ◌<◌, ◌^◌, ◌+◌, ◌*◌, length, refl}
 use Rattle.bitstream_count.specs.Unary.{lead}
 use Rattle.bitstream_stream.specs.Memory.{rest_bits}
 use Rattle.bitstream_stream.proofs.MemoryLemmas.{run_read, run_refused, run_failed, run_long}

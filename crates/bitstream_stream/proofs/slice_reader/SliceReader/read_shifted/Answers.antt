@@ -1,4 +1,4 @@
-use Rattle.std.proofs.Common.{arith, ◌≡◌, ◌+◌, ◌*◌, ◌<◌, ◌≤◌, length, refl, ◌∙◌, ◌-◌, ap, take, drop}
+use Rattle.std.proofs.Common.{arith, ◌≡◌, ◌+◌, length, ◌∙◌, ◌-◌, ap, take, drop}
 use Rattle.bitstream_number.proofs.Bytes.{AreBytes-from}
 use Rattle.bitstream_stream.proofs.MemoryBytes.{bytes_read, bytes_refused, shifted_bits}
 use Rattle.bitstream_stream.proofs.slice_reader.SliceReader.read_shifted.Goals as goal

@@ -1,4 +1,4 @@
-use Rattle.std.proofs.Common.{arith, refl}
+use Rattle.std.proofs.Common.{arith}
 use Rattle.bitstream_stream.proofs.SignedLemmas.{signed-failed, signed-bare, signed-stops, signed-was_done, unsigned-below, unsigned-within, seen_is}
 use Rattle.bitstream_stream.proofs.slice_reader.SliceReader.read_signed_word.Goals as goal
 

@@ -1,4 +1,4 @@
-use Rattle.std.proofs.Common.{arith, ◌≡◌, ◌*◌, ◌+◌, ◌<◌, length, inl, inr}
+use Rattle.std.proofs.Common.{◌*◌, ◌+◌, ◌<◌, length, inl, inr}
 use Rattle.std.proofs.lemmas.Bool.{cases_lt}
 use Rattle.bitstream_stream.proofs.MemoryLemmas.{number_read, word_refused}
 use Rattle.bitstream_stream.proofs.slice_reader.SliceReader.read_slow.Goals as goal

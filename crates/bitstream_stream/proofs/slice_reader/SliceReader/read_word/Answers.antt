@@ -1,4 +1,4 @@
-use Rattle.std.proofs.Common.{arith, ◌≡◌, ◌+◌, ◌*◌, ◌<◌, ◌≤◌, length, refl}
+use Rattle.std.proofs.Common.{arith, refl}
 use Rattle.bitstream_stream.proofs.ReaderLemmas.{unsigned-failed, unsigned-refused}
 use Rattle.bitstream_stream.proofs.MemoryLemmas.{number_read, word_refused}
 use Rattle.bitstream_stream.proofs.MemoryWords.{fetched, fits_in, taken_as}

@@ -1,4 +1,4 @@
-use Rattle.std.proofs.Common.{arith, ◌≡◌, ◌+◌, ◌*◌, ◌-◌, ◌%◌, ◌<◌, ◌≤◌, length, take, refl, ap, ◌∙◌}
+use Rattle.std.proofs.Common.{arith, ◌≡◌, take, ap}
 use Rattle.bitstream_stream.proofs.MemoryLemmas.{whole_failed, whole_read, whole_refused, behind_byte}
 use Rattle.bitstream_stream.specs.MemoryState.{held_there}
 use Rattle.bitstream_stream.proofs.slice_reader.SliceReader.take_bytes.Goals as goal

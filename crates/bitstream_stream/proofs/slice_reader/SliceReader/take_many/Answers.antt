@@ -1,4 +1,4 @@
-use Rattle.std.proofs.Common.{arith, ◌≡◌, ℕ, ◌+◌, ◌-◌, ◌<◌, ap, ap₂, ◌∙◌}
+use Rattle.std.proofs.Common.{arith, ◌+◌, ◌-◌, ◌<◌, ap₂, ◌∙◌}
 use Rattle.bitstream_order.specs.Parts.{put_number}
 use Rattle.bitstream_stream.proofs.MemoryWords.{two_taken, taken_as, fits_in}
 use Rattle.bitstream_stream.proofs.slice_reader.SliceReader.take_many.Goals as goal

@@ -1,5 +1,4 @@
-use Rattle.std.proofs.Common.{arith}
-use Rattle.bitstream_stream.proofs.MemoryWords.{fits_in, taken_as}
+use Rattle.bitstream_stream.proofs.MemoryWords.{fits_in}
 use Rattle.bitstream_stream.proofs.slice_reader.SliceReader.take_word.Goals as goal
 
 pub from_u64-requires : goal.from_u64-requires

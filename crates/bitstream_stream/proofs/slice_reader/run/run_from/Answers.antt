@@ -1,4 +1,4 @@
-use Rattle.std.proofs.Common.{arith, length, drop, [], ◌∙◌, ◌≡◌, ◌≤◌, ap}
+use Rattle.std.proofs.Common.{arith, drop, ◌≡◌, ap}
 use Rattle.bitstream_count.specs.Unary.{lead}
 use Rattle.bitstream_number.specs.Word.{bits}
 use Rattle.std.proofs.lemmas.List.{drop_all}

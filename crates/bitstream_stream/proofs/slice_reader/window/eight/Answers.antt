@@ -1,4 +1,4 @@
-use Rattle.std.proofs.Common.{arith, ◌≡◌, take, [], sym, append-nil, ◌∙◌}
+use Rattle.std.proofs.Common.{take, [], sym, append-nil, ◌∙◌}
 use Rattle.bitstream_stream.proofs.MemoryWindows.{front_window}
 use Rattle.bitstream_stream.proofs.slice_reader.window.eight.Goals as goal
 

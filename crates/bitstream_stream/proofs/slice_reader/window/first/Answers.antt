@@ -1,4 +1,3 @@
-use Rattle.std.proofs.Common.{arith}
 use Rattle.bitstream_stream.proofs.MemoryWindows.{first_window}
 use Rattle.bitstream_stream.proofs.slice_reader.window.first.Goals as goal
 

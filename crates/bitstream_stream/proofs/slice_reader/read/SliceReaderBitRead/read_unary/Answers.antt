@@ -1,4 +1,4 @@
-use Rattle.std.proofs.Common.{arith, ◌≡◌, ◌<◌, ◌^◌, ◌+◌, subst, sym, ap, ◌∙◌, Ok}
+use Rattle.std.proofs.Common.{arith, ◌<◌, ◌^◌, ◌+◌, subst, ap, Ok}
 use Rattle.std.specs.Prelude.{◌==◌}
 use Rattle.bitstream_stream.specs.Reads.{Reads}
 use Rattle.bitstream_stream.specs.ReadTable.{unary_entry}

@@ -1,4 +1,4 @@
-use Rattle.std.proofs.Common.{arith, ◌≡◌, ◌*◌, ◌+◌, ◌/◌, ◌<◌, length, refl}
+use Rattle.std.proofs.Common.{arith, ◌*◌, ◌+◌, ◌<◌, length, refl}
 use Rattle.bitstream_stream.proofs.MemoryLemmas.{skipped, skip_refused, skip_failed}
 use Rattle.bitstream_stream.proofs.slice_reader.read.SliceReaderBitRead.skip.Goals as goal
 
