@@ -1,0 +1,563 @@
+"""The answers of a function whose body reads or writes bits by calls one behind the other."""
+import glob
+import os
+import re
+from collections import Counter, namedtuple
+
+from source import COLUMNS, Unknown, behind, filled, read_source, split, unknown, words
+
+TRAIT = re.compile(r"(From|To)BitStream(With|Using)?$")
+SIGNED = re.compile(r"i(8|16|32|64|128|size)$")
+
+# A call: `fact` names its clause; `label` is its name behind `in_ok-`, and `step` its own; `way` is `?` if that stands
+# behind it, and `end` if nothing does; `wide` is the width of a signed type.
+Call = namedtuple("Call", "form fact label step way wide line")
+
+# The library's calls that a chain can have, by the form of their answers.
+READS = {name: "read" for name in """read read_var read_counted read_bit read_unary read_vbr read_to_bytes skip
+    read_unsigned read_unsigned_var read_unsigned_counted read_signed read_signed_var read_signed_counted
+    read_unsigned_vbr read_unsigned_vbr_any byte_align""".split()}
+READS |= {"read_const": "const", "parse": "part", "parse_with": "part", "parse_using": "part"}
+WRITES = {name: "call" for name in """write_bit write_const write_from write_bytes write_unary write_unsigned
+    write_unsigned_var write_unsigned_counted write_signed write_signed_var write_signed_counted write_unsigned_vbr pad
+    byte_align""".split()}
+WRITES |= {"write": "value", "write_var": "value", "write_counted": "value", "write_vbr": "value"}
+WRITES |= {"build": "part", "build_with": "part", "build_using": "part"}
+# Of these the value may be of a signed type.
+OF_EITHER_SIGN = re.compile(r"(read|write)(_signed)?(_var|_counted)?$")
+# These have no type that decides anything.
+UNTYPED = re.compile(r"(read|write)_(bit|const|unary|unsigned.*|bytes)$|read_to_bytes$|skip$|pad$|byte_align$")
+
+# A constant that stands in no entry of the contract is a read by itself there (`alone`), which gives nothing.
+# What stands for a call in a term, by the kind of the contract and the form of the call: a lemma, as many blanks as the
+# number says, the call's clause as FACT, what its `?` returned as RESIDUAL, the width of its type as WIDE. What is
+# searched for is that a signed number fits its type: of one that was read, in what is known of its call, ARM.
+READ_FITS, FITS = "(search (sfits_of, ARM))", "(search sfits_of)"
+# Of a call that answered no error: the term of what follows stands behind it.
+NEXT = {
+    "Reads": {
+        "read": "Reads-chain-ok 2 FACT",
+        "const": "next_const 5 FACT",
+        "alone": "Reads-chain-ok 2 (const_alone 6 FACT refl refl refl)",
+        "signed": f"next_signed_read 4 FACT {READ_FITS}",
+        "signed read of": f"next_signed_part 1 WIDE FACT {READ_FITS}",
+    },
+    "ReadsOwn": {
+        "read": "next_own_read 1 FACT",
+        "const": "next_own_const 2 FACT",
+        "signed": f"then_own_signed 4 FACT refl refl {READ_FITS}",
+        "signed read of": f"next_own_signed_part 1 WIDE FACT {READ_FITS}",
+        "part": "then_part 1 FACT refl refl",
+    },
+    "WritesAll": {
+        "call": "next_call 7 FACT",
+        "value": "next_write 7 FACT",
+        "list": "all_append 7 FACT",
+        "signed list of": f"all_append 7 (rw (to_z-of_z WIDE {FITS}) at FACT)",
+        "signed call": f"next_signed_call 7 WIDE 3 FACT {FITS}",
+        "signed value": f"next_signed 7 WIDE 3 FACT {FITS}",
+    },
+}
+# Of one that answered an error.
+STOP = {
+    "Reads": {
+        "read": "exit 2 RESIDUAL FACT",
+        "const": "exit_const 5 RESIDUAL FACT refl refl",
+        "alone": "exit 2 RESIDUAL (const_alone 6 FACT refl refl refl)",
+        "signed read of": "exit 2 RESIDUAL FACT",
+    },
+    "ReadsOwn": {
+        "read": "exit_own_read 1 RESIDUAL FACT",
+        "const": "exit_own_const 2 RESIDUAL FACT refl",
+        "part": "end_part 1 FACT refl refl RESIDUAL",
+        "signed read of": "exit_own_read 1 RESIDUAL FACT",
+    },
+    "WritesAll": {
+        "call": "stop_call 7 RESIDUAL FACT",
+        "value": "stop_write 7 RESIDUAL FACT",
+        "list": "all_stop 7 (is_error 2 RESIDUAL) FACT",
+        "signed list of": f"all_stop 7 (is_error 2 RESIDUAL) (rw (to_z-of_z WIDE {FITS}) at FACT)",
+        "signed call": f"stop_signed_call 7 WIDE 3 RESIDUAL FACT {FITS}",
+        "signed value": f"stop_signed 7 WIDE 3 RESIDUAL FACT {FITS}",
+    },
+}
+# Of a last one, whose answer the function returns.
+LAST = {
+    "Reads": {"read": "FACT"},
+    "ReadsOwn": {},
+    "WritesAll": {
+        "call": "all_one 5 FACT",
+        "value": "FACT",
+        "list": "FACT",
+        "signed value": f"signed_value 4 WIDE 4 FACT {FITS}",
+    },
+}
+# Of a test of a `bool`: what is read if it holds, and if not.
+TESTS = {"Reads": ("if_read 3", "else_read 3"), "ReadsOwn": ("if_own 3", "else_own 3")}
+# Calls of an `Option` that may stand among the arguments; a `len` of a slice is known as it stands.
+PURE = ("is_some", "is_none", "number", "len")
+# And of an `Ok` behind the last call.
+END = {"Reads": "Reads-gives 2", "ReadsOwn": "own_end 2", "WritesAll": "all_none 2"}
+# A part that has no error of its own, made into plain reads or writes.
+PLAINLY = {"Reads": "(read_plainly 5 FACT)", "WritesAll": "(written_plainly 5 FACT)"}
+# Where the lemmas stand, in the order in which they are imported, and the shorter names of some.
+CALLER = "Rattle.bitstream_io.proofs."
+LEMMAS = {
+    "borrow.Author.Rules": "sfits_of",
+    "Rattle.std.proofs.Common": "refl w8 w16 w32 w64",
+    "Rattle.std.specs.Int": "w128",
+    CALLER + "CallerLemmas": "next_signed_part next_own_signed_part if_read else_read"
+    " const_alone next_const exit_const next_own_read next_own_const exit_own_read"
+    " exit_own_const",
+    CALLER + "OwnLemmas": "is_error plainly_read plainly_written read_plainly written_plainly",
+    CALLER + "OwnSteps": "if_own else_own then_own_signed then_part end_part own_end",
+    CALLER + "ReadSteps": "next_signed_read",
+    "Rattle.std.proofs.lemmas.Int": "to_z-of_z",
+    CALLER + "ReadsLemmas": "Reads-chain-ok Reads-gives exit",
+    CALLER + "WriteParts": "all_append all_none all_one all_stop",
+    CALLER + "WriteSteps": "next_call next_write next_signed next_signed_call stop_call stop_write stop_signed"
+    " stop_signed_call signed_value",
+}
+SHORT = {
+    "Reads-chain-ok": "next",
+    "next_own_read": "next",
+    "next_own_const": "next_const",
+    "exit_own_read": "exit",
+    "exit_own_const": "exit_const",
+}
+
+
+# ---- the calls of a body
+
+
+class Body:
+    """Goes through a body, and gathers its calls in order."""
+
+    def __init__(self, function, kind, stream, functions, structs):
+        self.function, self.kind, self.stream = function, kind, stream
+        self.functions, self.structs = functions, structs
+        self.tokens, self.at = function.body, 0
+        self.calls, self.labels, self.steps, self.let_types = [], Counter(), Counter(), {}
+        self.pure, self.rewrites, self.tests = [], {}, Counter()
+
+    def peek(self, ahead=0):
+        place = self.at + ahead
+        return self.tokens[place].word if place < len(self.tokens) else ""
+
+    def line(self):
+        return self.tokens[min(self.at, len(self.tokens) - 1)].line if self.tokens else self.function.line
+
+    def take(self, wanted=""):
+        if wanted and self.peek() != wanted:
+            unknown(self.line(), f"`{self.peek()}` in place of `{wanted}`")
+        self.at += 1
+        return self.tokens[self.at - 1].word
+
+    def brackets(self):
+        """Goes over what stands in brackets, and gives it."""
+        start = self.at
+        self.at = behind(self.tokens, start)
+        return self.tokens[start + 1 : self.at - 1]
+
+    def whole(self):
+        while self.at < len(self.tokens):
+            if self.peek() == "if":
+                self.early()
+                continue
+            if self.peek() == "let":
+                self.let()
+            else:
+                self.value("", self.function_type())
+            if self.at < len(self.tokens):
+                self.take(";")
+                self.calls = [it._replace(way="") if it.way == "end" else it for it in self.calls]
+        for it in self.calls:
+            if it.form == "if":
+                continue
+            aligns = it.label == "byte_align" and self.kind != "WritesAll"
+            if it.way != "?" and not aligns and (it.way != "end" or it is not self.calls[-1]):
+                unknown(it.line, f"`{it.label}` with no `?` behind it")
+        return self.calls
+
+    def early(self):
+        """Goes over `if [!]NAME { return Ok(..); }`, where nothing is read."""
+        line = self.line()
+        self.take("if")
+        negated = self.peek() == "!" and bool(self.take())
+        name = self.take()
+        if self.kind not in TESTS or not re.fullmatch(r"[a-z_]\w*", name) or self.peek() != "{":
+            unknown(line, "`if` of this form")
+        said = words(self.brackets())
+        if said[:3] != ["return", "Ok", "("] or said[-2:] != [")", ";"] or self.stream in said or self.peek() == "else":
+            unknown(line, "`if` of this form")
+        label = f"not-{name}" if negated else name
+        self.tests[label] += 1
+        label += f"-{self.tests[label]}" if self.tests[label] > 1 else ""
+        self.calls.append(Call("if", "", label, label, "if", "not" if negated else "", line))
+
+    def function_type(self):
+        """Gives the type of the value that the function returns in an `Ok`."""
+        said = self.function.result
+        return said[said.index("<") + 1 :] if "<" in said else said
+
+    def let(self):
+        self.take("let")
+        if self.peek() == "mut":
+            self.take()
+        name, said = self.take(), []
+        name = "" if name == "_" else name
+        if self.peek() == ":":
+            self.take()
+            while self.peek() != "=":
+                said.append(self.take())
+        self.take("=")
+        before = len(self.calls)
+        self.value(name, said)
+        if len(self.calls) > before + 1:
+            unknown(self.line(), "a `let` of more than one call")
+        self.let_types[name] = said
+
+    def value(self, name="", wanted=()):
+        """Goes through an expression: a name, a literal, a call, a struct, a tuple."""
+        while self.peek() in ("&", "*", "mut"):
+            self.take()
+        word, line = self.peek(), self.line()
+        if word in ("if", "match", "for", "while", "loop", "return", "unsafe", "break", "continue"):
+            unknown(line, f"`{word}`")
+        if word == "(":
+            self.list_of_values()
+            last = None
+        elif re.match(r"\w|[\"']", word):
+            last = self.path(name, wanted)
+        else:
+            unknown(line, f"`{word}`")
+        while self.peek() in (".", "?"):
+            if self.take() == "?":
+                self.question(last, line)
+                last = None
+            else:
+                last = self.member(name, wanted, last, line)
+        while self.peek() == "as":
+            self.take()
+            self.take()
+        if self.peek() == "=" and self.peek(1) == "=" and isinstance(last, str):
+            self.take()
+            self.take()
+            self.take()
+        if self.peek() not in (",", ";", ")", "}", ""):
+            unknown(self.line(), f"`{self.peek()}`")
+
+    def list_of_values(self):
+        """Goes through values in round brackets, and gives their words."""
+        start = self.at
+        inner, end = self.brackets(), self.at
+        self.at = start + 1
+        while self.at < end - 1:
+            self.value()
+            if self.peek() == ",":
+                self.take()
+        self.at = end
+        return [[it for it in words(part) if it not in ("&", "*", "mut")] for part in split(inner)]
+
+    def generics(self):
+        """Goes over `::<..>`, and gives the last type of it."""
+        if self.peek() != "::" or self.peek(1) != "<":
+            return []
+        self.take()
+        return words(split(self.brackets())[-1])
+
+    def path(self, name, wanted):
+        """Goes through a name, a path, a struct, or a call of a function; gives the place of a call."""
+        line, parts = self.line(), [self.take()]
+        said = self.generics()
+        while self.peek() == "::":
+            self.take()
+            parts.append(self.take())
+            said = self.generics() or said
+        if self.peek() == "{":
+            return self.struct(parts[-1])
+        if self.peek() != "(":
+            return parts[-1]
+        if parts[-1][0].isupper():
+            if parts == ["Err"]:
+                unknown(line, "`Err`")
+            return self.ok() if parts == ["Ok"] else self.list_of_values() and None
+        return self.own(parts[-1], parts[-2] if len(parts) > 1 else "", name, line)
+
+    def ok(self):
+        """Goes through what stands in `Ok`, which is of the function's type."""
+        self.take("(")
+        self.value("", self.function_type())
+        self.take(")")
+
+    def struct(self, name):
+        fields = self.structs.get(self.function.owner if name == "Self" else name, {})
+        self.take("{")
+        while self.peek() != "}":
+            field = self.take()
+            if self.peek() == ":":
+                self.take()
+                self.value("", fields.get(field, ()))
+            if self.peek() == ",":
+                self.take()
+        self.take("}")
+
+    def member(self, name, wanted, last, line):
+        """Goes through `.field` or `.call(..)`."""
+        word = self.take()
+        said = self.generics()
+        if self.peek() != "(":
+            return f"{last}.{word}"
+        if last == self.stream:
+            return self.of_library(word, said, name, wanted, line)
+        if word in PURE and isinstance(last, str):
+            self.list_of_values()
+            self.steps[word] += 1
+            if word != "len":
+                self.pure.append(word + (f"-{self.steps[word]}" if self.steps[word] > 1 else ""))
+            return f"{last}.{word}"
+        owner = self.function.owner if last == "self" else ""
+        return self.own(word, owner, name, line)
+
+    def of_library(self, word, said, name, wanted, line):
+        form = (WRITES if self.kind == "WritesAll" else READS).get(word)
+        if not form:
+            unknown(line, f"the call `{word}`")
+        before = len(self.pure)
+        args = self.list_of_values()
+        self.rewrites[len(self.calls)] = self.pure[before:]
+        typed = said or list(wanted) or self.type_of(args)
+        wide = self.width(word, typed, line)
+        if form == "value" and typed[:1] == ["["]:
+            form = "list"
+        return self.add(form, "reads" if self.kind != "WritesAll" else "writes", word, name, wide, line)
+
+    def width(self, word, typed, line):
+        """Gives the width of a call's value if it is of a signed type."""
+        if UNTYPED.match(word) or word.startswith(("parse", "build")):
+            return ""
+        if not typed:
+            unknown(line, f"the type of the value of `{word}`: write it at the call")
+        signed = [it for it in typed if SIGNED.match(it)]
+        if signed and (not OF_EITHER_SIGN.match(word) or typed[0] != signed[0] or signed[0] == "isize"):
+            unknown(line, f"a value of the type `{''.join(typed)}` in `{word}`")
+        return f"w{signed[0][1:]}" if signed else ""
+
+    def type_of(self, args):
+        """Gives the type of the last value that a call is handed, if it is a field of `self` or a name."""
+        said = args[-1] if args else []
+        if len(said) == 3 and said[:2] == ["self", "."]:
+            return self.structs.get(self.function.owner, {}).get(said[2], [])
+        return self.function.params.get(said[0], self.let_types.get(said[0], [])) if len(said) == 1 else []
+
+    def own(self, word, owner, name, line):
+        """Goes through a call of a function of the crate's own."""
+        before = len(self.pure)
+        args = self.list_of_values()
+        self.rewrites[len(self.calls)] = self.pure[before:]
+        if [self.stream] not in args:
+            unknown(line, f"the call `{word}`, which is not of `{self.stream}`")
+        owner = self.function.owner if owner == "Self" else owner
+        found = [it for it in self.functions if it.name == word and (not owner or it.owner in (owner, ""))]
+        kinds = {clause_of(it) for it in found if clause_of(it)}
+        if len(kinds) != 1:
+            unknown(line, f"the contract of `{word}`")
+        kind, label = kinds.pop()
+        form = {("Reads", "Reads"): "read", ("ReadsOwn", "Reads"): "read", ("ReadsOwn", "ReadsOwn"): "part"}
+        form |= {("WritesAll", "WritesAll"): "list"}
+        if (self.kind, kind) not in form:
+            unknown(line, f"the contract of `{word}`")
+        wide, form = self.signed_of(found[0], args), form[self.kind, kind]
+        if wide and form == "part":
+            unknown(line, f"the signed number of `{word}`")
+        return self.add(f"signed {form} of {wide}" if wide else form, label, word, name, "", line)
+
+    def signed_of(self, function, args):
+        """Gives the width of a signed number that a function of the crate's own reads, or also which one it writes."""
+        said = [it for it in function.result if SIGNED.match(it)]
+        if said:
+            return f"w{said[0][1:]}"
+        for (_, typed), arg in zip(function.params.items(), args):
+            if len(typed) == 1 and SIGNED.match(typed[0]) and len(arg) == 3:
+                return f"w{typed[0][1:]} c.args.self.now.{arg[2]}"
+        return ""
+
+    def add(self, form, fact, word, name, wide, line):
+        self.steps[word] += 1
+        step = word + (f"-{self.steps[word]}" if self.steps[word] > 1 else "")
+        self.calls.append(Call(form, fact, name or word, step, "end", wide, line))
+        return len(self.calls) - 1
+
+    def question(self, last, line):
+        if not isinstance(last, int) or last != len(self.calls) - 1:
+            unknown(line, "a `?` behind something that is no call")
+        call = self.calls[last]
+        self.labels[call.label] += 1
+        count = self.labels[call.label]
+        self.calls[last] = call._replace(way="?", label=call.label + (f"-{count}" if count > 1 else ""))
+
+
+def clause_of(function):
+    """Gives the kind of a function's contract, and the clause's name, or None."""
+    ensured = [(it[2][0], it[1]) for it in function.clauses if it[0] == "ensures" and it[2]]
+    known = [it for it in ensured if it[0] in NEXT]
+    return known[0] if len(known) == 1 and (len(ensured) == 1 or known[0][1]) else None
+
+
+# ---- the contract
+
+
+def contract(function):
+    """Gives the kind of the chain, the reader or writer, the clause's name, and the lemma that stands around a term."""
+    trait = TRAIT.match(function.trait)
+    if trait:
+        return contract_of_trait(function, trait[1] == "From")
+    ensured = [it for it in function.clauses if it[0] == "ensures"]
+    found = clause_of(function)
+    if not found or len(ensured) != 1:
+        unknown(function.line, "a contract that is not one clause, `Reads`, `ReadsOwn` or `WritesAll`")
+    said = ensured[0][2]
+    if said[-7:] != [said[-3], ".", "old", "result", said[-3], ".", "new"]:
+        unknown(function.line, "a contract that does not end in `READER.old result READER.new`")
+    return found[0], said[-3], found[1], ""
+
+
+def contract_of_trait(function, reads):
+    plain = function.ghosts.get("becomes") == ["same_error"] and "answers" not in function.ghosts
+    if reads:
+        plain = plain and "plain_reads" in function.ghosts.get("reads", [])
+        around = "plainly_read" if plain else ""
+        return "Reads" if plain else "ReadsOwn", list(function.params)[0], "reads", around
+    if not plain:
+        unknown(function.line, "a `to_writer` with errors or answers of its own")
+    return "WritesAll", next(it for it in function.params if it != "self"), "writes", "plainly_written 5"
+
+
+def entries_of(folder, function):
+    """Gives the definitions in the crate's specs of what the contract names."""
+    said = [word for it in function.clauses for word in it[2]] + function.ghosts.get("reads", [])
+    paths = sorted(glob.glob(f"{folder}/specs/**/*.antt", recursive=True))
+    text = "".join(open(it, encoding="utf-8").read() for it in paths)
+    return "".join(it[0] for it in re.finditer(r"^(\S+) [^:\n]*=.*\n(?: .*\n)*", text, re.M) if it[1] in said)
+
+
+# ---- the answers
+
+
+class Answers:
+    """Makes the answers of a function, and notes the lemmas that they name."""
+
+    def __init__(self, kind, field, around, generic):
+        self.kind, self.field, self.around, self.args = kind, field, around, "g c" if generic else "c"
+        self.used, self.rewrites = set(), {}
+
+    def term(self, said, **meant):
+        """Gives a term that is said in the words of the tables."""
+        return re.sub(r"[^\s(),]+", lambda it: self.word(it[0], meant), said)
+
+    def word(self, word, meant):
+        if word.isdigit():
+            return " ".join("_" * int(word))
+        if any(word in names.split() for names in LEMMAS.values()):
+            self.used.add(word)
+        return meant.get(word) or SHORT.get(word, word)
+
+    def of_call(self, call, table, arm, residual=""):
+        """Gives what stands for a call: `arm` is `in_ok-x` or `in_err-x`, or the call's own step."""
+        part = call.form == "part" and self.kind in PLAINLY
+        form = ("list" if self.kind == "WritesAll" else "read") if part else call.form
+        form, _, wide = form.partition(" of ")
+        form += " of" if wide else ""
+        if call.wide and (self.kind == "WritesAll" or table is not STOP):
+            form = f"signed {form}" if self.kind == "WritesAll" else "signed"
+        if form not in table[self.kind]:
+            where = "as the last call" if table is LAST else f"in `{self.kind}`"
+            unknown(call.line, f"`{call.step}` {where}")
+        fact = f"c.{arm}.ensures" + (f".{call.fact}" if call.fact else "")
+        for step in self.rewrites.get(id(call), []):
+            fact = f"(rw c.{step}.ensures at {fact})"
+        fact = self.term(PLAINLY[self.kind], FACT=fact) if part else fact
+        wide = wide or call.wide
+        if "WIDE" in table[self.kind][form]:
+            self.word(wide.split(" ")[0], {})
+        return self.term(table[self.kind][form], ARM=f"c.{arm}", FACT=fact, RESIDUAL=residual, WIDE=wide)
+
+    def answer(self, goal, terms):
+        """Gives one answer: each term but the last takes the next one."""
+        terms = [self.term(self.around), *terms] if self.around else terms
+        *front, last = terms
+        if front and " " not in last:
+            front[-1], last = f"{front[-1]} {last}", ""
+        text = " (".join([*front, last] if last else front) + ")" * (len(front) - (not last))
+        return f"pub {goal} : goal.{goal}\n" + self.laid_out(f"{goal} {self.args} =", text)
+
+    def laid_out(self, head, text):
+        if not self.field:
+            return filled(f"{head} {text}", 4)
+        line = f"{head} record {{ {self.field} = {text} }}"
+        return line if len(line) <= COLUMNS else f"{head} record {{\n" + filled(f"  {self.field} = {text};", 6) + "\n}"
+
+    def all(self, calls):
+        """Gives the answers in order: at each `?`, and at the end."""
+        found, front = [], []
+        last = calls[-1] if calls and calls[-1].way == "end" else None
+        stops = 0
+        for call in calls[: -1 if last else None]:
+            if call.form == "if":
+                holds, fails = TESTS[self.kind][::-1] if call.wide else TESTS[self.kind]
+                at = f"c.if-{call.label}"
+                ends = [self.term(f"{holds} {at}.true"), self.term(END[self.kind])]
+                found.append(self.answer(f"returns-then-{call.label}", front + ends))
+                front = front + [self.term(f"{fails} {at}.false")]
+                continue
+            if call.way == "?":
+                arm = f"in_err-{call.label}"
+                residual = f"c.from_residual{f'-{arm}' if stops else ''}.ensures.1"
+                stops += 1
+                found.append(self.answer(f"returns-{arm}", front + [self.of_call(call, STOP, arm, residual)]))
+            front = front + [self.of_call(call, NEXT, f"in_ok-{call.label}" if call.way else call.step)]
+        end = self.of_call(last, LAST, last.step) if last else self.term(END[self.kind])
+        return found + [self.answer("returns", front + [end])]
+
+    def uses(self, goals):
+        """Gives the imports."""
+        lines = []
+        for module, names in LEMMAS.items():
+            named = [f"{it} as {SHORT[it]}" if it in SHORT else it for it in names.split() if it in self.used]
+            lines += [f"use {module}.{{{', '.join(named)}}}"] if named else []
+        return "\n".join([*lines, f"use {goals} as goal"])
+
+
+def chosen(functions, wanted):
+    """Gives the function that is named as in `rt check --only`; an impl's trait may be left out."""
+    *owner, name = wanted.split("::")
+    owner = "".join(owner)
+    found = [it for it in functions if it.name == name and it.owner + it.trait == owner]
+    found = found or [it for it in functions if it.name == name and it.owner == owner]
+    if len(found) != 1:
+        raise Unknown(f"{len(found)} functions are named {wanted}")
+    return found[0]
+
+
+def answers_of(folder, file, wanted):
+    """Gives the answers of a function, as `rt check --only` names it."""
+    path = os.path.join(folder, file)
+    functions, structs = read_source(path)
+    function = chosen(functions, wanted)
+    crate = os.path.basename(os.path.abspath(folder))
+    paths = sorted(glob.glob(f"{folder}/src/**/*.rt", recursive=True))
+    all_functions = [one for it in paths for one in read_source(it)[0]]
+    kind, stream, field, around = contract(function)
+    answers = Answers(kind, field, around, function.generic)
+    body = Body(function, kind, stream, all_functions, structs)
+    calls = body.whole()
+    entries = entries_of(folder, function)
+    if entries and "const_entry" not in entries:
+        calls = [it._replace(form="alone") if (kind, it.form) == ("Reads", "const") else it for it in calls]
+    answers.rewrites = {id(it): body.rewrites.get(k, []) for k, it in enumerate(calls)}
+    parts = answers.all(calls)
+    module = re.sub(r"^src/|\.rt$", "", os.path.normpath(file)).split("/")
+    module = [] if module == ["lib"] else module
+    owner = [function.owner + function.trait] if function.owner else []
+    goals = ".".join(["Rattle", crate, "proofs", *module, *owner, function.name, "Goals"])
+    return "\n\n".join([answers.uses(goals), *parts])

@@ -1,0 +1,165 @@
+"""What the scripts share: what they refuse, and how a file of Rattle is read."""
+import re
+from collections import namedtuple
+
+WORD = re.compile(r"""//[^\n]*|"(?:\\.|[^"\\])*"|'(?:\\.|[^'\\])'|'\w+|\w+|::|->|=>|\S""")
+CLOSES = {"(": ")", "[": "]", "{": "}"}
+COLUMNS = 120
+Token = namedtuple("Token", "word line")
+Function = namedtuple("Function", "name owner trait generic params clauses result body ghosts line")
+
+
+class Unknown(Exception):
+    """What the script does not know, with its line."""
+
+
+class Refused(Exception):
+    """A description that is refused, with the reason."""
+
+
+def number(text, least, most, what):
+    """Gives the number that a word of a description is, if it is in this range."""
+    found = int(text, 0)
+    if not least <= found <= most:
+        raise Refused(f"{what} is {found}, and not in {least}..={most}")
+    return found
+
+
+def unknown(line, what):
+    raise Unknown(f"line {line}: this script does not know {what}")
+
+
+def tokens_of(text):
+    """Gives the words of a source, without its comments, each with its line."""
+    found, line, at = [], 1, 0
+    for it in WORD.finditer(text):
+        line, at = line + text.count("\n", at, it.start()), it.start()
+        if not it[0].startswith("//"):
+            found.append(Token(it[0], line))
+    return found
+
+
+def behind(tokens, at):
+    """Gives the place behind the bracket that closes the one at `at`; also of `<`."""
+    opens = tokens[at].word
+    closes, depth = CLOSES.get(opens, ">"), 0
+    for place in range(at, len(tokens)):
+        depth += (tokens[place].word == opens) - (tokens[place].word == closes)
+        if depth == 0:
+            return place + 1
+    return unknown(tokens[at].line, f"`{opens}` is not closed")
+
+
+def words(tokens):
+    return [it.word for it in tokens]
+
+
+def split(tokens):
+    """Splits at the commas that stand in no brackets."""
+    parts, depth = [[]], 0
+    for it in tokens:
+        depth += (it.word in "([{<") - (it.word in ")]}>")
+        if it.word == "," and depth == 0:
+            parts.append([])
+        else:
+            parts[-1].append(it)
+    return [it for it in parts if it]
+
+
+def named_types(tokens):
+    """Gives the parameters of a function, or the fields of a struct, each with its type."""
+    found = {}
+    for part in split(tokens):
+        said = words(part)
+        if ":" in said:
+            at = said.index(":")
+            found[said[at - 1]] = said[at + 1 :]
+    return found
+
+
+def has_type_parameter(tokens):
+    return any(not it[0].word.startswith("'") for it in split(tokens))
+
+
+def function_at(tokens, at, owner, trait, generic, ghosts):
+    """Gives the function at `fn`, and the place behind it."""
+    name, line, place = tokens[at + 1].word, tokens[at].line, at + 2
+    if tokens[place].word == "<":
+        end = behind(tokens, place)
+        generic, place = generic or has_type_parameter(tokens[place + 1 : end - 1]), end
+    end = behind(tokens, place)
+    params, result, clauses, place = named_types(tokens[place + 1 : end - 1]), [], [], end
+    while tokens[place].word not in ("{", ";", "requires", "ensures"):
+        end = behind(tokens, place) if tokens[place].word in "[(" else place + 1
+        result, place = result + words(tokens[place:end]), end
+    while tokens[place].word in ("requires", "ensures"):
+        opens = next(it for it in range(place, len(tokens)) if tokens[it].word == "{")
+        label, end = words(tokens[place + 1 : opens]), behind(tokens, opens)
+        clauses.append((tokens[place].word, "".join(label), words(tokens[opens + 1 : end - 1])))
+        place = end
+    end = behind(tokens, place) if tokens[place].word == "{" else place + 1
+    body = tokens[place + 1 : end - 1]
+    return Function(name, owner, trait, generic, params, clauses, result, body, ghosts, line), end
+
+
+def bare(tokens):
+    """Gives a type's or a trait's name as `rt` joins it, as `FromError` of `From<Error>`."""
+    return "".join(it for it in words(tokens) if re.match(r"[A-Z]\w*", it))
+
+
+def impl_at(tokens, at):
+    """Gives the functions of the impl at `at`, and the place behind it."""
+    opens = next(it for it in range(at, len(tokens)) if tokens[it].word == "{")
+    end, place, generic, ghosts = behind(tokens, opens), at + 1, False, {}
+    if tokens[place].word == "<":
+        place = behind(tokens, place)
+        generic = has_type_parameter(tokens[at + 2 : place - 1])
+    head = words(tokens[place:opens])
+    cut = place + head.index("for") if "for" in head else None
+    trait = bare(tokens[place:cut]) if cut else ""
+    owner = tokens[cut + 1 if cut else place].word
+    found, place = [], opens + 1
+    while place < end - 1:
+        word = tokens[place].word
+        if word == "fn":
+            one, place = function_at(tokens, place, owner, trait, generic, ghosts)
+            found.append(one)
+        elif word == "ghost" and tokens[place + 2].word == "=":
+            after = behind(tokens, place + 3)
+            ghosts[tokens[place + 1].word] = words(tokens[place + 4 : after - 1])
+            place = after
+        else:
+            place = behind(tokens, place) if word in CLOSES else place + 1
+    return found, end
+
+
+def read_source(path):
+    """Gives the functions and the structs of a file."""
+    tokens, functions, structs, at = tokens_of(open(path, encoding="utf-8").read()), [], {}, 0
+    while at < len(tokens):
+        word = tokens[at].word
+        if word == "impl":
+            more, at = impl_at(tokens, at)
+            functions += more
+        elif word == "fn":
+            one, at = function_at(tokens, at, "", "", False, {})
+            functions.append(one)
+        elif word == "struct":
+            opens = next(it for it in range(at, len(tokens)) if tokens[it].word in "{(;")
+            end = behind(tokens, opens) if tokens[opens].word == "{" else opens + 1
+            structs[tokens[at + 1].word] = named_types(tokens[opens + 1 : end - 1])
+            at = end
+        else:
+            at = behind(tokens, at) if word in CLOSES else at + 1
+    return functions, structs
+
+
+def filled(text, indent):
+    """Breaks a line at blanks, but in no list: there `rt fmt` would have each item on a line of its own."""
+    first, lines = len(text) - len(text.lstrip()), []
+    for word in re.split(r"(?<!,) ", text.strip()):
+        if lines and len(lines[-1]) + 1 + len(word) <= COLUMNS:
+            lines[-1] += f" {word}"
+        else:
+            lines.append(" " * (indent if lines else first) + word)
+    return "\n".join(lines)
