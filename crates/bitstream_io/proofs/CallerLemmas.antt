@@ -2,8 +2,9 @@
 -- stated here is what an answer tells, and what goes with constants, branches, errors of a caller's own, items in a loop,
 -- numbers that are computed, and what goes back by parts.
 use borrow.Author.Rules.{sfits_of}
-use Rattle.std.proofs.Common.{ℤ, SFits, to_z, of_z, suc, Continue, Break, get_or, ◌*◌, ◌%◌, ◌≤◌, ◌==◌, Bool, true, false, length, take, drop, Option, Result, Err, subst, add-one, pow-suc}
-use Rattle.std.specs.Prelude.{All, IfOk, nat_le, nat_lt, flat_map, if◌then◌else◌}
+use Rattle.std.proofs.Common.{ℤ, SFits, to_z, of_z, suc, Continue, Break, get_or, ◌*◌, ◌%◌, ◌≤◌, ◌==◌, Bool, true, false, length, take, drop, Option, None, Result, Err, subst, add-one, pow-suc}
+use Rattle.std.specs.Option.{ForSome}
+use Rattle.std.specs.Prelude.{All, IfOk, is_some, nat_le, nat_lt, flat_map, map, if◌then◌else◌}
 use Rattle.std.specs.Int.{Width}
 use Rattle.std.specs.Int.Count.{count_leading_zeros}
 use Rattle.std.proofs.lemmas.Bool.{le-leb, lt-leb, eq-eqb, ne_eqb}
@@ -11,34 +12,36 @@ use Rattle.std.proofs.lemmas.Bool.Decides.{nat_tests}
 use Rattle.bitstream_order.specs.Reference.{Reference}
 use Rattle.std.proofs.Math.Pow.{pow_mono}
 use Rattle.std.proofs.lemmas.List.Elements.{All-weaker}
+use Rattle.std.proofs.lemmas.Int.{to_z-of_z}
 use Rattle.std.proofs.lemmas.Nat.{leading_top}
 use Rattle.std.specs.Result.{IsErrAnd, result_from_control_flow}
 use Rattle.std.specs.declared.ops.ControlFlow.{ControlFlow}
 use Rattle.bitstream_count.specs.declared.error.Error.{Error}
 use Rattle.bitstream_count.specs.declared.error.Error.TheVariants.{EndOfInput, Failed}
 use Rattle.bitstream_count.specs.Entry.{ReadEntry, WriteEntry, Takes, chain, gives, refuses}
-use Rattle.bitstream_number.specs.Word.{FitsSignedBits, word}
+use Rattle.bitstream_number.specs.Word.{FitsSignedBits, bytes_of, word}
 use Rattle.bitstream_number.proofs.WordLemmas.{length-bits}
 use Rattle.bitstream_order.specs.Gather.{seen}
 use Rattle.bitstream_order.specs.Refusal.{TrueEnds}
-use Rattle.bitstream_stream.specs.ReadTable.{const_entry, unary_entry, skip_entry}
+use Rattle.bitstream_stream.specs.ReadTable.{bytes_entry, const_entry, unary_entry, skip_entry}
 use Rattle.bitstream_stream.specs.Reader.{new_reader_state}
 use Rattle.bitstream_stream.specs.Reads.{BitSource, ReaderState, Reads, ReadOutcome, ReadsConst, ConstAnswer, is_run_too_long, sure_answer}
 use Rattle.bitstream_stream.specs.Sink.{Sink, Writes, WritesAll}
 use Rattle.bitstream_stream.specs.WriteTable.{plain, signed, unsigned}
+use Rattle.bitstream_stream.proofs.EntryLemmas.{map_takes}
 use Rattle.bitstream_stream.proofs.ReadsLemmas.{Reads-chain-err, Reads-nothing, ok_front, seen_err}
 use Rattle.bitstream_stream.proofs.SliceLemmas.{new_answer}
 use Rattle.bitstream_stream.proofs.TableLemmas.{unsigned-on_failed}
 use Rattle.bitstream_stream.proofs.WriteParts.{all_none, all_append, all_err, all_one, all_stop, one_of_all, flat_map-take, flat_map-split}
-use Rattle.bitstream_value.specs.Array.{items_entry}
-use Rattle.bitstream_value.specs.Own.{OwnAnswer, ReadsOwn, WritesOwn, same_error}
+use Rattle.bitstream_value.specs.Array.{items_entry, words}
+use Rattle.bitstream_value.specs.Own.{OwnAnswer, ReadsOwn, WritesOwn, part_then, same_error}
 use Rattle.bitstream_value.proofs.ArrayLemmas.{items-start, items-stop as items-ended}
-use Rattle.bitstream_value.proofs.BackLemmas.{gives-back, unsigned-back}
 use Rattle.bitstream_value.proofs.CheckedLemmas.{signed-holds, signed-on_failed}
 use Rattle.bitstream_value.proofs.OwnSteps.{then_own_signed, then_own_call, then_own_write, then_own_signed_call, then_own_signed_write, own_written}
 use Rattle.bitstream_value.proofs.ReadSteps.{next-finds, width_of}
 use Rattle.bitstream_value.proofs.SureLemmas.{items-word, word_short}
 use Rattle.bitstream_value.proofs.WriteSteps.{next_call, next_write, stop_call, stop_write, signed_call, signed_value}
+use Rattle.bitstream_io.specs.Optional.{optional, optional_size, optional_writes}
 use Rattle.bitstream_io.specs.ReadBack.{IsReadAs}
 use Rattle.bitstream_io.proofs.CallsBack.{then-read, mapped-read, value_in-fits, const-read, const-back}
 -- words of std
@@ -53,16 +56,19 @@ pub use Rattle.bitstream_stream.proofs.ReadsLemmas.{Reads-chain-ok, Reads-gives,
 pub use Rattle.bitstream_stream.proofs.RoomLemmas.{calls_with_room, align_with_room}
 -- a number that a read of n bits answered is below 2^n
 pub use Rattle.bitstream_stream.proofs.SignedLemmas.{unsigned-below as below}
-pub use Rattle.bitstream_value.proofs.BackLemmas.{GoesBack, goes_back}
+pub use Rattle.bitstream_value.proofs.BackLemmas.{GoesBack, goes_back, bit-back, gives-back, signed-back, unsigned-back}
 pub use Rattle.bitstream_value.proofs.LengthSteps.{in_both_orders, lengths}
 pub use Rattle.bitstream_value.proofs.OwnLemmas.{is_error, plainly_read, plainly_written, read_plainly, written_plainly}
 pub use Rattle.bitstream_value.proofs.OwnSteps.{few_own_reads, few_own_writes, own_end, if_own, else_own}
-pub use Rattle.bitstream_value.proofs.ReadSteps.{few_reads, reads, Finds, finds, fields_there, fields_short}
+pub use Rattle.bitstream_value.proofs.ReadSteps.{few_reads, reads, Finds, finds, bit-finds, gives-finds, non_zero-finds, option-finds, signed-finds, unsigned-finds, fields_there, fields_short}
 pub use Rattle.bitstream_value.proofs.SureLemmas.{IsWord, items_there, unsigned-word, word_there}
 pub use Rattle.bitstream_value.proofs.WriteSteps.{few_writes, writes, packed_stream}
 pub use Rattle.bitstream_io.proofs.CallsBack.{calls_go_back, unary-back, items-read, path-read, unsigned-read}
+pub use Rattle.bitstream_io.proofs.CallsBack.{any_vbr-back, bytes-back, non_zero-back, option-back, skip-back, vbr-back}
 pub use Rattle.bitstream_io.proofs.NonZeroBack.{non_zero_u8-again, non_zero_u16-again, non_zero_u32-again, non_zero_u64-again, non_zero_u128-again}
-pub use Rattle.bitstream_io.proofs.RunLemmas.{counted}
+pub use Rattle.bitstream_io.proofs.NonZeroBack.{option_u8-again, option_u16-again, option_u32-again, option_u64-again, option_u128-again}
+pub use Rattle.bitstream_io.proofs.PackLemmas.{IsWritten, Packs, packs, packs-none, packs-more, packs-part, packs-items, packs-is, packs-room, packs-whole, unsigned-written, signed-written, non_zero-written, const-written, zeros-written, bit-written, bytes-written, unary-written, vbr-written}
+pub use Rattle.bitstream_io.proofs.RunLemmas.{counted, write_run-append}
 pub use Rattle.bitstream_io.specs.Loop.{ItemsRead, ItemsWritten}
 
 -- ---- what an answer tells
@@ -186,6 +192,19 @@ pub next_own_signed_read : {R B E : Type 0} {K : BitSource R} {becomes : Error �
     → SFits (width_of size) x → ReadsOwn K becomes (f (to_z (width_of size) (of_z (width_of size) x))) t r z
     → ReadsOwn K becomes (chain (signed_entry o size n) f) s r z
 next_own_signed_read o size n f h fits k = then_own_signed o size n f h refl refl fits k
+
+-- and one that a function of one's own read
+pub next_signed_part : {R B : Type 0} {K : BitSource R} {e : ReadEntry ℤ} (f : ℤ → ReadEntry B) (w : Width)
+    {r : Result B Error} {s t z : R} {x : ℤ} → Reads K e s (Ok x) t → SFits w x → Reads K (f (to_z w (of_z w x))) t r z
+    → Reads K (chain e f) s r z
+next_signed_part {K = K} f w {r = r} {t = t} {z = z} {x = x} h fits k =
+    Reads-chain-ok _ f h (subst (λ y. Reads K (f y) t r z) (to_z-of_z w x fits) k)
+
+pub next_own_signed_part : {R B E : Type 0} {K : BitSource R} {becomes : Error → E → Type 0} {e : ReadEntry ℤ}
+    (f : ℤ → ReadEntry (Result B E)) (w : Width) {r : Result B E} {s t z : R} {x : ℤ} → Reads K e s (Ok x) t → SFits w x
+    → ReadsOwn K becomes (f (to_z w (of_z w x))) t r z → ReadsOwn K becomes (chain e f) s r z
+next_own_signed_part {K = K} {becomes = becomes} f w {r = r} {t = t} {z = z} {x = x} h fits k =
+    next_own_read f h (subst (λ y. ReadsOwn K becomes (f y) t r z) (to_z-of_z w x fits) k)
 
 module _ {R B E : Type 0} {K : BitSource R} {becomes : Error → E → Type 0} {e : ReadEntry Bool}
     (f : Bool → ReadEntry (Result B E)) (err : E) {r : Result B E} {s t : R} where
@@ -395,6 +414,20 @@ const-word : (o : Order) (n v : ℕ) → IsWord (const_entry o n v) n (λ w. Ok 
 unfolding const_entry
 const-word o n v = record { reads = λ p b. refl }
 
+bytes-word : (o : Order) (n : ℕ) → IsWord (bytes_entry o n) (8 * n) (λ w. Ok (bytes_of o n w))
+unfolding bytes_entry
+bytes-word o n = record { reads = λ p b. refl }
+
+made-word : {A B : Type 0} (e : ReadEntry A) (n : ℕ) (g : List Bool → A) (f : A → B) → IsWord e n (λ w. Ok (g w))
+    → IsWord (chain e (λ a. gives (f a))) n (λ w. Ok (f (g w)))
+unfolding chain
+made-word e n g f h = record {
+  reads = λ p b. rw (h.reads p b) ((map_takes n g f (λ w. Ok (f (g w))) (λ w _. refl)).reads p b);
+}
+
+within_of : (n m : ℕ) → nat_le n m ≡ true → n ≤ m
+within_of n m h = grind (arith, nat_tests)
+
 skip-word : (n : ℕ) → IsWord (skip_entry n) n (λ w. Ok tt)
 unfolding skip_entry
 skip-word n = record { reads = λ p b. refl }
@@ -418,6 +451,45 @@ module _ {B : Type 0} (b : List Bool) (k n l : ℕ) (r : Result B Error) where
   pub skip-finds : (f : Unit {0} → ReadEntry B) → nat_le n l ≡ true → Finds b (k + n) (f tt) (l - n) r
       → Finds b k (chain (skip_entry n) f) l r
   skip-finds f le found = next-finds b k n l (skip_entry n) f (λ w. tt) r (skip-word n) le found
+
+module _ {B : Type 0} (b : List Bool) (k l : ℕ) (r : Result B Error) where
+  -- numbers of n bits, of which there are `count`
+  pub items-finds : (n count : ℕ) (o : Order) (size : ℕ) (f : List ℕ → ReadEntry B) → nat_le n size ≡ true
+      → nat_le (count * n) l ≡ true
+      → Finds b (k + count * n) (f (map (number o) (words n count (take (count * n) (drop k b))))) (l - count * n) r
+      → Finds b k (chain (items_entry (unsigned_entry o size n) count) f) l r
+  items-finds n count o size f fits le found =
+      next-finds b k (count * n) l (items_entry (unsigned_entry o size n) count) f (λ w. map (number o) (words n count w)) r
+      (items-word (unsigned-word o size n (within_of n size fits)) count) le found
+
+  -- n bytes
+  pub bytes-finds : (n : ℕ) (o : Order) (f : List ℕ → ReadEntry B) → nat_le (8 * n) l ≡ true
+      → Finds b (k + 8 * n) (f (bytes_of o n (take (8 * n) (drop k b)))) (l - 8 * n) r
+      → Finds b k (chain (bytes_entry o n) f) l r
+  bytes-finds n o f le found =
+      next-finds b k (8 * n) l (bytes_entry o n) f (λ w. bytes_of o n w) r (bytes-word o n) le found
+
+  -- a value that is made of a number, as a case of an enum
+  pub made-finds : {A : Type 0} (n : ℕ) (o : Order) (size : ℕ) (make : ℕ → A) (f : A → ReadEntry B) → nat_le n size ≡ true
+      → nat_le n l ≡ true → Finds b (k + n) (f (make (number o (take n (drop k b))))) (l - n) r
+      → Finds b k (chain (chain (unsigned_entry o size n) (λ v. gives (make v))) f) l r
+  made-finds n o size make f fits le found =
+      next-finds b k n l (chain (unsigned_entry o size n) (λ v. gives (make v))) f (λ w. make (number o w)) r
+      (made-word (unsigned_entry o size n) n (number o) make (unsigned-word o size n (within_of n size fits))) le found
+
+-- the same of one that may be refused: if it is made, and if it is not
+module _ {A B E : Type 0} (b : List Bool) (k l n : ℕ) (o : Order) (size : ℕ) (make : ℕ → Result A E)
+    (f : A → ReadEntry (Result B E)) where
+  pub part-finds : (a : A) (r : Result (Result B E) Error) → nat_le n size ≡ true → nat_le n l ≡ true
+      → make (number o (take n (drop k b))) ≡ Ok a → Finds b (k + n) (f a) (l - n) r
+      → Finds b k (chain (chain (unsigned_entry o size n) (λ v. gives (make v))) (part_then f)) l r
+  part-finds a r fits le is found = made-finds b k l r n o size make (part_then f) fits le (rw is found)
+
+  pub part-misses : (x : E) → nat_le n size ≡ true → nat_le n l ≡ true
+      → make (number o (take n (drop k b))) ≡ Err x → l - n ≡ 0
+      → Finds b k (chain (chain (unsigned_entry o size n) (λ v. gives (make v))) (part_then f)) l (Ok (Err x))
+  part-misses x fits le is ends =
+      made-finds b k l (Ok (Err x)) n o size make (part_then f) fits le (rw (is, ends) (gives-finds b (k + n) (Err x)))
 
 -- ---- what a new reader answers, over a stream that refuses at true ends alone
 
@@ -499,6 +571,40 @@ numbers-read o size n xs within fit =
     let one = λ (x : ℕ) (small : x < 2 ^ n).
     subst (IsReadAs (writes x) e) (value_in-fits n x small) (unsigned-read o size n x within (inl small)) in
     items-read e writes xs (All-weaker (λ x. x < 2 ^ n) (λ x. IsReadAs (writes x) e x) one xs fit)
+
+-- a part that is there or not
+pub optional-back : {A : Type 0} (e : ReadEntry A) (ws : A → List WriteEntry) (value : Option A)
+    → ForSome value (λ a. IsReadAs (ws a) e a) → IsReadAs (optional_writes ws value) (optional (is_some value) e) value
+optional-back e ws None part = λ len p more. refl
+optional-back e ws (Some a) part = (last-back e (λ v. Some v) (ws a) a (part a refl)).back
+
+pub packs-optional : {A : Type 0} (ws : A → List WriteEntry) (size : A → ℕ) (value : Option A)
+    → ForSome value (λ a. Packs (ws a) (size a)) → Packs (optional_writes ws value) (optional_size size value)
+packs-optional ws size None part = packs-none
+packs-optional ws size (Some a) part = part a refl
+
+-- a value that is made of a number, which gives it back
+pub made-back : {A B : Type 0} (es : List WriteEntry) (b : B) (o : Order) (size n v : ℕ) (make : ℕ → A) (a : A)
+    (f : A → ReadEntry B) → nat_le n size ≡ true → v < 2 ^ n → make v ≡ a → GoesBack (f a) es b
+    → GoesBack (chain (chain (unsigned_entry o size n) (λ k. gives (make k))) f) (unsigned o size n v ∷ es) b
+made-back es b o size n v make a f le fits is behind =
+    let e = chain (unsigned_entry o size n) (λ (k : ℕ). gives (make k)) in
+    let one : IsReadAs (unsigned o size n v ∷ []) (unsigned_entry o size n) v =
+    subst (IsReadAs (unsigned o size n v ∷ []) (unsigned_entry o size n)) (value_in-fits n v fits)
+    (unsigned-read o size n v (within_of n size le) (inl fits)) in
+    let made : IsReadAs (unsigned o size n v ∷ []) e a =
+    subst (IsReadAs (unsigned o size n v ∷ []) e) is (mapped-read make (unsigned o size n v ∷ []) (unsigned_entry o size n) v one) in
+    part-back e f (unsigned o size n v ∷ []) es a b made behind
+
+-- numbers of n bits, of which there are `count`
+pub items-back : {B : Type 0} (es : List WriteEntry) (b : B) (o : Order) (size n count : ℕ) (xs : List ℕ)
+    (f : List ℕ → ReadEntry B) → nat_le n size ≡ true → length xs ≡ count → All (λ x. x < 2 ^ n) xs → GoesBack (f xs) es b
+    → GoesBack (chain (items_entry (unsigned_entry o size n) count) f) (flat_map (λ x. unsigned o size n x ∷ []) xs ++ es) b
+items-back es b o size n count xs f le is fit behind =
+    let ws = flat_map (λ (x : ℕ). unsigned o size n x ∷ []) xs in
+    subst (λ (k : ℕ). GoesBack (chain (items_entry (unsigned_entry o size n) k) f) (ws ++ es) b) is
+    (part-back (items_entry (unsigned_entry o size n) (length xs)) f ws es xs b
+    (numbers-read o size n xs (within_of n size le) fit) behind)
 
 -- a constant whose width and value are literals
 pub literal-back : {B : Type 0} (es : List WriteEntry) (b : B) (o : Order) (n v : ℕ) (f : Bool → ReadEntry B)

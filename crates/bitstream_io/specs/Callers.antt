@@ -1,6 +1,6 @@
 -- The definitions that callers' contracts cite most, passed on from one place. Declares nothing.
-pub use Rattle.bitstream_number.specs.Word.{Order, High, Low, bits, bytes, word, number, signed_number, FitsSignedBits}
-pub use Rattle.bitstream_count.specs.Entry.{ReadEntry, WriteEntry, Takes, gives, refuses}
+pub use Rattle.bitstream_number.specs.Word.{Order, High, Low, bits, bytes, bytes_of, word, number, signed_number, FitsSignedBits}
+pub use Rattle.bitstream_count.specs.Entry.{ReadEntry, WriteEntry, Takes, chain, gives, refuses}
 pub use Rattle.bitstream_count.specs.declared.error.Error.{Error}
 pub use Rattle.bitstream_count.specs.declared.error.Error.TheVariants.{EndOfInput, Failed, OutOfMemory, Stream, VariableWidthOverflow}
 pub use Rattle.bitstream_order.specs.Gather.{seen}
@@ -12,9 +12,10 @@ pub use Rattle.bitstream_stream.specs.Room.{AllAccepted}
 pub use Rattle.bitstream_stream.specs.Run.{write_run}
 pub use Rattle.bitstream_value.specs.Array.{items_entry, words}
 pub use Rattle.bitstream_value.specs.Boolean.{truth_entry, truth}
-pub use Rattle.bitstream_value.specs.NonZero.{non_zero, option_entry}
-pub use Rattle.bitstream_value.specs.Own.{OwnAnswer, ReadsOwn, WritesOwn, same_error, plain_reads}
+pub use Rattle.bitstream_value.specs.NonZero.{non_zero, option_entry, if_any, number_or_zero}
+pub use Rattle.bitstream_value.specs.Own.{OwnAnswer, ReadsOwn, WritesOwn, part_then, same_error, plain_reads}
 pub use Rattle.bitstream_value.specs.Tree.{Tree, leaf, node, IsPath, path_entry, bit_by_bit}
 pub use Rattle.bitstream_io.specs.Loop.{ItemsRead, ItemsWritten}
 pub use Rattle.bitstream_io.specs.NonZeroTypes.{non_zero_u8, non_zero_u16, non_zero_u32, non_zero_u64, non_zero_u128, non_zero_u8_entry, non_zero_u16_entry, non_zero_u32_entry, non_zero_u64_entry, non_zero_u128_entry}
+pub use Rattle.bitstream_io.specs.Optional.{optional, optional_writes, optional_size}
 pub use Rattle.bitstream_io.specs.Steps.{◌>>=◌}

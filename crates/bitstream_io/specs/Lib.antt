@@ -1,6 +1,7 @@
 pub mod Callers
 pub mod Loop
 pub mod NonZeroTypes
+pub mod Optional
 pub mod ReadBack
 pub mod ReadScript
 pub mod Script
