@@ -1,0 +1,80 @@
+"""What is printed for a format: the code, the specs and the proofs."""
+from names import merged, spec_of
+from writes_code import Code
+from writes_proofs import Proofs
+from writes_specs import Specs
+
+
+class Module(Code, Specs, Proofs):
+    def __init__(self, crate, module, said, lines):
+        self.crate, self.m, self.lines, self.total = crate, module, lines, said["total"]
+        self.type, self.doc, self.error, self.examples = said["name"], said["doc"], said["error"], said["examples"]
+        self.made = f"Made by `./format` from {said['from']}: edit that file and make this one anew."
+        self.order, self.o = said["order"], {"BE": "High", "LE": "Low"}[said["order"]]
+        self.own, self.sized, self.e = bool(self.error), self.total is not None, self.error or "Error"
+        self.fields, self.tests = [it for it in lines if it.type], [it for it in lines if it.error]
+        self.result = f"(Result {self.type} {self.error})" if self.own else self.type
+        self.spec = spec_of(module)
+        self.declared = f"Rattle.{crate}.specs.declared.{module}"
+        self.goals = f"Rattle.{crate}.proofs.{module}"
+        self.specs_path = f"Rattle.{crate}.specs.{self.spec}"
+        self.lemmas_path = f"Rattle.{crate}.proofs.{self.spec}Lemmas"
+
+    def files(self):
+        """Gives the texts by their places in the crate, but for the answers that the other script prints."""
+        found = {
+            f"src/{self.m}.rt": self.code(),
+            f"specs/{self.spec}.antt": self.specs(),
+            f"proofs/{self.spec}Lemmas.antt": self.lemmas(),
+        }
+        if self.examples:
+            found[f"proofs/{self.spec}Rows.antt"] = self.rows()
+        answers = self.law() | self.parse_answers() | self.pack_answers() | self.trait_answers() | self.line_answers()
+        return found | {self.answers_path(path): text for path, text in answers.items()}
+
+    def answers_path(self, path):
+        return f"proofs/{self.m}/{path}/Answers.antt"
+
+    def functions(self):
+        """Gives the functions whose answers the other script prints."""
+        own = [name for it in self.lines for name in it.functions()]
+        return list(dict.fromkeys([f"{self.type}::read", f"{self.type}::write", *own]))
+
+    def listed(self):
+        """Gives the lines that name the files, by the file that has them."""
+        lemmas = [f"pub mod {self.spec}Lemmas"] + [f"mod {self.spec}Rows"] * bool(self.examples)
+        specs = [f"pub mod {self.spec}"]
+        return {"src/lib.rt": [f"pub mod {self.m};"], "specs/Lib.antt": specs, "proofs/Lib.antt": lemmas}
+
+    # ---- where names come from
+
+    def types(self):
+        """Gives where the types of this module, and of its parts, come from."""
+        base = self.declared
+        own = {f"{base}.{self.type}": self.type}
+        if self.own:
+            own[f"{base}.{self.error}"] = self.error
+            cases = dict.fromkeys(["Reader", *[it.error for it in self.tests]])
+            own[f"{base}.{self.error}.TheVariants"] = " ".join(cases)
+        found = merged(own, *[it.names(self) for it in self.lines])
+        return {module: names for module, names in found.items() if ".declared." in module}
+
+    def parts_specs(self):
+        found = merged(*[it.names(self) for it in self.lines])
+        return {module: it for module, it in found.items() if ".declared." not in module and module != self.specs_path}
+
+    def own_specs(self):
+        """Gives where the definitions of this module, and of its parts, come from."""
+        m = self.m
+        names = [f"{m}_{it}" for it in ("entry", "writes", "size", "bits", "at")] + ["Fits", f"becomes_{m}", "bits_at"]
+        names += [f"{m}_entry_{k}" for k in range(1, len(self.tests) + 1)] + [f"const_at_{it.at}" for it in self.tests]
+        lines = merged(*[it.names(self) for it in self.lines])
+        return merged({self.specs_path: " ".join(names)}, {it: lines[it] for it in lines if ".declared." not in it})
+
+    def parts_lemmas(self):
+        found = merged(*[it.lemma_names(self) for it in self.lines])
+        return {module: names for module, names in found.items() if module != self.lemmas_path}
+
+    def own_lemmas(self):
+        own = {self.lemmas_path: f"{self.m}_goes {self.m}_packs told"}
+        return merged(own, *[it.lemma_names(self) for it in self.lines])

@@ -1,0 +1,111 @@
+"""Where names come from: the imports of a text are found by the names that it has."""
+import re
+
+from source import COLUMNS, filled
+
+SYMBOLS = {it: f"◌{it}◌" for it in "≡ ≢ ∷ ++ ^ < ≤ + - * ∙ ==".split()}
+SYMBOLS |= {"[]": "[]", "if": "if◌then◌else◌", "←": "◌>>=◌"}
+TOKEN = re.compile(r"\+\+|==|\[\]|[^\W\d][\w]*(?:-[^\W\d][\w]*)*(?:-\d+)?|\S")
+
+
+def spec_of(module):
+    """Gives the name of a module's file of specs."""
+    return "".join(it.capitalize() for it in module.split("_"))
+
+
+def table(text):
+    """Gives the names of each module, of lines `MODULE: NAMES`, which go on where they are indented."""
+    lines = re.sub(r"\n +", " ", text.strip()).split("\n")
+    return {module: names.strip() for module, _, names in (it.partition(":") for it in lines)}
+
+
+# In specs, and in the contracts of code.
+SPECS = table(
+    """
+Rattle.std.specs.Prelude: ≡ ≢ ^ < ≤ + - * ++ ∷ [] == if ℕ ℤ Bool true false List Result Ok Err Option Some None
+    is_some length take drop map IfOk IsOk
+Rattle.std.specs.List: All flat_map
+Rattle.std.specs.Option: ForSome
+Rattle.std.specs.Int.NonZero: non_zero_u8_get non_zero_u16_get non_zero_u32_get non_zero_u64_get non_zero_u128_get
+Rattle.bitstream_io.specs.Callers: ← ReadEntry WriteEntry Takes gives Error EndOfInput Order High Low bits number chain
+    signed_number FitsSignedBits word first_bit bit_entry unsigned_entry signed_entry const_entry unary_entry
+    bytes_entry bytes_of skip_entry vbr_entry any_vbr_entry items_entry option_entry plain bit unsigned signed
+    unary_word buffer zeros align vbr non_zero write_run words Reads ReadsOwn OwnAnswer WritesAll sure_answer
+    same_error plain_reads part_then if_any number_or_zero optional optional_writes optional_size
+    non_zero_u8 non_zero_u16 non_zero_u32 non_zero_u64 non_zero_u128
+    non_zero_u8_entry non_zero_u16_entry non_zero_u32_entry non_zero_u64_entry non_zero_u128_entry
+Rattle.bitstream_io.specs.SliceMut: written_bytes
+Rattle.bitstream_io.specs.ReadBack: IsReadAs
+Rattle.bitstream_io.specs.Unary: unary
+Rattle.bitstream_io.specs.Vbr: vbr_word
+"""
+)
+SPECS |= {f"Rattle.std.specs.declared.num.NonZeroU{n}": f"NonZeroU{n}" for n in (8, 16, 32, 64, 128)}
+
+# In proofs: of the first module that has a name.
+PROOFS = table(
+    """
+Rattle.std.proofs.Common: ≡ ≢ ^ < ≤ + - * ++ ∷ [] == ∙ ℕ ℤ Bool true false List Result Ok Err Option Some None length
+    refl ap sym subst arith rules
+Rattle.std.specs.Prelude: is_some if take drop pos negsuc map
+Rattle.std.proofs.lemmas.Bool: eq-eqb ne_eqb cases_lt
+Rattle.std.proofs.lemmas.Bool.Decides: eqb_tells
+Rattle.bitstream_io.proofs.CallerLemmas: GoesBack Finds Packs inl inr is_error own_answered own_fields_there own_fields_short
+    own_front_answered fields_there fields_short front_answered slice_ends packed_stream calls_with_room align_with_room
+    next_own_read exit_own_read Reads-chain-ok Reads-gives exit own_end plainly_read plainly_written
+    bit-back signed-back unsigned-back any_vbr-back bytes-back non_zero-back option-back skip-back unary-back vbr-back
+    gives-back items-back made-back literal-back part-back optional-back
+    bit-finds signed-finds unsigned-finds bytes-finds non_zero-finds option-finds skip-finds const-finds const-misses
+    gives-finds items-finds made-finds part-finds part-misses
+    bit-written signed-written unsigned-written bytes-written non_zero-written const-written zeros-written
+    unary-written vbr-written packs-none packs-more packs-part packs-items packs-optional
+    packs-is packs-room packs-whole
+    non_zero_u8-again non_zero_u16-again non_zero_u32-again non_zero_u64-again non_zero_u128-again
+    option_u8-again option_u16-again option_u32-again option_u64-again option_u128-again
+Rattle.bitstream_io.proofs.WriteParts: all_none
+"""
+)
+PROOFS |= {module: names for module, names in SPECS.items() if module != "Rattle.std.specs.Prelude"}
+
+# What the types and cases of a format may not be called.
+TAKEN = {it for names in SPECS.values() for it in names.split()} - {"NonZero"} | {"Reader", "Fits"}
+
+
+def words_of(text):
+    """Gives the words of a text, but for those that stand before a dot, as a parameter or a field's holder does."""
+    lines = [it for it in text.split("\n") if not it.startswith(("use ", "--"))]
+    return set(TOKEN.findall(re.sub(r"\b[a-z]\w*\.", " ", "\n".join(lines))))
+
+
+def short(name):
+    """Gives what a name is called in the text: NAME=OTHER is NAME, there called OTHER."""
+    return name if name in SYMBOLS else name.split("=")[-1]
+
+
+def uses(text, *tables, begins="use ", ends=""):
+    """Gives the imports of what a text names, each name from the first module that has it."""
+    left, lines = words_of(text), []
+    for module, names in (it for one in tables for it in one.items()):
+        named = [it for it in dict.fromkeys(names.split()) if short(it) in left]
+        left -= {short(it) for it in named}
+        if named:
+            said = ", ".join(SYMBOLS.get(it) or it.replace("=", " as ") for it in named)
+            lines.append(f"{begins}{module}.{{{said}}}{ends}")
+    return lines
+
+
+def wrapped(text):
+    """Breaks the long lines of specs and proofs, but for imports."""
+    lines = []
+    for it in text.split("\n"):
+        indent = len(it) - len(it.lstrip())
+        lines.append(filled(it, indent + 4) if len(it) > COLUMNS and not it.startswith("use ") else it)
+    return "\n".join(lines)
+
+
+def merged(*tables):
+    """Gives one table of several, with all names of each module."""
+    found = {}
+    for module, names in (it for one in tables for it in one.items()):
+        found[module] = f"{found.get(module, '')} {names}".strip()
+    return found

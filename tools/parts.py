@@ -1,0 +1,218 @@
+"""Parts that have a description of their own, which may be there or not."""
+from enums import Enum, snake
+from lines import Line, starts
+from names import spec_of
+from source import Refused, number
+
+
+class Part(Line):
+    """A line NAME TYPE of MODULE: a part that has a description of its own."""
+
+    many = True
+
+    def __init__(self, words, doc):
+        if words[2:3] != ["of"]:
+            raise Refused("`NAME TYPE of MODULE`")
+        self.name, self.part, self.module, self.doc = words[0], words[1], words[3], doc
+        self.type = self.kind = self.part
+
+    imports = property(lambda self: (f"crate::{self.module}::{self.part}",))
+    entry = property(lambda self: f"{self.module}_entry o")
+    word = property(lambda self: f"{self.module}_writes o {self.value}")
+    size = property(lambda self: f"{self.module}_size o {self.value}")
+    written = property(lambda self: f"{self.module}_packs o {self.value} fits.{self.name}")
+
+    def said(self):
+        return self.part
+
+    def read(self, error):
+        return f"{self.part}::read(reader)"
+
+    def write(self):
+        return f"self.{self.name}.write(writer)"
+
+    def fits(self):
+        return [(self.name, f"{self.part}Fits {self.value}")]
+
+    def back(self, behind):
+        goes = f"({self.module}_goes o {self.value} fits.{self.name}).back"
+        return f"part-back ({self.entry}) _ ({self.word}) _ {self.value} _ {goes} ({behind})"
+
+    def term(self, said):
+        raise Refused("an example has no value for a part")
+
+    def names(self, module):
+        words = " ".join(f"{self.module}_{it}" for it in ("entry", "writes", "size"))
+        return {
+            f"Rattle.{module.crate}.specs.declared.{self.module}.{self.part}": self.part,
+            f"Rattle.{module.crate}.specs.{spec_of(self.module)}": f"{words} Fits={self.part}Fits",
+        }
+
+    def lemma_names(self, module):
+        path = f"Rattle.{module.crate}.proofs.{spec_of(self.module)}Lemmas"
+        return {path: f"{self.module}_goes {self.module}_packs"}
+
+
+class Optional(Part):
+    """A part that is there or not: `there` says when, in code, `when` in specs, `known` of the value's own fields."""
+
+    def __init__(self, words, doc):
+        super().__init__(words, doc)
+        self.type, self.kind, self.function = f"Option<{self.part}>", f"Option {self.part}", f"{snake(self.part)}_if"
+
+    entry = property(lambda self: f"optional {self.when} ({self.module}_entry o)")
+    word = property(lambda self: f"optional_writes ({self.module}_writes o) {self.value}")
+    size = property(lambda self: f"optional_size ({self.module}_size o) {self.value}")
+
+    @property
+    def written(self):
+        packs = f"(λ it is. {self.module}_packs o it (fits.{self.name} it is))"
+        return f"packs-optional ({self.module}_writes o) ({self.module}_size o) {self.value} {packs}"
+
+    def said(self):
+        return f"{self.part}, if it is there"
+
+    def read(self, error):
+        return f"read_{self.function}(reader, {self.there})"
+
+    def write(self):
+        return f"write_{self.function}(writer, self.{self.name})"
+
+    def fits(self):
+        return [(self.name, f"ForSome {self.value} {self.part}Fits")]
+
+    def goes(self):
+        """Gives the term that it is read back."""
+        goes = f"(λ it is. ({self.module}_goes o it (fits.{self.name} it is)).back)"
+        return f"optional-back ({self.module}_entry o) ({self.module}_writes o) {self.value} {goes}"
+
+    def back(self, behind):
+        entry = f"optional {self.known} ({self.module}_entry o)"
+        return f"part-back ({entry}) _ ({self.word}) _ {self.value} _ {self.name} ({behind})"
+
+    def term(self, said):
+        if said != "None":
+            raise Refused("of an optional part an example says None")
+        return said
+
+    def is_first(self, module):
+        """Whether no line before it has a part of this type that is there or not."""
+        return next(it for it in module.lines if isinstance(it, Optional) and it.part == self.part) is self
+
+    def declares(self, module):
+        if not self.is_first(module):
+            return []
+        part, entry, writes = self.part, f"{self.module}_entry R.source.order", f"{self.module}_writes W.sink.order"
+        return [
+            f"/// Reads a `{part}` if it is there.",
+            f"fn read_{self.function}<R: BitRead>(reader: &mut R, there: bool) -> Result<Option<{part}>, Error>",
+            f"    ensures {{ Reads R.source (optional there ({entry})) reader.old result reader.new }}",
+            "{",
+            "    if !there {",
+            "        return Ok(None);",
+            "    }",
+            f"    Ok(Some({part}::read(reader)?))",
+            "}",
+            "",
+            f"/// Writes a `{part}` if there is one.",
+            f"fn write_{self.function}<W: BitWrite>(writer: &mut W, value: Option<{part}>) -> Result<(), Error>",
+            f"    ensures {{ WritesAll W.sink (optional_writes ({writes}) value) writer.old result writer.new }}",
+            "{",
+            "    match value {",
+            "        Some(value) => value.write(writer),",
+            "        None => Ok(()),",
+            "    }",
+            "}",
+            "",
+        ]
+
+    def answers(self, module):
+        if not self.is_first(module):
+            return {}
+        path = f"write_{self.function}"
+        goal = f"use {module.goals}.{path}.Goals as goal"
+        none = ["pub returns-in-None : goal.returns-in-None", "returns-in-None g c = rw c.in-None.is (all_none _ _)"]
+        return {path: [goal, "", *none]}
+
+    def functions(self):
+        return [f"read_{self.function}"]
+
+
+@starts("flag")
+class Flag(Line):
+    """A line flag NAME: a bit that says whether the optional part of that name is there."""
+
+    bits, kind, entry = 1, "Bool", "bit_entry"
+
+    def __init__(self, words, doc):
+        self.part, self.name, self.doc = words[1], f"has_{words[1]}", doc
+
+    word = property(lambda self: f"bit (is_some value.{self.part})")
+    written = property(lambda self: f"bit-written (is_some value.{self.part})")
+
+    def read(self, error):
+        return "reader.read_bit()"
+
+    def write(self):
+        return f"writer.write_bit(self.{self.part}.is_some())"
+
+    def back(self, behind):
+        return f"bit-back (is_some value.{self.part}) _ _ _ ({behind})"
+
+
+@starts("option")
+class Option(Optional):
+    """A line option NAME TYPE of MODULE: a part that is there if its flag is set."""
+
+    def __init__(self, words, doc):
+        super().__init__(words[1:], doc)
+        self.there = self.when = f"has_{self.name}"
+        self.known = f"(is_some {self.value})"
+
+    def check(self, before):
+        if not any(isinstance(it, Flag) and it.part == self.name for it in before):
+            raise Refused(f"no `flag {self.name}` before it")
+
+    def lets(self):
+        return [f"let {self.name} = {self.goes()} in"]
+
+
+@starts("if")
+class If(Optional):
+    """A line if FIELD == VALUE NAME TYPE of MODULE: a part that is there if a field before it has that value.
+
+    The field is a number, or an enum, of which the value is a case.
+    """
+
+    def __init__(self, words, doc):
+        if words[2] != "==":
+            raise Refused("`if FIELD == VALUE NAME TYPE of MODULE`")
+        super().__init__(words[4:], doc)
+        self.field, self.asked, self.enum, self.number = words[1], words[3], "", 0
+
+    def check(self, before):
+        for it in before:
+            if it.name == self.field and isinstance(it, Enum):
+                self.enum, self.number = it.s, {case: value for value, case in it.cases}.get(self.asked)
+                if self.number is None:
+                    raise Refused(f"`{self.asked}` is no case of {it.type} with a number of its own")
+                return
+            if it.name == self.field and it.kind == "ℕ":
+                self.number = number(self.asked, 0, 2**128 - 1, "what is asked for")
+                return
+        raise Refused(f"no number or enum `{self.field}` before it")
+
+    there = property(lambda self: f"{self.field}{'.number()' if self.enum else ''} == {self.number}")
+    when = property(lambda self: self.test(self.field))
+    known = property(lambda self: self.test(f"value.{self.field}"))
+
+    def test(self, value):
+        return f"({f'{self.enum}_number ' if self.enum else ''}{value} == {self.number})"
+
+    def fits(self):
+        return [*super().fits(), (f"{self.name}_there", f"is_some {self.value} ≡ {self.known}")]
+
+    def lets(self):
+        read = f"IsReadAs ({self.word}) (optional there ({self.module}_entry o)) {self.value}"
+        moved = f"subst (λ (there : Bool). {read}) fits.{self.name}_there ({self.goes()})"
+        return [f"let {self.name} = {moved} in"]

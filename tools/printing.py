@@ -1,0 +1,90 @@
+"""Makes the files of a format, laid out as `rt fmt` wants them."""
+import os
+import shutil
+import subprocess
+import tempfile
+
+from chains import answers_of
+from description import described
+from module import Module
+from names import TAKEN
+from source import Refused, Unknown
+
+
+def put(folder, place, text):
+    path = os.path.join(folder, place)
+    os.makedirs(os.path.dirname(path), exist_ok=True)
+    with open(path, "w", encoding="utf-8") as file:
+        file.write(text)
+
+
+def text_of(*path):
+    with open(os.path.join(*path), encoding="utf-8") as file:
+        return file.read()
+
+
+def module_of(description, folder, name):
+    """Gives what a description says, as a module of the crate."""
+    if {f"{name}_{it}" for it in ("entry", "writes", "bits", "size")} & TAKEN:
+        raise Refused(f"the library has a `{name}_entry`: take another name for the module")
+    inside = os.path.relpath(description, folder)
+    said = described(text_of(description), os.path.basename(description) if inside.startswith("..") else inside)
+    return Module(os.path.basename(os.path.abspath(folder)), name, *said)
+
+
+def lay_out(crate):
+    ran = subprocess.run(["rt", "fmt"], cwd=crate, capture_output=True, text=True, check=False)
+    if ran.returncode:
+        raise Refused(f"rt fmt: {(ran.stdout + ran.stderr).strip()}")
+
+
+def print_into(crate, made):
+    """Puts the files of a format into a crate; gives their places."""
+    files = made.files()
+    for place, text in files.items():
+        put(crate, place, text)
+    for function in made.functions():
+        place = made.answers_path(function.replace("::", "/"))
+        try:
+            files[place] = answers_of(crate, f"src/{made.m}.rt", function)
+        except Unknown as it:
+            raise Refused(f"answers of {function}: {it}") from None
+        put(crate, place, files[place])
+    return list(files)
+
+
+def printed(descriptions, folder):
+    """Gives the module of each description, and the texts of its files by their places in the crate."""
+    found = [module_of(it, folder, name) for it, name in descriptions.items()]
+    with tempfile.TemporaryDirectory() as room:
+        crate = os.path.join(room, "crates", os.path.basename(os.path.abspath(folder)))
+        if os.path.isdir(os.path.join(folder, "src")):
+            shutil.copytree(os.path.join(folder, "src"), os.path.join(crate, "src"))
+        places = [print_into(crate, it) for it in found]
+        put(room, "crates.txt", f"{os.path.basename(crate)}:\n")
+        put(crate, "src/lib.rt", "".join(f"pub mod {it.m};\n" for it in found))
+        lay_out(crate)
+        return [(it, {place: text_of(crate, place) for place in named}) for it, named in zip(found, places)]
+
+
+def listed(folder, place, line):
+    """Adds a line that names a file, if it is not there: before the first one like it that comes behind it."""
+    path = os.path.join(folder, place)
+    lines = text_of(path).rstrip("\n").split("\n") if os.path.exists(path) else []
+    if line not in lines:
+        like = [k for k, it in enumerate(lines) if it.split(" ")[:-1] == line.split(" ")[:-1]]
+        at = next((k for k in like if lines[k] > line), like[-1] + 1 if like else len(lines))
+        apart = [""] * (place.endswith(".rt") and bool(lines) and not like)
+        put(folder, place, "\n".join([*lines[:at], *apart, line, *lines[at:]]) + "\n")
+
+
+def write(description, folder, name=None):
+    """Writes the files of a format, and the lines that name them; gives how many lines are written."""
+    name = name or os.path.splitext(os.path.basename(description))[0]
+    made, files = printed({description: name}, folder)[0]
+    for place, text in files.items():
+        put(folder, place, text)
+    for place, lines in made.listed().items():
+        for line in lines:
+            listed(folder, place, line)
+    return sum(text.count("\n") for text in files.values())

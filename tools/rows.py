@@ -1,0 +1,61 @@
+"""The rows of a description's examples, which the prover computes."""
+from source import Refused
+
+UNFOLDS = {
+    "chain": "Entry",
+    "digits digits_number bytes_of": "Word",
+    "unsigned signed": "WriteTable",
+    "unsigned_entry signed_entry const_entry skip_entry unary_entry bytes_entry groups_entry": "ReadTable",
+    "items_entry": "Array",
+    "non_zero non_zero_entry option_entry": "NonZero",
+    "groups groups_at": "Vbr",
+}
+
+
+def values_of(lines, said):
+    """Gives the fields of an example, in the terms of specs."""
+    given = {name.strip(): value.strip() for name, _, value in (it.partition("=") for it in said.split(","))}
+    out = []
+    for it in lines:
+        if it.type:
+            if it.name not in given:
+                raise Refused(f"an example has no `{it.name}`")
+            out.append(f"  {it.name} = {it.term(given.pop(it.name))};")
+    if given:
+        raise Refused(f"an example has a `{min(given)}`, which is no field")
+    return out
+
+
+def row(module, k, digits, said, unfolds):
+    """Gives the bytes of an example, its fields, and that each says the other."""
+    m, o = module.m, module.o
+    ok = f"(Ok (Ok value_{k}))" if module.own else f"(Ok value_{k})"
+    return [
+        f"row_{k} : List ℕ",
+        f"row_{k} = {''.join(f'{it} ∷ ' for it in bytes.fromhex(''.join(digits)))}[]",
+        "",
+        f"value_{k} : {module.type}",
+        f"value_{k} = record {{",
+        *values_of(module.lines, said),
+        "}",
+        "",
+        f"written_{k} : (write_run ({m}_writes {o} value_{k} ++ align ∷ []) 0 ≡ bits {o} row_{k})",
+        f"    × (({m}_entry {o}).reads 0 (bits {o} row_{k})",
+        f"    ≡ Takes (length (write_run ({m}_writes {o} value_{k}) 0)) {ok})",
+        f"unfolding row_{k} value_{k} {' '.join(unfolds)}",
+        f"written_{k} = (refl, refl)",
+        "",
+    ]
+
+
+def rows(module):
+    """Gives the rows, and where the names come from through which they compute."""
+    wanted = {"chain", "digits", "digits_number"} | {it for line in module.lines for it in line.unfolds}
+    found = {}
+    for names, place in UNFOLDS.items():
+        named = [it for it in names.split() if it in wanted]
+        if named:
+            found[f"Rattle.bitstream_io.specs.{place}"] = " ".join(named)
+    unfolds = [it for names in found.values() for it in names.split()]
+    out = [line for k, it in enumerate(module.examples) for line in row(module, k, *it, unfolds)]
+    return out, found

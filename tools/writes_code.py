@@ -1,0 +1,252 @@
+"""The code of a format's module."""
+import re
+
+from names import SPECS, uses
+from picture import picture
+
+LIBRARY = """BE LE BitRead BitReadExt BitReader BitWrite BitWriteExt BitWriter Bits Error FromBitStream SliceMut
+    ToBitStream"""
+
+
+def clauses(code):
+    """Gives what stands in the contracts of some code."""
+    found = []
+    for it in re.finditer(r"\b(?:ensures|requires|ghost)\b[^{\n]*\{", code):
+        depth, end = 1, it.end()
+        while depth:
+            depth += (code[end] == "{") - (code[end] == "}")
+            end += 1
+        found.append(code[it.end() : end - 1])
+    return "\n".join(found)
+
+
+def clause(name, facts, says):
+    """Gives a clause, broken at its arrows."""
+    lines = [f"        ensures {name} {{ {facts[0]}"]
+    for it in [*facts[1:], f"{says} }}"]:
+        fits = len(lines[-1]) + len(it) + 3 <= 100
+        lines[-1:] = [f"{lines[-1]} → {it}"] if fits else [lines[-1], f"            → {it}"]
+    return lines
+
+
+class Code:
+    def code(self):
+        """Gives the text of the module."""
+        body = [*self.struct_code(), *self.error_code()]
+        body += [line for it in self.lines for line in it.declares(self)]
+        calls = [*self.read_code(), *self.parse_code(), *self.write_code(), *self.pack_code()]
+        body += [f"impl {self.type} {{", *calls, "}", ""]
+        body += [*self.from_code(), *self.to_code(), *self.law_code()]
+        text = "\n".join(body)
+        return "\n".join([f"//! {self.doc}", "//!", f"//! {self.made}", *self.imported(text), "", text]) + "\n"
+
+    def imported(self, text):
+        ghosts = uses(clauses(text), self.own_specs(), self.types(), SPECS, begins="ghost use ", ends=";")
+        traits = "BitReadExt " * ("reader.read" in text) + "BitWriteExt " * ("writer.write" in text)
+        code = "\n".join(it for it in text.split("\n") if not it.strip().startswith("///"))
+        words = set(re.findall(r"\w+", code + traits))
+        paths = sorted({path for it in self.lines for path in it.imports})
+        library = f"use bitstream_io::{{{', '.join(it for it in LIBRARY.split() if it in words)}}};"
+        mine = [f"use {it};" for it in paths if it.startswith("crate")]
+        return [*ghosts, "", *mine, library, *(f"use {it};" for it in paths if it.startswith("std"))]
+
+    def struct_code(self):
+        drawn = [f"/// {it}".rstrip() for it in picture(self.lines)]
+        out = [f"/// {self.doc}", *drawn, "#[derive(Clone, Copy, Debug, PartialEq)]", f"pub struct {self.type} {{"]
+        for it in self.fields:
+            out += [f"    /// {f'{it.doc} {it.more}'.strip()}", f"    pub {it.name}: {it.type},"]
+        return [*out, "}", ""]
+
+    def error_code(self):
+        if not self.own:
+            return []
+        e = self.error
+        whys = {it.error: it.why() for it in reversed(self.tests)}
+        errors = dict.fromkeys(it.error for it in self.tests)
+        cases = [line for it in errors for line in (f"    /// {whys[it]}", f"    {it},")]
+        return [
+            f"/// Why a `{self.type}` is not read.",
+            "#[derive(Debug, Drop)]",
+            f"pub enum {e} {{",
+            "    /// An error of the reader.",
+            "    Reader(Error),",
+            *cases,
+            "}",
+            "",
+            f"impl From<Error> for {e} {{",
+            f"    ghost from_gives = {{ becomes_{self.m} }};",
+            "",
+            f"    fn from(error: Error) -> {e} {{",
+            f"        {e}::Reader(error)",
+            "    }",
+            "}",
+            "",
+        ]
+
+    def refusals(self):
+        """Gives what is said of the errors of its own."""
+        return "".join(f"`{it}`, " for it in dict.fromkeys(it.error for it in self.tests))
+
+    def read_code(self):
+        reads = f"ReadsOwn R.source becomes_{self.m}" if self.own else "Reads R.source"
+        own = f"{self.refusals()}behind the bits that say so. Else those" if self.own else "Those"
+        return [
+            "    /// Reads the fields in order.",
+            "    ///",
+            "    /// # Errors",
+            "    ///",
+            f"    /// {own} of the reader: after each of them it has failed.",
+            f"    pub fn read<R: BitRead>(reader: &mut R) -> Result<{self.type}, {self.e}>",
+            f"        ensures {{ {reads} ({self.m}_entry R.source.order) reader.old result reader.new }}",
+            "    {",
+            *[f"        {it.let(self.e)}" for it in self.lines],
+            f"        Ok({self.type} {{ {', '.join(it.name for it in self.fields)} }})",
+            "    }",
+            "",
+        ]
+
+    def parse_code(self):
+        m, t, o = self.m, self.type, self.o
+        answer = f"(sure_answer (({m}_entry {o}).reads 0 (bits {o} packet.now)))"
+        told = f"OwnAnswer becomes_{m} (λ answer. answer)\n            {answer} result"
+        bits, few = f"write_run ({m}_writes {o} value) 0", "if the bytes end before the fields do"
+        if self.sized:
+            bits, few = f"{m}_bits value", f"for fewer than {self.total // 8} bytes"
+        end = "`Reader(EndOfInput)`" if self.own else "`EndOfInput`"
+        return [
+            "    /// Returns what bytes begin with.",
+            "    ///",
+            "    /// # Errors",
+            "    ///",
+            f"    /// {self.refusals()}{end} {few}.",
+            f"    pub fn parse(packet: &[u8]) -> Result<{t}, {self.e}>",
+            f"        ensures answer {{ {told if self.own else f'result ≡ {answer[1:-1]}'} }}",
+            *(self.places_code() if self.sized else []),
+            f"        ensures back {{ (value : {t}) (more : List Bool) → Fits value",
+            f"            → bits {o} packet.now ≡ {bits} ++ more → result ≡ Ok value }}",
+            "    {",
+            f"        {m}_goes_back();",
+            f"        {t}::read(&mut BitReader::<_, {self.order}>::over(packet))",
+            "    }",
+            "",
+        ]
+
+    def known(self, tests, bits):
+        """Gives the premises that these tests hold, behind the cases of their enums."""
+        kinds = " ".join(f"({it.name} : {it.type})" for it in tests if it.type)
+        return [kinds] * bool(kinds) + [it.holds(bits)[0] for it in tests]
+
+    def at(self, bits):
+        """Gives what bits say by places, behind the cases of the enums that may be refused."""
+        return " ".join([f"{self.m}_at", *[it.name for it in self.tests if it.type], f"({bits})"])
+
+    def places_code(self):
+        """Gives what `parse` says by places: the fields, too few bytes, and each line whose bits are refused."""
+        bits, enough = f"bits {self.o} packet.now", f"{self.total // 8} ≤ length packet.now"
+        held = self.known(self.tests, bits)
+        out = clause("there", [enough, *held], f"result ≡ Ok ({self.at(bits)})")
+        end = f"({self.error}.Reader EndOfInput)" if self.own else "EndOfInput"
+        few = [f"length packet.now < {self.total // 8}", *(self.known_there(bits) if self.by_cases() else held)]
+        out += clause("short", few, f"result ≡ Err {end}")
+        for k, it in enumerate(self.tests):
+            facts = [f"{it.least()} ≤ length packet.now", *self.known(self.tests[:k], bits), it.fails(bits)]
+            out += clause(it.clause, facts, f"result ≡ Err ({self.error}.{it.error})")
+        return out
+
+    def by_cases(self):
+        """Whether each line that may be refused is a constant, of which it is decided if it is there."""
+        return not any(it.type for it in self.tests)
+
+    def known_there(self, bits):
+        """Gives the premises that the tests hold of which all bits are there."""
+        return [f"({it.least()} ≤ length packet.now → {it.holds(bits)[0]})" for it in self.tests]
+
+    def write_code(self):
+        writes = f"{self.m}_writes W.sink.order self.now"
+        return [
+            "    /// Writes the fields in order.",
+            "    ///",
+            "    /// # Errors",
+            "    ///",
+            "    /// `Checked` for a field that does not fit its bits. The fields before it are written then.",
+            "    /// Else those of the sink.",
+            "    pub fn write<W: BitWrite>(&self, writer: &mut W) -> Result<(), Error>",
+            f"        ensures {{ WritesAll W.sink ({writes}) writer.old result writer.new }}",
+            "    {",
+            *[f"        {it.write()}?;" for it in self.lines],
+            "        Ok(())",
+            "    }",
+            "",
+        ]
+
+    def pack_code(self):
+        m, o = self.m, self.o
+        room, has = f"{m}_size {o} self.now ≤ 8 * length buffer.old", "has room for their bits"
+        if self.sized:
+            room, has = f"{self.total // 8} ≤ length buffer.old", f"has {self.total // 8} bytes"
+        return [
+            "    /// Writes the fields to the first bytes of a buffer, and returns what was written. No write",
+            f"    /// fails if each field fits its bits and the buffer {has}. No memory is asked for.",
+            "    ///",
+            "    /// # Errors",
+            "    ///",
+            "    /// `Checked` for a field that does not fit its bits, or `Stream(WriteZero)` if the buffer is too",
+            "    /// short.",
+            "    pub fn pack_into<'a>(&self, buffer: &'a mut [u8]) -> Result<SliceMut<'a>, Error>",
+            f"        ensures packed {{ IfOk result (λ packed. bits {o} (written_bytes packed) ≡ {m}_bits self.now) }}",
+            f"        ensures room {{ Fits self.now → {room} → IsOk result }}",
+            "    {",
+            f"        let mut writer = BitWriter::<_, {self.order}>::over(buffer);",
+            "        self.write(&mut writer)?;",
+            "        writer.byte_align()?;",
+            "        Ok(writer.into_writer())",
+            "    }",
+        ]
+
+    def from_code(self):
+        m, t, e = self.m, self.type, self.e
+        becomes, reads = "same_error", f"λ o. plain_reads ({m}_entry o)"
+        if self.own:
+            becomes, reads = f"becomes_{m}", f"{m}_entry"
+        return [
+            f"impl FromBitStream for {t} {{",
+            f"    type Error = {e};",
+            "",
+            f"    ghost becomes = {{ {becomes} }};",
+            "",
+            f"    ghost reads = {{ {reads} }};",
+            "",
+            f"    fn from_reader<R: BitRead>(reader: &mut R) -> Result<{t}, {e}> {{",
+            f"        {t}::read(reader)",
+            "    }",
+            "}",
+            "",
+        ]
+
+    def to_code(self):
+        return [
+            f"impl ToBitStream for {self.type} {{",
+            "    type Error = Error;",
+            "",
+            "    ghost becomes = { same_error };",
+            "",
+            f"    ghost writes = {{ {self.m}_writes }};",
+            "",
+            "    fn to_writer<W: BitWrite>(&self, writer: &mut W) -> Result<(), Error> {",
+            "        self.write(writer)",
+            "    }",
+            "}",
+            "",
+        ]
+
+    def law_code(self):
+        ok = "Ok (Ok value)" if self.own else "Ok value"
+        return [
+            "/// What fits its bits is read back as it was written, in either order of bits, wherever it stands.",
+            "/// The read takes the bits that were written, and no more.",
+            f"pub fn {self.m}_goes_back()",
+            f"    ensures {{ (o : Order) (value : {self.type}) (at from : ℕ) (more : List Bool) → Fits value",
+            f"        → let written = write_run ({self.m}_writes o value) at in",
+            f"        ({self.m}_entry o).reads from (written ++ more) ≡ Takes (length written) ({ok}) }}",
+            "{}",
+        ]

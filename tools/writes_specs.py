@@ -1,0 +1,97 @@
+"""The definitions that a format's contracts cite."""
+from names import SPECS, uses, wrapped
+
+
+class Specs:
+    def specs(self):
+        """Gives the text of the file of specs."""
+        out = self.becomes() + (self.bits_at() if self.sized else [])
+        out += [line for it in self.lines for line in it.specs(self)]
+        out += [*self.entries(), *self.writes(), *self.fits(), *self.sizes(), *self.all_bits()]
+        out += self.at_places() if self.sized else []
+        text = "\n".join(out)
+        imports = uses(text, self.types(), self.parts_specs(), SPECS)
+        return wrapped("\n".join([f"-- {self.doc}", *imports, "", f"-- {self.made}", "", text.rstrip()])) + "\n"
+
+    def becomes(self):
+        if not self.own:
+            return []
+        return [
+            "-- an error of the reader is one of the type's",
+            f"abbrev pub becomes_{self.m} : Error → {self.error} → Type 0",
+            f"becomes_{self.m} error own = own ≡ Reader error",
+            "",
+        ]
+
+    def bits_at(self):
+        return [
+            "-- n bits behind the first k",
+            "abbrev pub bits_at : ℕ → ℕ → List Bool → List Bool",
+            "bits_at k n bits = take n (drop k bits)",
+            "",
+        ]
+
+    def entries(self):
+        """Gives the reads, a definition for each part that ends in what may be refused, the last one first."""
+        parts, seen, out = [[]], [], []
+        for it in self.lines:
+            parts[-1].append(it)
+            if it.error:
+                parts.append([])
+        for k, part in enumerate(parts):
+            args, kinds = "".join(f" {it.name}" for it in seen), "".join(f" {it.kind} →" for it in seen)
+            seen = seen + [it for it in part if it.name]
+            behind = f"{self.m}_entry_{k + 1} o" + "".join(f" {it.name}" for it in seen)
+            name, more = (f"{self.m}_entry_{k}", f", behind {k} that may be refused") if k else (f"{self.m}_entry", "")
+            block = [it.binds(behind) for it in part] + ([self.gives()] if k == len(parts) - 1 else [])
+            says = f"{name} o{args} = do"
+            if len(block) == 1 and block[0].startswith("  chain"):
+                says, block = f"{name} o{args} ={block[0][1:]}", []
+            head = [f"-- the reads, in order{more}", f"abbrev pub {name} : Order →{kinds} ReadEntry {self.result}"]
+            out = [*head, says, *block, "", *out]
+        return out
+
+    def gives(self):
+        record = "record { " + "; ".join(f"{it.name} = {it.name}" for it in self.fields) + " }"
+        return f"  gives (Ok ({record}))" if self.own else f"  gives ({record})"
+
+    def writes(self):
+        joins = ["", *("++ " if it.many else "∷ " for it in self.lines)]
+        return [
+            "-- the writes, in order",
+            f"abbrev pub {self.m}_writes : Order → {self.type} → List WriteEntry",
+            f"{self.m}_writes o value =",
+            *[f"    {join}{word}" for join, word in zip(joins, [*(it.word for it in self.lines), "[]"])],
+            "",
+        ]
+
+    def fits(self):
+        fields = [f"  pub {name} : {what}" for it in self.lines for name, what in it.fits()]
+        return ["-- each field fits its bits", f"pub record Fits (value : {self.type}) : Type 0 where", *fields, ""]
+
+    def sizes(self):
+        """Gives the number of bits: those of the constant widths first."""
+        known = sum(it.bits for it in self.lines if it.bits is not None)
+        total = " + ".join([str(known)] * (known > 0 or self.sized) + [it.size for it in self.lines if it.bits is None])
+        head = f"abbrev pub {self.m}_size : Order → {self.type} → ℕ"
+        return ["-- the number of bits", head, f"{self.m}_size o value = {total}", ""]
+
+    def all_bits(self):
+        return [
+            "-- the bits of all fields, up to a whole byte",
+            f"unfoldable pub {self.m}_bits : {self.type} → List Bool",
+            f"{self.m}_bits value = write_run ({self.m}_writes {self.o} value ++ align ∷ []) 0",
+            "",
+        ]
+
+    def at_places(self):
+        kinds = [it for it in self.tests if it.type]
+        arrows, args = "".join(f"{it.type} → " for it in kinds), "".join(f" {it.name}" for it in kinds)
+        fields = [f"  {it.name} = {it.place(f'bits_at {it.at} {it.bits} bits')};" for it in self.fields]
+        return [
+            "-- the fields that bits say, each by its place",
+            f"abbrev pub {self.m}_at : {arrows}List Bool → {self.type}",
+            f"{self.m}_at{args} bits = record {{",
+            *fields,
+            "}",
+        ]
