@@ -3,14 +3,16 @@
 //! say of the formats' bytes is proved: the worked rows of `bitstream_callers`.
 use crate::asserts::{are, each_holds, ended, failed, gives, holds, same};
 use bitstream_callers::block_header::{BlockHeader, append};
-use bitstream_callers::header::version;
 use bitstream_callers::packet_header::{PacketError, PacketHeader};
 use bitstream_callers::padded_port::PaddedPort;
-use bitstream_callers::plain::{chunk, direction, drift, first_block, parse_turn, picture_size};
+use bitstream_callers::plain::{
+    chunk, direction, drift, first_block, parse_turn, picture_size, sample_rate, version,
+};
 use bitstream_callers::reading::{Reading, ReadingError};
 use bitstream_callers::samples::parse_samples;
 use bitstream_callers::sensor::state_code;
-use bitstream_callers::stream_info::{StreamInfo, StreamInfoBlock, sample_rate};
+use bitstream_callers::stream_info::StreamInfo;
+use bitstream_callers::stream_info_block::StreamInfoBlock;
 use bitstream_callers::telemetry::{Sample, heartbeat};
 use bitstream_io::{
     BE, BitRead, BitReadExt, BitReader, BitWrite, BitWriteExt, BitWriter, BitsWritten, ByteRead,

@@ -1,9 +1,9 @@
 -- Worked rows: bytes of the formats' own documents, or made by hand, against the callers' definitions.
 use Rattle.std.specs.Prelude.{◌≡◌, ℕ, pos, negsuc, true, false, List, [], ◌∷◌, ◌++◌, drop, take, Ok, Err, refl}
 use Rattle.std.specs.List.{flat_map}
-use Rattle.bitstream_io.specs.Callers.{High, bits, align, non_zero_u8, write_run}
+use Rattle.bitstream_io.specs.Callers.{High, bits, align, write_run}
 use Rattle.bitstream_io.specs.Entry.{Takes, TooFew, chain}
-use Rattle.bitstream_io.specs.ReadTable.{const_entry, groups_entry, signed_entry, signed_groups_entry, unary_entry, unsigned_entry}
+use Rattle.bitstream_io.specs.ReadTable.{const_entry, groups_entry, signed_groups_entry, unary_entry, unsigned_entry}
 use Rattle.bitstream_io.specs.Tree.{path_entry}
 use Rattle.bitstream_io.specs.Array.{items_entry}
 use Rattle.bitstream_io.specs.Vbr.{groups, groups_at}
@@ -11,20 +11,16 @@ use Rattle.bitstream_io.specs.Word.{digits, digits_number}
 use Rattle.bitstream_io.specs.WriteTable.{signed, unsigned}
 use Rattle.bitstream_callers.specs.Adts.{adts_entry, adts_header, adts_writes}
 use Rattle.bitstream_callers.specs.Golomb.{se_entry, se_writes, ue_entry, ue_writes}
-use Rattle.bitstream_callers.specs.Header.{header_entry, header_writes}
 use Rattle.bitstream_callers.specs.Samples.{samples_entry, samples_writes}
 use Rattle.bitstream_callers.specs.Sensor.{measurement_entry, measurement_writes}
 use Rattle.bitstream_callers.specs.Sps.{sps_entry}
-use Rattle.bitstream_callers.specs.StreamInfo.{stream_info}
 use Rattle.bitstream_callers.specs.Telemetry.{packed_bits}
 use Rattle.bitstream_callers.specs.declared.adts.AdtsError.TheVariants.{NoSync, UnknownLayer}
 use Rattle.bitstream_callers.specs.declared.adts.AdtsHeader.{AdtsHeader}
-use Rattle.bitstream_callers.specs.declared.header.Header.{Header}
 use Rattle.bitstream_callers.specs.declared.sensor.Measurement.{Measurement}
 use Rattle.bitstream_callers.specs.declared.sensor.State.TheVariants.{Backward}
 use Rattle.bitstream_callers.specs.declared.sps.Sps.{Sps}
 use Rattle.bitstream_callers.specs.declared.sps.SpsError.TheVariants.{OtherUnit}
-use Rattle.bitstream_callers.specs.declared.stream_info.StreamInfo.{StreamInfo}
 use Rattle.bitstream_callers.specs.declared.telemetry.Sample.{Sample}
 
 -- ---- Exp-Golomb numbers
@@ -121,28 +117,7 @@ parameter_sets :
 unfolding parameter_set small_picture chain const_entry unary_entry unsigned_entry digits digits_number
 parameter_sets = (refl, refl, refl)
 
--- ---- the STREAMINFO block of a FLAC file: two channels of 16 bits
-
-info_block : List ℕ
-info_block = 16 ∷ 0 ∷ 16 ∷ 0 ∷ 0 ∷ 6 ∷ 6 ∷ 0 ∷ 33 ∷ 98 ∷ 10 ∷ 196 ∷ 66 ∷ 240 ∷ 0 ∷ 4 ∷ 166 ∷ 204 ∷ []
-
-info : StreamInfo
-info = record {
-  minimum_block_size = 4096;
-  maximum_block_size = 4096;
-  minimum_frame_size = 1542;
-  maximum_frame_size = 8546;
-  sample_rate = 44100;
-  channels = non_zero_u8 1;
-  bits_per_sample = non_zero_u8 15;
-  total_samples = 304844;
-}
-
-stream_infos : stream_info (bits High info_block) ≡ info
-unfolding info_block info digits digits_number
-stream_infos = refl
-
--- ---- telemetry, and the header of a protocol
+-- ---- telemetry
 
 packed :
     (packed_bits (record { seconds = 74565; running = true; temperature = negsuc 19; pressure = 101325 })
@@ -151,12 +126,3 @@ packed :
     ≡ bits High (171 ∷ 205 ∷ 239 ∷ 248 ∷ 0 ∷ 1 ∷ []))
 unfolding signed unsigned digits
 packed = (refl, refl)
-
-protocol_header : Header
-protocol_header = record { version = 5; acknowledge = true; priority = negsuc 1; length = 515 }
-
-headers :
-    (write_run (header_writes High protocol_header) 0 ≡ bits High (190 ∷ 2 ∷ 3 ∷ []))
-    × ((header_entry High).reads 0 (bits High (190 ∷ 2 ∷ 3 ∷ [])) ≡ Takes 24 (Ok protocol_header))
-unfolding protocol_header chain signed signed_entry unsigned unsigned_entry digits digits_number
-headers = (refl, refl)

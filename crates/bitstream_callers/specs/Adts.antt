@@ -1,10 +1,13 @@
 -- The header of an ADTS frame.
 use Rattle.std.specs.Prelude.{◌≡◌, ◌^◌, ◌<◌, ℕ, Bool, List, [], ◌∷◌, Result, Ok, Err, if◌then◌else◌, take, drop}
-use Rattle.bitstream_io.specs.Callers.{ReadEntry, WriteEntry, gives, Error, bit_entry, const_entry, first_bit, unsigned_entry, ◌>>=◌, Order, word, bit, plain, unsigned}
-use Rattle.bitstream_callers.specs.StreamInfo.{number_at}
+use Rattle.bitstream_io.specs.Callers.{ReadEntry, WriteEntry, gives, Error, bit_entry, const_entry, first_bit, unsigned_entry, ◌>>=◌, Order, High, number, word, bit, plain, unsigned}
 use Rattle.bitstream_callers.specs.declared.adts.AdtsError.{AdtsError}
 use Rattle.bitstream_callers.specs.declared.adts.AdtsError.TheVariants.{Reader, NoSync, UnknownLayer}
 use Rattle.bitstream_callers.specs.declared.adts.AdtsHeader.{AdtsHeader}
+
+-- the number of the n bits behind the first k
+abbrev pub number_at : ℕ → ℕ → List Bool → ℕ
+number_at k n bits = number High (take n (drop k bits))
 
 -- an error of the reader is one of the type's
 abbrev pub becomes_adts : Error → AdtsError → Type 0

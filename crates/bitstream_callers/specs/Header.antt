@@ -1,9 +1,15 @@
--- The header of a protocol's packets.
-use Rattle.std.specs.Prelude.{◌^◌, ◌<◌, List, [], ◌∷◌}
-use Rattle.bitstream_io.specs.Callers.{ReadEntry, WriteEntry, gives, bit_entry, signed_entry, unsigned_entry, ◌>>=◌, Order, FitsSignedBits, bit, signed, unsigned}
+-- What stands before a packet's bytes.
 use Rattle.bitstream_callers.specs.declared.header.Header.{Header}
+use Rattle.std.specs.Prelude.{◌^◌, ◌<◌, ◌++◌, ◌∷◌, [], ℕ, Bool, List, length, take, drop}
+use Rattle.bitstream_io.specs.Callers.{◌>>=◌, ReadEntry, WriteEntry, gives, Order, High, bits, number, signed_number, FitsSignedBits, first_bit, bit_entry, unsigned_entry, signed_entry, bit, unsigned, signed, align, write_run}
 
--- the reads of a header, in order
+-- Made by `./format` from formats/header.fields: edit that file and make this one anew.
+
+-- n bits behind the first k
+abbrev pub bits_at : ℕ → ℕ → List Bool → List Bool
+bits_at k n bits = take n (drop k bits)
+
+-- the reads, in order
 abbrev pub header_entry : Order → ReadEntry Header
 header_entry o = do
   version ← unsigned_entry o 8 3
@@ -12,17 +18,34 @@ header_entry o = do
   length ← unsigned_entry o 16 16
   gives (record { version = version; acknowledge = acknowledge; priority = priority; length = length })
 
--- the writes of a header, in order
+-- the writes, in order
 abbrev pub header_writes : Order → Header → List WriteEntry
-header_writes o header =
-    unsigned o 8 3 header.version
-    ∷ bit header.acknowledge
-    ∷ signed o 8 4 header.priority
-    ∷ unsigned o 16 16 header.length
+header_writes o value =
+    unsigned o 8 3 value.version
+    ∷ bit value.acknowledge
+    ∷ signed o 8 4 value.priority
+    ∷ unsigned o 16 16 value.length
     ∷ []
 
 -- each field fits its bits
-pub record Fits (header : Header) : Type 0 where
-  pub version : header.version < 2 ^ 3
-  pub priority : FitsSignedBits 4 header.priority
-  pub length : header.length < 2 ^ 16
+pub record Fits (value : Header) : Type 0 where
+  pub version : value.version < 2 ^ 3
+  pub priority : FitsSignedBits 4 value.priority
+  pub length : value.length < 2 ^ 16
+
+-- the number of bits
+abbrev pub header_size : Order → Header → ℕ
+header_size o value = 24
+
+-- the bits of all fields, up to a whole byte
+unfoldable pub header_bits : Header → List Bool
+header_bits value = write_run (header_writes High value ++ align ∷ []) 0
+
+-- the fields that bits say, each by its place
+abbrev pub header_at : List Bool → Header
+header_at bits = record {
+  version = number High (bits_at 0 3 bits);
+  acknowledge = first_bit (bits_at 3 1 bits);
+  priority = signed_number High (bits_at 4 4 bits);
+  length = number High (bits_at 8 16 bits);
+}

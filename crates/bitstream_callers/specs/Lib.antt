@@ -4,9 +4,11 @@ pub mod Golomb
 pub mod Header
 pub mod PacketHeader
 pub mod PaddedPort
+pub mod PrimaryHeader
 pub mod Reading
 pub mod Samples
 pub mod Sensor
 pub mod Sps
 pub mod StreamInfo
+pub mod StreamInfoBlock
 pub mod Telemetry

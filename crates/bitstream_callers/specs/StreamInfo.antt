@@ -1,12 +1,16 @@
--- The STREAMINFO block of a FLAC file.
-use Rattle.std.specs.Int.NonZero.{non_zero_u8_get}
-use Rattle.std.specs.Prelude.{ℕ, Bool, List, [], ◌∷◌, ◌++◌, take, drop}
-use Rattle.bitstream_io.specs.Callers.{ReadEntry, WriteEntry, gives, non_zero, non_zero_u8, non_zero_u8_entry, bytes_entry, unsigned_entry, ◌>>=◌, Order, High, Low, number, buffer, unsigned, bytes}
-use Rattle.bitstream_io.specs.Parts.{value_bytes}
+-- What a FLAC file says of its samples, without the checksum.
 use Rattle.bitstream_callers.specs.declared.stream_info.StreamInfo.{StreamInfo}
-use Rattle.bitstream_callers.specs.declared.stream_info.StreamInfoBlock.{StreamInfoBlock}
+use Rattle.std.specs.Prelude.{◌^◌, ◌<◌, ◌-◌, ◌++◌, ◌∷◌, [], ℕ, Bool, List, take, drop}
+use Rattle.std.specs.Int.NonZero.{non_zero_u8_get}
+use Rattle.bitstream_io.specs.Callers.{◌>>=◌, ReadEntry, WriteEntry, gives, Order, High, bits, number, unsigned_entry, unsigned, align, non_zero, write_run, non_zero_u8, non_zero_u8_entry}
 
--- the reads of a block, in order
+-- Made by `./format` from formats/stream_info.fields: edit that file and make this one anew.
+
+-- n bits behind the first k
+abbrev pub bits_at : ℕ → ℕ → List Bool → List Bool
+bits_at k n bits = take n (drop k bits)
+
+-- the reads, in order
 abbrev pub stream_info_entry : Order → ReadEntry StreamInfo
 stream_info_entry o = do
   minimum_block_size ← unsigned_entry o 16 16
@@ -20,7 +24,8 @@ stream_info_entry o = do
   gives (record {
     minimum_block_size = minimum_block_size;
     maximum_block_size = maximum_block_size;
-    minimum_frame_size = minimum_frame_size;
+    minimum_frame_size =
+        minimum_frame_size;
     maximum_frame_size = maximum_frame_size;
     sample_rate = sample_rate;
     channels = channels;
@@ -28,47 +33,47 @@ stream_info_entry o = do
     total_samples = total_samples;
   })
 
--- the number of the n bits behind the first k
-abbrev pub number_at : ℕ → ℕ → List Bool → ℕ
-number_at k n bits = number High (take n (drop k bits))
-
--- the fields that the bits of a block say
-abbrev pub stream_info : List Bool → StreamInfo
-stream_info bits = record {
-  minimum_block_size = number_at 0 16 bits;
-  maximum_block_size = number_at 16 16 bits;
-  minimum_frame_size = number_at 32 24 bits;
-  maximum_frame_size = number_at 56 24 bits;
-  sample_rate = number_at 80 20 bits;
-  channels = non_zero_u8 (number_at 100 3 bits);
-  bits_per_sample = non_zero_u8 (number_at 103 5 bits);
-  total_samples = number_at 108 36 bits;
-}
-
--- the two bytes of a number, in the order of bytes
-abbrev pub two_bytes : Order → ℕ → WriteEntry
-two_bytes o v = buffer o (value_bytes o (λ x. bytes High 2 x) (λ x. bytes Low 2 x) v)
-
--- the writes of the fields, in order
+-- the writes, in order
 abbrev pub stream_info_writes : Order → StreamInfo → List WriteEntry
-stream_info_writes o info =
-    two_bytes o info.minimum_block_size
-    ∷ two_bytes o info.maximum_block_size
-    ∷ unsigned o 32 24 info.minimum_frame_size
-    ∷ unsigned o 32 24 info.maximum_frame_size
-    ∷ unsigned o 32 20 info.sample_rate
-    ∷ non_zero o 8 3 (non_zero_u8_get info.channels)
-    ∷ non_zero o 8 5 (non_zero_u8_get info.bits_per_sample)
-    ∷ unsigned o 64 36 info.total_samples
+stream_info_writes o value =
+    unsigned o 16 16 value.minimum_block_size
+    ∷ unsigned o 16 16 value.maximum_block_size
+    ∷ unsigned o 32 24 value.minimum_frame_size
+    ∷ unsigned o 32 24 value.maximum_frame_size
+    ∷ unsigned o 32 20 value.sample_rate
+    ∷ non_zero o 8 3 (non_zero_u8_get value.channels)
+    ∷ non_zero o 8 5 (non_zero_u8_get value.bits_per_sample)
+    ∷ unsigned o 64 36 value.total_samples
     ∷ []
 
--- the reads of a whole block: the fields, and 16 bytes behind them
-abbrev pub block_entry : Order → ReadEntry StreamInfoBlock
-block_entry o = do
-  info ← stream_info_entry o
-  md5 ← bytes_entry o 16
-  gives (record { info = info; md5 = md5 })
+-- each field fits its bits
+pub record Fits (value : StreamInfo) : Type 0 where
+  pub minimum_block_size : value.minimum_block_size < 2 ^ 16
+  pub maximum_block_size : value.maximum_block_size < 2 ^ 16
+  pub minimum_frame_size : value.minimum_frame_size < 2 ^ 24
+  pub maximum_frame_size : value.maximum_frame_size < 2 ^ 24
+  pub sample_rate : value.sample_rate < 2 ^ 20
+  pub channels : non_zero_u8_get value.channels - 1 < 2 ^ 3
+  pub bits_per_sample : non_zero_u8_get value.bits_per_sample - 1 < 2 ^ 5
+  pub total_samples : value.total_samples < 2 ^ 36
 
--- the writes of a whole block
-abbrev pub block_writes : Order → StreamInfoBlock → List WriteEntry
-block_writes o block = stream_info_writes o block.info ++ buffer o block.md5 ∷ []
+-- the number of bits
+abbrev pub stream_info_size : Order → StreamInfo → ℕ
+stream_info_size o value = 144
+
+-- the bits of all fields, up to a whole byte
+unfoldable pub stream_info_bits : StreamInfo → List Bool
+stream_info_bits value = write_run (stream_info_writes High value ++ align ∷ []) 0
+
+-- the fields that bits say, each by its place
+abbrev pub stream_info_at : List Bool → StreamInfo
+stream_info_at bits = record {
+  minimum_block_size = number High (bits_at 0 16 bits);
+  maximum_block_size = number High (bits_at 16 16 bits);
+  minimum_frame_size = number High (bits_at 32 24 bits);
+  maximum_frame_size = number High (bits_at 56 24 bits);
+  sample_rate = number High (bits_at 80 20 bits);
+  channels = non_zero_u8 (number High (bits_at 100 3 bits));
+  bits_per_sample = non_zero_u8 (number High (bits_at 103 5 bits));
+  total_samples = number High (bits_at 108 36 bits);
+}

@@ -1,71 +1,137 @@
-//! The header of a protocol's packets, both ways.
-ghost use Rattle.std.specs.Prelude.{◌≡◌, ◌++◌, ℕ, Bool, List, length, Ok};
-ghost use Rattle.bitstream_io.specs.Callers.{Takes, Reads, write_run, WritesAll, Order};
+//! What stands before a packet's bytes.
+//!
+//! Made by `./format` from formats/header.fields: edit that file and make this one anew.
+ghost use Rattle.bitstream_callers.specs.Header.{header_entry, header_writes, header_bits, header_at, Fits};
 ghost use Rattle.bitstream_callers.specs.declared.header.Header.{Header};
-ghost use Rattle.bitstream_callers.specs.Header.{header_entry, header_writes, Fits};
+ghost use Rattle.std.specs.Prelude.{◌≡◌, ◌<◌, ◌≤◌, ◌++◌, ℕ, Bool, List, Ok, Err, length, IfOk, IsOk};
+ghost use Rattle.bitstream_io.specs.Callers.{Takes, EndOfInput, Order, High, bits, write_run, Reads, WritesAll, sure_answer, same_error, plain_reads};
+ghost use Rattle.bitstream_io.specs.SliceMut.{written_bytes};
 
-use bitstream_io::{BE, BitRead, BitReadExt, BitReader, BitWrite, BitWriteExt, Bits, Error};
+use bitstream_io::{
+    BE, BitRead, BitReadExt, BitReader, BitWrite, BitWriteExt, BitWriter, Bits, Error,
+    FromBitStream, SliceMut, ToBitStream,
+};
 
 /// What stands before a packet's bytes.
+///
+/// ```text
+///  0                   1                   2                   3
+///  0 1 2 3 4 5 6 7 8 9 0 1 2 3 4 5 6 7 8 9 0 1 2 3 4 5 6 7 8 9 0 1
+/// +-+-+-+-+-+-+-+-+-+-+-+-+-+-+-+-+-+-+-+-+-+-+-+-+
+/// |versi|a|priorit|             length            |
+/// +-+-+-+-+-+-+-+-+-+-+-+-+-+-+-+-+-+-+-+-+-+-+-+-+
+/// ```
 #[derive(Clone, Copy, Debug, PartialEq)]
 pub struct Header {
-    /// The version of the protocol, below 8.
+    /// The version of the protocol. Below 2^3.
     pub version: u8,
     /// Whether the packet is to be acknowledged.
     pub acknowledge: bool,
-    /// How urgent the packet is, from -8 to 7.
+    /// How urgent the packet is. From -8 to 7.
     pub priority: i8,
     /// The bytes that follow.
     pub length: u16,
 }
 
-/// Returns the version that a packet states.
-///
-/// # Errors
-///
-/// `EndOfInput` for a packet of no bytes.
-pub fn version(packet: &[u8]) -> Result<u8, Error> {
-    BitReader::<_, BE>::new(packet).read::<Bits<3>, u8>()
-}
-
 impl Header {
-    /// Reads a header.
+    /// Reads the fields in order.
     ///
     /// # Errors
     ///
-    /// Those of the reader. After each of them it has failed.
+    /// Those of the reader: after each of them it has failed.
     pub fn read<R: BitRead>(reader: &mut R) -> Result<Header, Error>
         ensures { Reads R.source (header_entry R.source.order) reader.old result reader.new }
     {
+        let version = reader.read::<Bits<3>, u8>()?;
+        let acknowledge = reader.read_bit()?;
+        let priority = reader.read::<Bits<4>, i8>()?;
+        let length = reader.read::<Bits<16>, u16>()?;
         Ok(Header {
-            version: reader.read::<Bits<3>, u8>()?,
-            acknowledge: reader.read_bit()?,
-            priority: reader.read::<Bits<4>, i8>()?,
-            length: reader.read::<Bits<16>, u16>()?,
+            version,
+            acknowledge,
+            priority,
+            length,
         })
     }
 
-    /// Writes a header.
+    /// Returns what bytes begin with.
+    ///
+    /// # Errors
+    ///
+    /// `EndOfInput` for fewer than 3 bytes.
+    pub fn parse(packet: &[u8]) -> Result<Header, Error>
+        ensures answer { result ≡ sure_answer ((header_entry High).reads 0 (bits High packet.now)) }
+        ensures there { 3 ≤ length packet.now → result ≡ Ok (header_at (bits High packet.now)) }
+        ensures short { length packet.now < 3 → result ≡ Err EndOfInput }
+        ensures back { (value : Header) (more : List Bool) → Fits value
+            → bits High packet.now ≡ header_bits value ++ more → result ≡ Ok value }
+    {
+        header_goes_back();
+        Header::read(&mut BitReader::<_, BE>::over(packet))
+    }
+
+    /// Writes the fields in order.
     ///
     /// # Errors
     ///
     /// `Checked` for a field that does not fit its bits. The fields before it are written then.
     /// Else those of the sink.
     pub fn write<W: BitWrite>(&self, writer: &mut W) -> Result<(), Error>
-        ensures { WritesAll W.sink (header_writes W.sink.order self.now)
-            writer.old result writer.new }
+        ensures { WritesAll W.sink (header_writes W.sink.order self.now) writer.old result writer.new }
     {
         writer.write::<Bits<3>, u8>(self.version)?;
         writer.write_bit(self.acknowledge)?;
         writer.write::<Bits<4>, i8>(self.priority)?;
-        writer.write::<Bits<16>, u16>(self.length)
+        writer.write::<Bits<16>, u16>(self.length)?;
+        Ok(())
+    }
+
+    /// Writes the fields to the first bytes of a buffer, and returns what was written. No write
+    /// fails if each field fits its bits and the buffer has 3 bytes. No memory is asked for.
+    ///
+    /// # Errors
+    ///
+    /// `Checked` for a field that does not fit its bits, or `Stream(WriteZero)` if the buffer is too
+    /// short.
+    pub fn pack_into<'a>(&self, buffer: &'a mut [u8]) -> Result<SliceMut<'a>, Error>
+        ensures packed { IfOk result (λ packed. bits High (written_bytes packed) ≡ header_bits self.now) }
+        ensures room { Fits self.now → 3 ≤ length buffer.old → IsOk result }
+    {
+        let mut writer = BitWriter::<_, BE>::over(buffer);
+        self.write(&mut writer)?;
+        writer.byte_align()?;
+        Ok(writer.into_writer())
     }
 }
 
-/// A header that fits its bits is read back as it was written, in either order of bits, wherever it
-/// stands. The read takes the bits that were written, and no more.
-pub fn headers_go_back()
-    ensures { (o : Order) (header : Header) (at from : ℕ) (more : List Bool) → Fits header
-        → let word = write_run (header_writes o header) at in
-        (header_entry o).reads from (word ++ more) ≡ Takes (length word) (Ok header) }
+impl FromBitStream for Header {
+    type Error = Error;
+
+    ghost becomes = { same_error };
+
+    ghost reads = { λ o. plain_reads (header_entry o) };
+
+    fn from_reader<R: BitRead>(reader: &mut R) -> Result<Header, Error> {
+        Header::read(reader)
+    }
+}
+
+impl ToBitStream for Header {
+    type Error = Error;
+
+    ghost becomes = { same_error };
+
+    ghost writes = { header_writes };
+
+    fn to_writer<W: BitWrite>(&self, writer: &mut W) -> Result<(), Error> {
+        self.write(writer)
+    }
+}
+
+/// What fits its bits is read back as it was written, in either order of bits, wherever it stands.
+/// The read takes the bits that were written, and no more.
+pub fn header_goes_back()
+    ensures { (o : Order) (value : Header) (at from : ℕ) (more : List Bool) → Fits value
+        → let written = write_run (header_writes o value) at in
+        (header_entry o).reads from (written ++ more) ≡ Takes (length written) (Ok value) }
 {}

@@ -1,6 +1,7 @@
 //! Small callers of `bitstream_io`: a reader of a FLAC block, a packer of telemetry, a protocol's header
 //! both ways, types that say themselves how they are read and written, numbers that are computed, a
-//! header with a syncword, samples in a loop, and a prefix code. `CALLING.md` goes through them.
+//! header with a syncword, samples in a loop, and a prefix code. `CALLING.md` goes through them. Some are
+//! printed from the descriptions in `formats/`.
 #![tactic(auto)]
 
 pub mod adts;
@@ -10,9 +11,11 @@ pub mod header;
 pub mod packet_header;
 pub mod padded_port;
 pub mod plain;
+pub mod primary_header;
 pub mod reading;
 pub mod samples;
 pub mod sensor;
 pub mod sps;
 pub mod stream_info;
+pub mod stream_info_block;
 pub mod telemetry;

@@ -5,6 +5,26 @@ use bitstream_io::{BE, BitRead, BitReadExt, BitReader, Bits, Error, LE, LittleEn
 use std::alloc::Global;
 use std::io::Read;
 
+/// Returns the samples a second of a STREAMINFO block.
+///
+/// # Errors
+///
+/// `EndOfInput` for a block of fewer than 13 bytes.
+pub fn sample_rate(block: &[u8]) -> Result<u32, Error> {
+    let mut reader = BitReader::<_, BE>::new(block);
+    reader.read::<Bits<16>, [u16; 5]>()?;
+    reader.read::<Bits<20>, u32>()
+}
+
+/// Returns the version that a packet states.
+///
+/// # Errors
+///
+/// `EndOfInput` for a packet of no bytes.
+pub fn version(packet: &[u8]) -> Result<u8, Error> {
+    BitReader::<_, BE>::new(packet).read::<Bits<3>, u8>()
+}
+
 /// What a wheel's sensor measured.
 #[derive(Clone, Copy, Debug, PartialEq)]
 pub struct Turn {

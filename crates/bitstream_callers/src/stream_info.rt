@@ -1,77 +1,136 @@
-//! The STREAMINFO block of a FLAC file, as types that say how they are read and written.
-ghost use Rattle.std.specs.Prelude.{◌≡◌, ◌<◌, ◌≤◌, length, Err, Ok};
-ghost use Rattle.bitstream_io.specs.Callers.{EndOfInput, plain_reads, same_error, Reads, High, bits};
-ghost use Rattle.bitstream_callers.specs.StreamInfo.{stream_info, stream_info_entry, stream_info_writes, block_entry, block_writes};
+//! What a FLAC file says of its samples, without the checksum.
+//!
+//! Made by `./format` from formats/stream_info.fields: edit that file and make this one anew.
+ghost use Rattle.bitstream_callers.specs.StreamInfo.{stream_info_entry, stream_info_writes, stream_info_bits, stream_info_at, Fits};
+ghost use Rattle.bitstream_callers.specs.declared.stream_info.StreamInfo.{StreamInfo};
+ghost use Rattle.std.specs.Prelude.{◌≡◌, ◌<◌, ◌≤◌, ◌++◌, ℕ, Bool, List, Ok, Err, length, IfOk, IsOk};
+ghost use Rattle.bitstream_io.specs.Callers.{Takes, EndOfInput, Order, High, bits, write_run, Reads, WritesAll, sure_answer, same_error, plain_reads};
+ghost use Rattle.bitstream_io.specs.SliceMut.{written_bytes};
 
 use bitstream_io::{
-    BE, BitRead, BitReadExt, BitReader, BitWrite, BitWriteExt, Bits, Error, FromBitStream,
-    ToBitStream,
+    BE, BitRead, BitReadExt, BitReader, BitWrite, BitWriteExt, BitWriter, Bits, Error,
+    FromBitStream, SliceMut, ToBitStream,
 };
 use std::num::NonZero;
 
 /// What a FLAC file says of its samples, without the checksum.
+///
+/// ```text
+///  0                   1                   2                   3
+///  0 1 2 3 4 5 6 7 8 9 0 1 2 3 4 5 6 7 8 9 0 1 2 3 4 5 6 7 8 9 0 1
+/// +-+-+-+-+-+-+-+-+-+-+-+-+-+-+-+-+-+-+-+-+-+-+-+-+-+-+-+-+-+-+-+-+
+/// |       minimum_block_size      |       maximum_block_size      |
+/// +-+-+-+-+-+-+-+-+-+-+-+-+-+-+-+-+-+-+-+-+-+-+-+-+-+-+-+-+-+-+-+-+
+/// |               minimum_frame_size              |               |
+/// +-+-+-+-+-+-+-+-+-+-+-+-+-+-+-+-+-+-+-+-+-+-+-+-+-+-+-+-+-+-+-+-+
+/// |       maximum_frame_size      |          sample_rate          |
+/// +-+-+-+-+-+-+-+-+-+-+-+-+-+-+-+-+-+-+-+-+-+-+-+-+-+-+-+-+-+-+-+-+
+/// |       |chann|bits_per_|             total_samples             |
+/// +-+-+-+-+-+-+-+-+-+-+-+-+-+-+-+-+-+-+-+-+-+-+-+-+-+-+-+-+-+-+-+-+
+/// |                               |
+/// +-+-+-+-+-+-+-+-+-+-+-+-+-+-+-+-+
+/// ```
 #[derive(Clone, Copy, Debug, PartialEq)]
 pub struct StreamInfo {
     /// The fewest samples of a block, of each channel.
     pub minimum_block_size: u16,
     /// The most samples of a block, of each channel.
     pub maximum_block_size: u16,
-    /// The bytes of the smallest frame, or 0 if they are not known.
+    /// The bytes of the smallest frame, or 0 if they are not known. Below 2^24.
     pub minimum_frame_size: u32,
-    /// The bytes of the largest frame, or 0 if they are not known.
+    /// The bytes of the largest frame, or 0 if they are not known. Below 2^24.
     pub maximum_frame_size: u32,
-    /// Samples a second, of each channel.
+    /// Samples a second, of each channel. Below 2^20.
     pub sample_rate: u32,
-    /// The number of channels.
+    /// The number of channels. At most 2^3.
     pub channels: NonZero<u8>,
-    /// The bits of a sample.
+    /// The bits of a sample. At most 2^5.
     pub bits_per_sample: NonZero<u8>,
-    /// The samples of the file, of each channel, or 0 if they are not known.
+    /// The samples of the file, of each channel, or 0 if they are not known. Below 2^36.
     pub total_samples: u64,
 }
 
-/// Returns the samples a second of a STREAMINFO block.
-///
-/// # Errors
-///
-/// `EndOfInput` for a block of fewer than 13 bytes.
-pub fn sample_rate(block: &[u8]) -> Result<u32, Error> {
-    let mut reader = BitReader::<_, BE>::new(block);
-    reader.read::<Bits<16>, [u16; 5]>()?;
-    reader.read::<Bits<20>, u32>()
-}
-
 impl StreamInfo {
-    /// Reads the fields from any reader of bits.
+    /// Reads the fields in order.
     ///
     /// # Errors
     ///
-    /// Those of the reader. After each of them it has failed.
+    /// Those of the reader: after each of them it has failed.
     pub fn read<R: BitRead>(reader: &mut R) -> Result<StreamInfo, Error>
         ensures { Reads R.source (stream_info_entry R.source.order) reader.old result reader.new }
     {
+        let minimum_block_size = reader.read::<Bits<16>, u16>()?;
+        let maximum_block_size = reader.read::<Bits<16>, u16>()?;
+        let minimum_frame_size = reader.read::<Bits<24>, u32>()?;
+        let maximum_frame_size = reader.read::<Bits<24>, u32>()?;
+        let sample_rate = reader.read::<Bits<20>, u32>()?;
+        let channels = reader.read::<Bits<3>, NonZero<u8>>()?;
+        let bits_per_sample = reader.read::<Bits<5>, NonZero<u8>>()?;
+        let total_samples = reader.read::<Bits<36>, u64>()?;
         Ok(StreamInfo {
-            minimum_block_size: reader.read::<Bits<16>, u16>()?,
-            maximum_block_size: reader.read::<Bits<16>, u16>()?,
-            minimum_frame_size: reader.read::<Bits<24>, u32>()?,
-            maximum_frame_size: reader.read::<Bits<24>, u32>()?,
-            sample_rate: reader.read::<Bits<20>, u32>()?,
-            channels: reader.read::<Bits<3>, NonZero<u8>>()?,
-            bits_per_sample: reader.read::<Bits<5>, NonZero<u8>>()?,
-            total_samples: reader.read::<Bits<36>, u64>()?,
+            minimum_block_size,
+            maximum_block_size,
+            minimum_frame_size,
+            maximum_frame_size,
+            sample_rate,
+            channels,
+            bits_per_sample,
+            total_samples,
         })
     }
 
-    /// Returns the fields of a block, which are its first 18 bytes.
+    /// Returns what bytes begin with.
     ///
     /// # Errors
     ///
-    /// `EndOfInput` for a block of fewer bytes.
-    pub fn parse(block: &[u8]) -> Result<StreamInfo, Error>
-        ensures there { 18 ≤ length block.now → result ≡ Ok (stream_info (bits High block.now)) }
-        ensures short { length block.now < 18 → result ≡ Err EndOfInput }
+    /// `EndOfInput` for fewer than 18 bytes.
+    pub fn parse(packet: &[u8]) -> Result<StreamInfo, Error>
+        ensures answer { result ≡ sure_answer ((stream_info_entry High).reads 0 (bits High packet.now)) }
+        ensures there { 18 ≤ length packet.now
+            → result ≡ Ok (stream_info_at (bits High packet.now)) }
+        ensures short { length packet.now < 18 → result ≡ Err EndOfInput }
+        ensures back { (value : StreamInfo) (more : List Bool) → Fits value
+            → bits High packet.now ≡ stream_info_bits value ++ more → result ≡ Ok value }
     {
-        StreamInfo::read(&mut BitReader::<_, BE>::over(block))
+        stream_info_goes_back();
+        StreamInfo::read(&mut BitReader::<_, BE>::over(packet))
+    }
+
+    /// Writes the fields in order.
+    ///
+    /// # Errors
+    ///
+    /// `Checked` for a field that does not fit its bits. The fields before it are written then.
+    /// Else those of the sink.
+    pub fn write<W: BitWrite>(&self, writer: &mut W) -> Result<(), Error>
+        ensures { WritesAll W.sink (stream_info_writes W.sink.order self.now) writer.old result writer.new }
+    {
+        writer.write::<Bits<16>, u16>(self.minimum_block_size)?;
+        writer.write::<Bits<16>, u16>(self.maximum_block_size)?;
+        writer.write::<Bits<24>, u32>(self.minimum_frame_size)?;
+        writer.write::<Bits<24>, u32>(self.maximum_frame_size)?;
+        writer.write::<Bits<20>, u32>(self.sample_rate)?;
+        writer.write::<Bits<3>, NonZero<u8>>(self.channels)?;
+        writer.write::<Bits<5>, NonZero<u8>>(self.bits_per_sample)?;
+        writer.write::<Bits<36>, u64>(self.total_samples)?;
+        Ok(())
+    }
+
+    /// Writes the fields to the first bytes of a buffer, and returns what was written. No write
+    /// fails if each field fits its bits and the buffer has 18 bytes. No memory is asked for.
+    ///
+    /// # Errors
+    ///
+    /// `Checked` for a field that does not fit its bits, or `Stream(WriteZero)` if the buffer is too
+    /// short.
+    pub fn pack_into<'a>(&self, buffer: &'a mut [u8]) -> Result<SliceMut<'a>, Error>
+        ensures packed { IfOk result (λ packed. bits High (written_bytes packed) ≡ stream_info_bits self.now) }
+        ensures room { Fits self.now → 18 ≤ length buffer.old → IsOk result }
+    {
+        let mut writer = BitWriter::<_, BE>::over(buffer);
+        self.write(&mut writer)?;
+        writer.byte_align()?;
+        Ok(writer.into_writer())
     }
 }
 
@@ -95,50 +154,14 @@ impl ToBitStream for StreamInfo {
     ghost writes = { stream_info_writes };
 
     fn to_writer<W: BitWrite>(&self, writer: &mut W) -> Result<(), Error> {
-        writer.write_from(self.minimum_block_size)?;
-        writer.write_from(self.maximum_block_size)?;
-        writer.write::<Bits<24>, u32>(self.minimum_frame_size)?;
-        writer.write::<Bits<24>, u32>(self.maximum_frame_size)?;
-        writer.write::<Bits<20>, u32>(self.sample_rate)?;
-        writer.write::<Bits<3>, NonZero<u8>>(self.channels)?;
-        writer.write::<Bits<5>, NonZero<u8>>(self.bits_per_sample)?;
-        writer.write::<Bits<36>, u64>(self.total_samples)
+        self.write(writer)
     }
 }
 
-/// A whole STREAMINFO block, of 34 bytes.
-#[derive(Clone, Copy, Debug, PartialEq)]
-pub struct StreamInfoBlock {
-    /// What the file says of its samples.
-    pub info: StreamInfo,
-    /// The MD5 checksum of the samples, or zeros if it is not known.
-    pub md5: [u8; 16],
-}
-
-impl FromBitStream for StreamInfoBlock {
-    type Error = Error;
-
-    ghost becomes = { same_error };
-
-    ghost reads = { λ o. plain_reads (block_entry o) };
-
-    fn from_reader<R: BitRead>(reader: &mut R) -> Result<StreamInfoBlock, Error> {
-        Ok(StreamInfoBlock {
-            info: reader.parse()?,
-            md5: reader.read_to_bytes::<[u8; 16]>()?,
-        })
-    }
-}
-
-impl ToBitStream for StreamInfoBlock {
-    type Error = Error;
-
-    ghost becomes = { same_error };
-
-    ghost writes = { block_writes };
-
-    fn to_writer<W: BitWrite>(&self, writer: &mut W) -> Result<(), Error> {
-        writer.build(&self.info)?;
-        writer.write_bytes(&self.md5)
-    }
-}
+/// What fits its bits is read back as it was written, in either order of bits, wherever it stands.
+/// The read takes the bits that were written, and no more.
+pub fn stream_info_goes_back()
+    ensures { (o : Order) (value : StreamInfo) (at from : ℕ) (more : List Bool) → Fits value
+        → let written = write_run (stream_info_writes o value) at in
+        (stream_info_entry o).reads from (written ++ more) ≡ Takes (length written) (Ok value) }
+{}

@@ -1,17 +1,25 @@
-use Rattle.bitstream_io.proofs.ReadSteps.{few_reads}
+use borrow.Author.Rules.{sfits_of}
+use Rattle.bitstream_io.proofs.ReadSteps.{next_signed_read}
+use Rattle.bitstream_io.proofs.ReadsLemmas.{Reads-chain-ok as next, Reads-gives, exit}
 use Rattle.bitstream_callers.proofs.header.Header.read.Goals as goal
 
-pub returns-in_err-read : goal.returns-in_err-read
-returns-in_err-read g c = search few_reads depth 12
+pub returns-in_err-version : goal.returns-in_err-version
+returns-in_err-version g c = exit _ _ c.from_residual.ensures.1 c.in_err-version.ensures.reads
 
-pub returns-in_err-read_bit : goal.returns-in_err-read_bit
-returns-in_err-read_bit g c = search few_reads depth 12
+pub returns-in_err-acknowledge : goal.returns-in_err-acknowledge
+returns-in_err-acknowledge g c = next _ _ c.in_ok-version.ensures.reads (exit _ _
+    c.from_residual-in_err-acknowledge.ensures.1 c.in_err-acknowledge.ensures.reads)
 
-pub returns-in_err-read-2 : goal.returns-in_err-read-2
-returns-in_err-read-2 g c = search few_reads depth 12
+pub returns-in_err-priority : goal.returns-in_err-priority
+returns-in_err-priority g c = next _ _ c.in_ok-version.ensures.reads (next _ _ c.in_ok-acknowledge.ensures.reads (exit _
+    _ c.from_residual-in_err-priority.ensures.1 c.in_err-priority.ensures.reads))
 
-pub returns-in_err-read-3 : goal.returns-in_err-read-3
-returns-in_err-read-3 g c = search few_reads depth 12
+pub returns-in_err-length : goal.returns-in_err-length
+returns-in_err-length g c = next _ _ c.in_ok-version.ensures.reads (next _ _ c.in_ok-acknowledge.ensures.reads
+    (next_signed_read _ _ _ _ c.in_ok-priority.ensures.reads (search (sfits_of, c.in_ok-priority)) (exit _ _
+    c.from_residual-in_err-length.ensures.1 c.in_err-length.ensures.reads)))
 
 pub returns : goal.returns
-returns g c = search few_reads depth 12
+returns g c = next _ _ c.in_ok-version.ensures.reads (next _ _ c.in_ok-acknowledge.ensures.reads (next_signed_read _ _ _
+    _ c.in_ok-priority.ensures.reads (search (sfits_of, c.in_ok-priority)) (next _ _ c.in_ok-length.ensures.reads
+    (Reads-gives _ _))))

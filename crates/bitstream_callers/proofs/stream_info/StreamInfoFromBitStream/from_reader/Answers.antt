@@ -1,4 +1,4 @@
-use Rattle.bitstream_io.proofs.OwnLemmas.{plainly_read}
+use Rattle.bitstream_io.proofs.CallerLemmas.{plainly_read}
 use Rattle.bitstream_callers.proofs.stream_info.StreamInfoFromBitStream.from_reader.Goals as goal
 
 pub returns : goal.returns

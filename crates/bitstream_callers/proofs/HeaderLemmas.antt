@@ -1,0 +1,29 @@
+-- What was written of a `Header` is read back, and how many bits it takes.
+-- Made by `./format` from formats/header.fields: edit that file and make this one anew.
+use Rattle.bitstream_callers.specs.Header.{header_entry, header_writes, header_size, header_bits, Fits}
+use Rattle.bitstream_callers.specs.declared.header.Header.{Header}
+use Rattle.std.proofs.Common.{◌≡◌, ◌++◌, ◌∷◌, [], length, refl}
+use Rattle.bitstream_io.proofs.CallerLemmas.{GoesBack, Packs, bit-back, signed-back, unsigned-back, gives-back, bit-written, signed-written, unsigned-written, packs-none, packs-more}
+use Rattle.bitstream_io.specs.Callers.{Order, High, align, write_run}
+
+-- what was written is read back
+pub header_goes : (o : Order) (value : Header) → Fits value
+    → GoesBack (header_entry o) (header_writes o value) value
+header_goes o value fits =
+    unsigned-back o 3 _ _ 8 value.version _ refl fits.version (bit-back value.acknowledge _ _ _ (signed-back o 4 _ _ 8
+    value.priority _ refl refl fits.priority (unsigned-back o 16 _ _ 16 value.length _ refl fits.length (gives-back
+    _))))
+
+-- each write is accepted, and so many bits are written
+pub header_packs : (o : Order) (value : Header) → Fits value
+    → Packs (header_writes o value) (header_size o value)
+header_packs o value fits =
+    packs-more (unsigned-written o 8 3 value.version refl fits.version) (packs-more (bit-written value.acknowledge)
+    (packs-more (signed-written o 8 4 value.priority refl refl fits.priority) (packs-more (unsigned-written o 16 16
+    value.length refl fits.length) (packs-none))))
+
+-- the bits, of which a search is to see no part
+pub told : (value : Header)
+    → write_run (header_writes High value ++ align ∷ []) 0 ≡ header_bits value
+unfolding header_bits
+told value = refl
