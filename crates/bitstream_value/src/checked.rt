@@ -80,6 +80,7 @@ pub trait CheckablePrimitive: Checkable {
 }
 
 /// Keeps the value that a call answered with a count that holds it, which the caller proves.
+#[inline(always)]
 fn keep<C: Holds<T> + Copy, T>(count: C, answer: Result<T, Error>) -> Result<Checked<C, T>, Error>
     requires { IfOk answer (C.holds count) }
     ensures { KeptWith count answer result }

@@ -122,22 +122,27 @@ pub trait BitWriteExt: BitWrite {
 }
 
 impl<W: BitWrite> BitWriteExt for W {
+    #[inline(always)]
     fn write<B: Width, I: Integer>(&mut self, value: I) -> Result<(), Error> {
         value.write::<B, W>(self)
     }
 
+    #[inline(always)]
     fn write_var<I: Integer>(&mut self, bits: u32, value: I) -> Result<(), Error> {
         value.write_var(self, BitCount::unknown(bits))
     }
 
+    #[inline(always)]
     fn write_counted<C: Count, I: Integer>(&mut self, bits: C, value: I) -> Result<(), Error> {
         value.write_var(self, bits)
     }
 
+    #[inline(always)]
     fn write_vbr<F: Width, I: VBRInteger>(&mut self, value: I) -> Result<(), Error> {
         value.write_vbr::<F, W>(self)
     }
 
+    #[inline(always)]
     fn write_checked<C: Checkable>(&mut self, value: C) -> Result<(), Error> {
         value.write(self)
     }
@@ -146,10 +151,12 @@ impl<W: BitWrite> BitWriteExt for W {
         code.to_bits(symbol, self)
     }
 
+    #[inline(always)]
     fn build<T: ToBitStream>(&mut self, value: &T) -> Result<(), T::Error> {
         value.to_writer(self)
     }
 
+    #[inline(always)]
     fn build_with<T: ToBitStreamWith>(
         &mut self,
         value: &T,
@@ -158,6 +165,7 @@ impl<W: BitWrite> BitWriteExt for W {
         value.to_writer(self, context)
     }
 
+    #[inline(always)]
     fn build_using<T: ToBitStreamUsing>(
         &mut self,
         value: &T,

@@ -14,11 +14,13 @@ use bitstream_stream::write::BitWrite;
 impl<const MAX: u32, S: SignedInteger> Checkable for CheckedSigned<MAX, S> {
     ghost word = { λ o c. signed_word o c.0 (S.integer c.1) };
 
+    #[inline(always)]
     fn write<W: BitWrite>(&self, writer: &mut W) -> Result<(), Error> {
         let (count, value) = self.into_count_value();
         writer.write_signed_var(count.bits(), value)
     }
 
+    #[inline(always)]
     fn written_bits(&self) -> u32 {
         let (count, _) = self.into_count_value();
         count.bits()
@@ -32,6 +34,7 @@ impl<const MAX: u32, S: SignedInteger> CheckablePrimitive for CheckedSigned<MAX,
 
     ghost reads = { λ o n. signed_checked_entry n o S.BITS_SIZE n };
 
+    #[inline(always)]
     fn read<R: BitRead>(
         reader: &mut R,
         count: SignedBitCount<MAX>,
@@ -43,11 +46,13 @@ impl<const MAX: u32, S: SignedInteger> CheckablePrimitive for CheckedSigned<MAX,
 impl<const BITS: u32, S: SignedInteger> Checkable for CheckedSignedFixed<BITS, S> {
     ghost word = { λ o c. signed_word o BITS (S.integer c.1) };
 
+    #[inline(always)]
     fn write<W: BitWrite>(&self, writer: &mut W) -> Result<(), Error> {
         let (count, value) = self.into_count_value();
         writer.write_signed_var(SignedBitCount::from(count).bits(), value)
     }
 
+    #[inline(always)]
     fn written_bits(&self) -> u32 {
         BITS
     }
@@ -60,6 +65,7 @@ impl<const BITS: u32, S: SignedInteger> CheckablePrimitive for CheckedSignedFixe
 
     ghost reads = { λ o count. signed_checked_entry count o S.BITS_SIZE BITS };
 
+    #[inline(always)]
     fn read<R: BitRead>(
         reader: &mut R,
         count: FixedSignedBitCount<BITS>,

@@ -15,11 +15,13 @@ use bitstream_stream::write::BitWrite;
 impl<const MAX: u32, U: UnsignedInteger> Checkable for CheckedUnsigned<MAX, U> {
     ghost word = { λ o c. word_of o c.0 (U.value c.1) };
 
+    #[inline(always)]
     fn write<W: BitWrite>(&self, writer: &mut W) -> Result<(), Error> {
         let (count, value) = self.into_count_value();
         writer.write_unsigned_counted(count, value)
     }
 
+    #[inline(always)]
     fn written_bits(&self) -> u32 {
         let (count, _) = self.into_count_value();
         count.bits()
@@ -33,6 +35,7 @@ impl<const MAX: u32, U: UnsignedInteger> CheckablePrimitive for CheckedUnsigned<
 
     ghost reads = { λ o n. checked_entry n o U.BITS_SIZE n };
 
+    #[inline(always)]
     fn read<R: BitRead>(
         reader: &mut R,
         count: BitCount<MAX>,
@@ -44,10 +47,12 @@ impl<const MAX: u32, U: UnsignedInteger> CheckablePrimitive for CheckedUnsigned<
 impl<const BITS: u32, U: UnsignedInteger> Checkable for CheckedUnsignedFixed<BITS, U> {
     ghost word = { λ o c. word_of o BITS (U.value c.1) };
 
+    #[inline(always)]
     fn write<W: BitWrite>(&self, writer: &mut W) -> Result<(), Error> {
         writer.write_unsigned_var(BITS, self.into_value())
     }
 
+    #[inline(always)]
     fn written_bits(&self) -> u32 {
         BITS
     }
@@ -60,6 +65,7 @@ impl<const BITS: u32, U: UnsignedInteger> CheckablePrimitive for CheckedUnsigned
 
     ghost reads = { λ o count. checked_entry count o U.BITS_SIZE BITS };
 
+    #[inline(always)]
     fn read<R: BitRead>(
         reader: &mut R,
         count: FixedBitCount<BITS>,

@@ -23,6 +23,7 @@ impl Integer for bool {
         reader.read_bit()
     }
 
+    #[inline(always)]
     fn read_var<C: Count, R: BitRead>(reader: &mut R, bits: C) -> Result<bool, Error> {
         if bits.bits() == 1 {
             reader.read_bit()
@@ -31,10 +32,12 @@ impl Integer for bool {
         }
     }
 
+    #[inline(always)]
     fn write<B: Width, W: BitWrite>(self, writer: &mut W) -> Result<(), Error> {
         writer.write_bit(self)
     }
 
+    #[inline(always)]
     fn write_var<C: Count, W: BitWrite>(self, writer: &mut W, bits: C) -> Result<(), Error> {
         if bits.bits() == 1 {
             writer.write_bit(self)

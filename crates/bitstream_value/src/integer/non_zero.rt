@@ -28,16 +28,19 @@ pub trait NonZeroInteger: Copy {
     ghost after: { ℕ → Self };
 
     /// Returns the value of a number, or `None` for 0.
+    #[inline(always)]
     fn of(base: Self::Base) -> Option<Self>
         ensures { MatchOption result (Self.Base.value base ≡ 0)
             (λ x. number x ≡ Self.Base.value base) };
 
     /// Returns the value of this number plus 1.
+    #[inline(always)]
     fn next(base: Self::Base) -> Self
         requires { Self.Base.value base + 1 < 2 ^ Self.Base.BITS_SIZE }
         ensures { number result ≡ Self.Base.value base + 1 };
 
     /// Returns the number.
+    #[inline(always)]
     fn base(self) -> Self::Base
         ensures value { Self.Base.value result ≡ number self }
         ensures some { 0 < Self.Base.value result };
@@ -48,6 +51,7 @@ pub trait NonZeroInteger: Copy {
 }
 
 /// Reads a `NonZero`, as its number less 1.
+#[inline(always)]
 fn read_non_zero<N: NonZeroInteger, C: Count, R: BitRead>(
     reader: &mut R,
     bits: C,
@@ -66,6 +70,7 @@ fn read_non_zero<N: NonZeroInteger, C: Count, R: BitRead>(
 }
 
 /// Writes a `NonZero`, as its number less 1.
+#[inline(always)]
 fn write_non_zero<N: NonZeroInteger, C: Count, W: BitWrite>(
     value: N,
     writer: &mut W,
@@ -95,6 +100,7 @@ fn read_non_zero_fixed<B: Width, N: NonZeroInteger, R: BitRead>(reader: &mut R) 
 }
 
 /// Writes a `NonZero` in `B::BITS` bits, as its number less 1.
+#[inline(always)]
 fn write_non_zero_fixed<B: Width, N: NonZeroInteger, W: BitWrite>(
     value: N,
     writer: &mut W,
@@ -137,6 +143,7 @@ fn write_non_zero_vbr<F: Width, N: NonZeroInteger, W: BitWrite>(
 }
 
 /// Returns the number of a value, or 0 for `None`.
+#[inline(always)]
 fn base_or_zero<N: NonZeroInteger>(value: Option<N>) -> N::Base
     ensures { N.Base.value result ≡ number_or_zero N.number value }
 {
@@ -160,15 +167,18 @@ impl<N: NonZeroInteger> Integer for Option<N> {
         Ok(N::of(base))
     }
 
+    #[inline(always)]
     fn read_var<C: Count, R: BitRead>(reader: &mut R, bits: C) -> Result<Option<N>, Error> {
         let base = reader.read_unsigned_counted(bits)?;
         Ok(N::of(base))
     }
 
+    #[inline(always)]
     fn write<B: Width, W: BitWrite>(self, writer: &mut W) -> Result<(), Error> {
         write_number_fixed::<B, N::Base, W>(base_or_zero(self), writer)
     }
 
+    #[inline(always)]
     fn write_var<C: Count, W: BitWrite>(self, writer: &mut W, bits: C) -> Result<(), Error> {
         write_number(base_or_zero(self), writer, bits)
     }
@@ -198,14 +208,17 @@ impl NonZeroInteger for NonZero<u8> {
 
     ghost after = { λ n. record { value = n + 1; ok = omega arith } };
 
+    #[inline(always)]
     fn of(base: u8) -> Option<NonZero<u8>> {
         NonZero::<u8>::new(base)
     }
 
+    #[inline(always)]
     fn next(base: u8) -> NonZero<u8> {
         NonZero::<u8>::MIN.saturating_add(base)
     }
 
+    #[inline(always)]
     fn base(self) -> u8 {
         self.get()
     }
@@ -229,14 +242,17 @@ impl Integer for NonZero<u8> {
         read_non_zero_fixed::<B, NonZero<u8>, R>(reader)
     }
 
+    #[inline(always)]
     fn read_var<C: Count, R: BitRead>(reader: &mut R, bits: C) -> Result<NonZero<u8>, Error> {
         read_non_zero(reader, bits)
     }
 
+    #[inline(always)]
     fn write<B: Width, W: BitWrite>(self, writer: &mut W) -> Result<(), Error> {
         write_non_zero_fixed::<B, NonZero<u8>, W>(self, writer)
     }
 
+    #[inline(always)]
     fn write_var<C: Count, W: BitWrite>(self, writer: &mut W, bits: C) -> Result<(), Error> {
         write_non_zero(self, writer, bits)
     }
@@ -266,14 +282,17 @@ impl NonZeroInteger for NonZero<u16> {
 
     ghost after = { λ n. record { value = n + 1; ok = omega arith } };
 
+    #[inline(always)]
     fn of(base: u16) -> Option<NonZero<u16>> {
         NonZero::<u16>::new(base)
     }
 
+    #[inline(always)]
     fn next(base: u16) -> NonZero<u16> {
         NonZero::<u16>::MIN.saturating_add(base)
     }
 
+    #[inline(always)]
     fn base(self) -> u16 {
         self.get()
     }
@@ -297,14 +316,17 @@ impl Integer for NonZero<u16> {
         read_non_zero_fixed::<B, NonZero<u16>, R>(reader)
     }
 
+    #[inline(always)]
     fn read_var<C: Count, R: BitRead>(reader: &mut R, bits: C) -> Result<NonZero<u16>, Error> {
         read_non_zero(reader, bits)
     }
 
+    #[inline(always)]
     fn write<B: Width, W: BitWrite>(self, writer: &mut W) -> Result<(), Error> {
         write_non_zero_fixed::<B, NonZero<u16>, W>(self, writer)
     }
 
+    #[inline(always)]
     fn write_var<C: Count, W: BitWrite>(self, writer: &mut W, bits: C) -> Result<(), Error> {
         write_non_zero(self, writer, bits)
     }
@@ -334,14 +356,17 @@ impl NonZeroInteger for NonZero<u32> {
 
     ghost after = { λ n. record { value = n + 1; ok = omega arith } };
 
+    #[inline(always)]
     fn of(base: u32) -> Option<NonZero<u32>> {
         NonZero::<u32>::new(base)
     }
 
+    #[inline(always)]
     fn next(base: u32) -> NonZero<u32> {
         NonZero::<u32>::MIN.saturating_add(base)
     }
 
+    #[inline(always)]
     fn base(self) -> u32 {
         self.get()
     }
@@ -365,14 +390,17 @@ impl Integer for NonZero<u32> {
         read_non_zero_fixed::<B, NonZero<u32>, R>(reader)
     }
 
+    #[inline(always)]
     fn read_var<C: Count, R: BitRead>(reader: &mut R, bits: C) -> Result<NonZero<u32>, Error> {
         read_non_zero(reader, bits)
     }
 
+    #[inline(always)]
     fn write<B: Width, W: BitWrite>(self, writer: &mut W) -> Result<(), Error> {
         write_non_zero_fixed::<B, NonZero<u32>, W>(self, writer)
     }
 
+    #[inline(always)]
     fn write_var<C: Count, W: BitWrite>(self, writer: &mut W, bits: C) -> Result<(), Error> {
         write_non_zero(self, writer, bits)
     }
@@ -402,14 +430,17 @@ impl NonZeroInteger for NonZero<u64> {
 
     ghost after = { λ n. record { value = n + 1; ok = omega arith } };
 
+    #[inline(always)]
     fn of(base: u64) -> Option<NonZero<u64>> {
         NonZero::<u64>::new(base)
     }
 
+    #[inline(always)]
     fn next(base: u64) -> NonZero<u64> {
         NonZero::<u64>::MIN.saturating_add(base)
     }
 
+    #[inline(always)]
     fn base(self) -> u64 {
         self.get()
     }
@@ -433,14 +464,17 @@ impl Integer for NonZero<u64> {
         read_non_zero_fixed::<B, NonZero<u64>, R>(reader)
     }
 
+    #[inline(always)]
     fn read_var<C: Count, R: BitRead>(reader: &mut R, bits: C) -> Result<NonZero<u64>, Error> {
         read_non_zero(reader, bits)
     }
 
+    #[inline(always)]
     fn write<B: Width, W: BitWrite>(self, writer: &mut W) -> Result<(), Error> {
         write_non_zero_fixed::<B, NonZero<u64>, W>(self, writer)
     }
 
+    #[inline(always)]
     fn write_var<C: Count, W: BitWrite>(self, writer: &mut W, bits: C) -> Result<(), Error> {
         write_non_zero(self, writer, bits)
     }
@@ -470,14 +504,17 @@ impl NonZeroInteger for NonZero<u128> {
 
     ghost after = { λ n. record { value = n + 1; ok = omega arith } };
 
+    #[inline(always)]
     fn of(base: u128) -> Option<NonZero<u128>> {
         NonZero::<u128>::new(base)
     }
 
+    #[inline(always)]
     fn next(base: u128) -> NonZero<u128> {
         NonZero::<u128>::MIN.saturating_add(base)
     }
 
+    #[inline(always)]
     fn base(self) -> u128 {
         self.get()
     }
@@ -501,14 +538,17 @@ impl Integer for NonZero<u128> {
         read_non_zero_fixed::<B, NonZero<u128>, R>(reader)
     }
 
+    #[inline(always)]
     fn read_var<C: Count, R: BitRead>(reader: &mut R, bits: C) -> Result<NonZero<u128>, Error> {
         read_non_zero(reader, bits)
     }
 
+    #[inline(always)]
     fn write<B: Width, W: BitWrite>(self, writer: &mut W) -> Result<(), Error> {
         write_non_zero_fixed::<B, NonZero<u128>, W>(self, writer)
     }
 
+    #[inline(always)]
     fn write_var<C: Count, W: BitWrite>(self, writer: &mut W, bits: C) -> Result<(), Error> {
         write_non_zero(self, writer, bits)
     }

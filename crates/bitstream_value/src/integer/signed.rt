@@ -15,6 +15,7 @@ use bitstream_stream::read::BitRead;
 use bitstream_stream::write::BitWrite;
 
 /// Reads a signed number of the given number of bits, by one call.
+#[inline(always)]
 fn read_signed<S: SignedInteger, C: Count, R: BitRead>(reader: &mut R, bits: C) -> Result<S, Error>
     ensures reads { Reads R.source (signed_entry R.source.order S.BITS_SIZE (C.number bits))
         reader.old (seen S.integer result) reader.new }
@@ -35,6 +36,7 @@ fn read_signed_fixed<B: Width, S: SignedInteger, R: BitRead>(reader: &mut R) -> 
 }
 
 /// Writes a signed number in the given number of bits, by one call.
+#[inline(always)]
 fn write_signed<S: SignedInteger, C: Count, W: BitWrite>(
     number: S,
     writer: &mut W,
@@ -48,6 +50,7 @@ fn write_signed<S: SignedInteger, C: Count, W: BitWrite>(
 }
 
 /// Writes a signed number in `B::BITS` bits, by one call.
+#[inline(always)]
 fn write_signed_fixed<B: Width, S: SignedInteger, W: BitWrite>(
     number: S,
     writer: &mut W,
@@ -87,14 +90,17 @@ impl Integer for i8 {
         read_signed_fixed::<B, i8, R>(reader)
     }
 
+    #[inline(always)]
     fn read_var<C: Count, R: BitRead>(reader: &mut R, bits: C) -> Result<i8, Error> {
         read_signed(reader, bits)
     }
 
+    #[inline(always)]
     fn write<B: Width, W: BitWrite>(self, writer: &mut W) -> Result<(), Error> {
         write_signed_fixed::<B, i8, W>(self, writer)
     }
 
+    #[inline(always)]
     fn write_var<C: Count, W: BitWrite>(self, writer: &mut W, bits: C) -> Result<(), Error> {
         write_signed(self, writer, bits)
     }
@@ -129,14 +135,17 @@ impl Integer for i16 {
         read_signed_fixed::<B, i16, R>(reader)
     }
 
+    #[inline(always)]
     fn read_var<C: Count, R: BitRead>(reader: &mut R, bits: C) -> Result<i16, Error> {
         read_signed(reader, bits)
     }
 
+    #[inline(always)]
     fn write<B: Width, W: BitWrite>(self, writer: &mut W) -> Result<(), Error> {
         write_signed_fixed::<B, i16, W>(self, writer)
     }
 
+    #[inline(always)]
     fn write_var<C: Count, W: BitWrite>(self, writer: &mut W, bits: C) -> Result<(), Error> {
         write_signed(self, writer, bits)
     }
@@ -171,14 +180,17 @@ impl Integer for i32 {
         read_signed_fixed::<B, i32, R>(reader)
     }
 
+    #[inline(always)]
     fn read_var<C: Count, R: BitRead>(reader: &mut R, bits: C) -> Result<i32, Error> {
         read_signed(reader, bits)
     }
 
+    #[inline(always)]
     fn write<B: Width, W: BitWrite>(self, writer: &mut W) -> Result<(), Error> {
         write_signed_fixed::<B, i32, W>(self, writer)
     }
 
+    #[inline(always)]
     fn write_var<C: Count, W: BitWrite>(self, writer: &mut W, bits: C) -> Result<(), Error> {
         write_signed(self, writer, bits)
     }
@@ -213,14 +225,17 @@ impl Integer for i64 {
         read_signed_fixed::<B, i64, R>(reader)
     }
 
+    #[inline(always)]
     fn read_var<C: Count, R: BitRead>(reader: &mut R, bits: C) -> Result<i64, Error> {
         read_signed(reader, bits)
     }
 
+    #[inline(always)]
     fn write<B: Width, W: BitWrite>(self, writer: &mut W) -> Result<(), Error> {
         write_signed_fixed::<B, i64, W>(self, writer)
     }
 
+    #[inline(always)]
     fn write_var<C: Count, W: BitWrite>(self, writer: &mut W, bits: C) -> Result<(), Error> {
         write_signed(self, writer, bits)
     }
@@ -255,14 +270,17 @@ impl Integer for i128 {
         read_signed_fixed::<B, i128, R>(reader)
     }
 
+    #[inline(always)]
     fn read_var<C: Count, R: BitRead>(reader: &mut R, bits: C) -> Result<i128, Error> {
         read_signed(reader, bits)
     }
 
+    #[inline(always)]
     fn write<B: Width, W: BitWrite>(self, writer: &mut W) -> Result<(), Error> {
         write_signed_fixed::<B, i128, W>(self, writer)
     }
 
+    #[inline(always)]
     fn write_var<C: Count, W: BitWrite>(self, writer: &mut W, bits: C) -> Result<(), Error> {
         write_signed(self, writer, bits)
     }

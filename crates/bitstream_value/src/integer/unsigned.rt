@@ -14,6 +14,7 @@ use bitstream_stream::read::BitRead;
 use bitstream_stream::write::BitWrite;
 
 /// Reads a number of the given number of bits, by one call.
+#[inline(always)]
 fn read_number<U: UnsignedInteger, C: Count, R: BitRead>(
     reader: &mut R,
     bits: C,
@@ -36,6 +37,7 @@ fn read_number_fixed<B: Width, U: UnsignedInteger, R: BitRead>(reader: &mut R) -
 }
 
 /// Writes a number in the given number of bits, by one call.
+#[inline(always)]
 pub(crate) fn write_number<U: UnsignedInteger, C: Count, W: BitWrite>(
     number: U,
     writer: &mut W,
@@ -49,6 +51,7 @@ pub(crate) fn write_number<U: UnsignedInteger, C: Count, W: BitWrite>(
 }
 
 /// Writes a number in `B::BITS` bits, by one call.
+#[inline(always)]
 pub(crate) fn write_number_fixed<B: Width, U: UnsignedInteger, W: BitWrite>(
     number: U,
     writer: &mut W,
@@ -87,14 +90,17 @@ impl Integer for u8 {
         read_number_fixed::<B, u8, R>(reader)
     }
 
+    #[inline(always)]
     fn read_var<C: Count, R: BitRead>(reader: &mut R, bits: C) -> Result<u8, Error> {
         read_number(reader, bits)
     }
 
+    #[inline(always)]
     fn write<B: Width, W: BitWrite>(self, writer: &mut W) -> Result<(), Error> {
         write_number_fixed::<B, u8, W>(self, writer)
     }
 
+    #[inline(always)]
     fn write_var<C: Count, W: BitWrite>(self, writer: &mut W, bits: C) -> Result<(), Error> {
         write_number(self, writer, bits)
     }
@@ -129,14 +135,17 @@ impl Integer for u16 {
         read_number_fixed::<B, u16, R>(reader)
     }
 
+    #[inline(always)]
     fn read_var<C: Count, R: BitRead>(reader: &mut R, bits: C) -> Result<u16, Error> {
         read_number(reader, bits)
     }
 
+    #[inline(always)]
     fn write<B: Width, W: BitWrite>(self, writer: &mut W) -> Result<(), Error> {
         write_number_fixed::<B, u16, W>(self, writer)
     }
 
+    #[inline(always)]
     fn write_var<C: Count, W: BitWrite>(self, writer: &mut W, bits: C) -> Result<(), Error> {
         write_number(self, writer, bits)
     }
@@ -171,14 +180,17 @@ impl Integer for u32 {
         read_number_fixed::<B, u32, R>(reader)
     }
 
+    #[inline(always)]
     fn read_var<C: Count, R: BitRead>(reader: &mut R, bits: C) -> Result<u32, Error> {
         read_number(reader, bits)
     }
 
+    #[inline(always)]
     fn write<B: Width, W: BitWrite>(self, writer: &mut W) -> Result<(), Error> {
         write_number_fixed::<B, u32, W>(self, writer)
     }
 
+    #[inline(always)]
     fn write_var<C: Count, W: BitWrite>(self, writer: &mut W, bits: C) -> Result<(), Error> {
         write_number(self, writer, bits)
     }
@@ -213,14 +225,17 @@ impl Integer for u64 {
         read_number_fixed::<B, u64, R>(reader)
     }
 
+    #[inline(always)]
     fn read_var<C: Count, R: BitRead>(reader: &mut R, bits: C) -> Result<u64, Error> {
         read_number(reader, bits)
     }
 
+    #[inline(always)]
     fn write<B: Width, W: BitWrite>(self, writer: &mut W) -> Result<(), Error> {
         write_number_fixed::<B, u64, W>(self, writer)
     }
 
+    #[inline(always)]
     fn write_var<C: Count, W: BitWrite>(self, writer: &mut W, bits: C) -> Result<(), Error> {
         write_number(self, writer, bits)
     }
@@ -255,14 +270,17 @@ impl Integer for u128 {
         read_number_fixed::<B, u128, R>(reader)
     }
 
+    #[inline(always)]
     fn read_var<C: Count, R: BitRead>(reader: &mut R, bits: C) -> Result<u128, Error> {
         read_number(reader, bits)
     }
 
+    #[inline(always)]
     fn write<B: Width, W: BitWrite>(self, writer: &mut W) -> Result<(), Error> {
         write_number_fixed::<B, u128, W>(self, writer)
     }
 
+    #[inline(always)]
     fn write_var<C: Count, W: BitWrite>(self, writer: &mut W, bits: C) -> Result<(), Error> {
         write_number(self, writer, bits)
     }
