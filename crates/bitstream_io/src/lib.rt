@@ -69,6 +69,7 @@ pub mod read {
     pub use bitstream_stream::place::bit_place;
     pub use bitstream_stream::read::BitRead;
     pub use bitstream_stream::reader::BitReader;
+    pub use bitstream_stream::slice_reader::SliceReader;
     pub use bitstream_value::parse::{FromBitStream, FromBitStreamUsing, FromBitStreamWith};
     pub use bitstream_value::read::BitReadExt;
 }
@@ -155,7 +156,7 @@ pub use number::{Bits, Buffer, Numeric, Primitive, SignedInteger, UnsignedIntege
 pub use order::{BE, BigEndian, Endianness, LE, LittleEndian};
 pub use read::{
     BitRead, BitReadExt, BitReader, FromBitStream, FromBitStreamUsing, FromBitStreamWith, Lent,
-    SeekSource, Slice, Source,
+    SeekSource, Slice, SliceReader, Source,
 };
 pub use write::{
     BitCounter, BitRecorder, BitWrite, BitWriteExt, BitWriter, BitsWritten, Growing, Recorder,

@@ -2,8 +2,9 @@
 //!
 //! Each file says in its head what its rows and columns mean, and where the answers come from. Each row
 //! is played over a slice or a vector, over a stream that gives or takes a byte a request, and over
-//! streams that refuse from each of its requests on. What is written is written to a counter and to a
-//! recorder too. Buffers of each length are written and read at each place in a byte.
+//! streams that refuse from each of its requests on. Reads of bits that seek nowhere are played on a
+//! `SliceReader` too, over all bytes and over those cut off at each length. What is written is written to a
+//! counter and to a recorder too. Buffers of each length are written and read at each place in a byte.
 //!
 //! The program fails if a row or a buffer differs, or if a row has a form, a width or a constant that the
 //! player does not know.

@@ -13,6 +13,8 @@ pub enum Difference {
     Answer,
     /// An answer over a `Slice`.
     Sliced,
+    /// An answer, or how many bits were read, of the reader of bytes in memory.
+    InMemory,
     /// An answer over a stream that gives or takes a byte a request.
     Dripped,
     /// An answer, the requests or the bytes over a stream that refuses.
@@ -37,6 +39,7 @@ impl Difference {
             Difference::Unlisted => "has a width or constant that the player does not list",
             Difference::Answer => "differs in an answer",
             Difference::Sliced => "differs over a slice",
+            Difference::InMemory => "differs on the reader of bytes in memory",
             Difference::Dripped => "differs over a stream that drips",
             Difference::Refused => "differs over a stream that refuses",
             Difference::Bytes => "differs in its bytes",

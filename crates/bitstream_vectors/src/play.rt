@@ -10,7 +10,7 @@ use crate::sinks::{Recorder, call_sink, sink_call};
 use crate::whole::{read_whole, write_whole};
 use bitstream_io::{
     BE, BitReader, BitRecorder, BitWrite, BitWriter, BitsWritten, ByteReader, ByteWriter,
-    Endianness, Error, LE, SeekSource, Slice, Source, Target,
+    Endianness, Error, LE, SeekSource, Slice, SliceReader, Source, Target,
 };
 use std::alloc::Global;
 use std::io::{ErrorKind, Read, Seek, SeekFrom};
@@ -40,6 +40,8 @@ pub enum Way {
     Dripped,
     /// It refuses requests from one on.
     Refused(Fault),
+    /// There is none: the library's reader of bytes in memory reads them, up to the call that wants more.
+    Cut(usize),
 }
 
 impl Fault {
@@ -78,6 +80,8 @@ impl Way {
         match self {
             Way::Refused(fault) if at == fault.call => fault.answer(row.kind),
             Way::Refused(fault) if fault.call < at => fault.later_answer(row, call),
+            Way::Cut(last) if at == last => "EndOfInput",
+            Way::Cut(last) if last < at => call.answer_of_failed(row.kind),
             _ => call.answer,
         }
     }
@@ -89,6 +93,7 @@ impl Way {
             Way::Slice => Difference::Sliced,
             Way::Dripped => Difference::Dripped,
             Way::Refused(_) => Difference::Refused,
+            Way::Cut(_) => Difference::InMemory,
         }
     }
 }
@@ -131,6 +136,12 @@ fn target(whence: Whence, value: &str) -> Result<SeekFrom, Objection> {
         Whence::Start => Ok(SeekFrom::Start(number(value)?)),
         Whence::End => Ok(SeekFrom::End(number(value)?)),
         Whence::Current => Ok(SeekFrom::Current(number(value)?)),
+    }
+}
+
+impl<E: Endianness> Stage for SliceReader<'_, E> {
+    fn call(&mut self, alloc: Global, call: &Call<'_>, want: &str) -> Result<bool, Objection> {
+        read_call(alloc, self, call, want)
     }
 }
 
@@ -220,6 +231,32 @@ fn read_bytes<E: Endianness + Drop>(
         refused,
         bytes: memory.position(),
     })
+}
+
+/// Makes the read calls of a row on bytes in memory, of which `last` is the first that wants more bits. Gives
+/// how many bits were read.
+fn read_memory<E: Endianness>(
+    alloc: Global,
+    row: &Row<'_>,
+    bytes: &[u8],
+    last: usize,
+) -> Result<u64, Objection> {
+    let mut reader = SliceReader::<E>::over(bytes);
+    make_calls(alloc, &mut reader, row, &row.calls, Way::Cut(last))?;
+    Ok(reader.bits_read())
+}
+
+/// Makes the read calls of a row on bytes in memory, in the row's order.
+pub fn play_memory(
+    alloc: Global,
+    row: &Row<'_>,
+    bytes: &[u8],
+    last: usize,
+) -> Result<u64, Objection> {
+    match row.order {
+        Order::Big => read_memory::<BE>(alloc, row, bytes, last),
+        Order::Little => read_memory::<LE>(alloc, row, bytes, last),
+    }
 }
 
 /// Makes write calls on a counter and on a recorder. Objects where these do not hold the bits that a

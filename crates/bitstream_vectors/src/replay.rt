@@ -2,7 +2,7 @@
 use crate::call::Call;
 use crate::counts::play_count;
 use crate::objection::{Difference, Objection, agrees};
-use crate::play::{Fault, Moved, Way, play};
+use crate::play::{Fault, Moved, Way, play, play_memory};
 use crate::records::play_record;
 use crate::row::{Kind, Layer, Order, Row};
 use std::alloc::Global;
@@ -55,13 +55,16 @@ fn play_row(
     }
 }
 
-/// Plays a row as it is, over a stream that drips, over a `Slice`, and over streams that refuse from
-/// each of its requests on.
+/// Plays a row as it is, over a stream that drips, over a `Slice`, over streams that refuse from each of
+/// its requests on, and on the reader of bytes in memory.
 fn play_stream(alloc: Global, row: &Row<'_>) -> Result<(), Objection> {
     let steps = steps_of(alloc, row)?;
     play_whole(alloc, row, Way::Plain)?;
     if row.kind == Kind::Read && !row.begins_elsewhere() {
         play_whole(alloc, row, Way::Slice)?;
+    }
+    if row.kind == Kind::Read && row.layer == Layer::Bits && !row.has_places() {
+        cut_each(alloc, row, &steps)?;
     }
     play_whole(alloc, row, Way::Dripped)?;
     refuse_each(alloc, row, &steps)
@@ -149,6 +152,24 @@ fn bit_at(row: &Row<'_>, at: usize) -> &'static str {
         "1"
     } else {
         "0"
+    }
+}
+
+/// Plays a row on the reader of bytes in memory, over bytes that are cut off at each length, and then over
+/// all of them.
+fn cut_each(alloc: Global, row: &Row<'_>, steps: &[Moved]) -> Result<(), Objection> {
+    for len in 0..row.bytes.len() {
+        let last = steps
+            .iter()
+            .skip(1)
+            .take_while(|step| step.bytes <= len)
+            .count();
+        play_memory(alloc, row, &row.bytes[..len], last)?;
+    }
+    let read = play_memory(alloc, row, &row.bytes, row.calls.len())?;
+    match row.after.place {
+        Some(place) => agrees(read == place as u64, Difference::InMemory),
+        None => Ok(()),
     }
 }
 

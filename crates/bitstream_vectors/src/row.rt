@@ -97,6 +97,11 @@ impl<'a> Row<'a> {
             .is_some_and(|call| matches!(call.form, Form::Cursor))
     }
 
+    /// Whether a call of it asks for its place, or goes to one.
+    pub fn has_places(&self) -> bool {
+        self.calls.iter().any(|call| call.seeks() > 0 || matches!(call.form, Form::Cursor))
+    }
+
     /// Whether a call of it seeks, or its stream begins elsewhere than at its first byte.
     pub fn seeks(&self) -> bool {
         self.calls

@@ -5,7 +5,7 @@ use crate::form::{ByteOrder, Form, Number, Size};
 use crate::objection::Objection;
 use bitstream_io::{
     BE, BitRead, BitReader, BitWrite, ByteRead, ByteReader, ByteWrite, ByteWriter, Endianness,
-    Error, LE, Primitive, Source, Target,
+    Error, LE, Primitive, SliceReader, Source, Target,
 };
 use std::alloc::Global;
 use std::num::ParseIntError;
@@ -26,13 +26,36 @@ pub trait WholeRead {
     fn pass(&mut self, count: u32) -> Result<(), Error>;
 }
 
+/// Reads a primitive by a reader of bits.
+fn primitive_of<V: Primitive, R: BitRead>(reader: &mut R, order: ByteOrder) -> Result<V, Error> {
+    match order {
+        ByteOrder::Own => reader.read_to::<V>(),
+        ByteOrder::Big => reader.read_as_to::<BE, V>(),
+        ByteOrder::Little => reader.read_as_to::<LE, V>(),
+    }
+}
+
 impl<R: Source, E: Endianness> WholeRead for BitReader<R, E> {
     fn primitive<V: Primitive>(&mut self, order: ByteOrder) -> Result<V, Error> {
-        match order {
-            ByteOrder::Own => self.read_to::<V>(),
-            ByteOrder::Big => self.read_as_to::<BE, V>(),
-            ByteOrder::Little => self.read_as_to::<LE, V>(),
-        }
+        primitive_of(self, order)
+    }
+
+    fn fill(&mut self, buf: &mut [u8]) -> Result<(), Error> {
+        self.read_bytes(buf)
+    }
+
+    fn vector(&mut self, alloc: Global, bytes: u32) -> Result<Vec<u8>, Error> {
+        self.read_to_vec(alloc, bytes as usize)
+    }
+
+    fn pass(&mut self, count: u32) -> Result<(), Error> {
+        self.skip(count)
+    }
+}
+
+impl<E: Endianness> WholeRead for SliceReader<'_, E> {
+    fn primitive<V: Primitive>(&mut self, order: ByteOrder) -> Result<V, Error> {
+        primitive_of(self, order)
     }
 
     fn fill(&mut self, buf: &mut [u8]) -> Result<(), Error> {
