@@ -5,6 +5,8 @@ pub mod Header
 pub mod PacketHeader
 pub mod PaddedPort
 pub mod PrimaryHeader
+pub mod ParameterSet
+pub mod Parameters
 pub mod Reading
 pub mod Samples
 pub mod Sensor
@@ -12,3 +14,5 @@ pub mod Sps
 pub mod StreamInfo
 pub mod StreamInfoBlock
 pub mod Telemetry
+pub mod VorbisComment
+pub mod VorbisTexts

@@ -2,7 +2,7 @@
 -- stated here is what an answer tells, and what goes with constants, branches, errors of a caller's own, items in a loop,
 -- numbers that are computed, and what goes back by parts.
 use borrow.Author.Rules.{sfits_of}
-use Rattle.std.proofs.Common.{ℤ, SFits, to_z, of_z, suc, Continue, Break, get_or, ◌*◌, ◌%◌, ◌≤◌, ◌==◌, Bool, true, false, length, take, drop, Option, None, Result, Err, subst, add-one, pow-suc}
+use Rattle.std.proofs.Common.{◌⊎◌, ℤ, SFits, to_z, of_z, suc, Continue, Break, get_or, ◌*◌, ◌%◌, ◌≤◌, ◌==◌, Bool, true, false, length, take, drop, Option, None, Result, Err, subst, add-one, pow-suc}
 use Rattle.std.specs.Option.{ForSome}
 use Rattle.std.specs.Prelude.{All, IfOk, is_some, nat_le, nat_lt, flat_map, map, if◌then◌else◌}
 use Rattle.std.specs.Int.{Width}
@@ -17,7 +17,7 @@ use Rattle.std.proofs.lemmas.Nat.{leading_top}
 use Rattle.std.specs.Result.{IsErrAnd, result_from_control_flow}
 use Rattle.std.specs.declared.ops.ControlFlow.{ControlFlow}
 use Rattle.bitstream_count.specs.declared.error.Error.{Error}
-use Rattle.bitstream_count.specs.declared.error.Error.TheVariants.{EndOfInput, Failed}
+use Rattle.bitstream_count.specs.declared.error.Error.TheVariants.{EndOfInput, Failed, OutOfMemory}
 use Rattle.bitstream_count.specs.Entry.{ReadEntry, WriteEntry, Takes, chain, gives, refuses}
 use Rattle.bitstream_number.specs.Word.{FitsSignedBits, bytes_of, word}
 use Rattle.bitstream_number.proofs.WordLemmas.{length-bits}
@@ -34,9 +34,11 @@ use Rattle.bitstream_stream.proofs.SliceLemmas.{new_answer}
 use Rattle.bitstream_stream.proofs.TableLemmas.{unsigned-on_failed}
 use Rattle.bitstream_stream.proofs.WriteParts.{all_none, all_append, all_err, all_one, all_stop, one_of_all, flat_map-take, flat_map-split}
 use Rattle.bitstream_value.specs.Array.{items_entry, words}
+use Rattle.bitstream_value.specs.Grows.{GrowsOwn}
 use Rattle.bitstream_value.specs.Own.{OwnAnswer, ReadsOwn, WritesOwn, part_then, same_error}
 use Rattle.bitstream_value.proofs.ArrayLemmas.{items-start, items-stop as items-ended}
 use Rattle.bitstream_value.proofs.CheckedLemmas.{signed-holds, signed-on_failed}
+use Rattle.bitstream_value.proofs.GrowsLemmas.{own_grown-answer}
 use Rattle.bitstream_value.proofs.OwnSteps.{then_own_signed, then_own_call, then_own_write, then_own_signed_call, then_own_signed_write, own_written}
 use Rattle.bitstream_value.proofs.ReadSteps.{next-finds, width_of}
 use Rattle.bitstream_value.proofs.SureLemmas.{items-word, word_short}
@@ -57,6 +59,9 @@ pub use Rattle.bitstream_stream.proofs.RoomLemmas.{calls_with_room, align_with_r
 -- a number that a read of n bits answered is below 2^n
 pub use Rattle.bitstream_stream.proofs.SignedLemmas.{unsigned-below as below}
 pub use Rattle.bitstream_value.proofs.BackLemmas.{GoesBack, goes_back, bit-back, gives-back, signed-back, unsigned-back}
+-- parts of which it is not known whether they ask for memory
+pub use Rattle.bitstream_value.proofs.GenericLemmas.{weaker, part_go_if, part_stop_if, end_if}
+pub use Rattle.bitstream_value.proofs.GrowsLemmas.{few_growing_reads, growth-here, grown, if_grown, own_refused, go_grown, stop_grown, then_grown_read, end_grown_read, then_growing, end_growing, part_go, part_stop, then_growing_part, end_growing_part, then_grown_part, end_grown_part, grown_end, grown_is, grow_plainly, items-refused, parts-begin, parts-push, parts-stop, parts-refused}
 pub use Rattle.bitstream_value.proofs.LengthSteps.{in_both_orders, lengths}
 pub use Rattle.bitstream_value.proofs.OwnLemmas.{is_error, plainly_read, plainly_written, read_plainly, written_plainly}
 pub use Rattle.bitstream_value.proofs.OwnSteps.{few_own_reads, few_own_writes, own_end, if_own, else_own}
@@ -508,6 +513,18 @@ own_answered {becomes = becomes} {r = r} {xs = xs} {references = references} end
     let plain =
     new_answer ends xs references (new ∙ ap (λ z. new_reader_state z references) told) h.called in
     subst (λ z. OwnAnswer becomes (λ y. y) z r) plain h.answer
+
+-- and of a type that asks for memory: that, or memory was refused
+pub own_grown_answered : {R A E : Type 0} {K : BitSource R} {becomes : Error → E → Type 0}
+    {e : ReadEntry (Result A E)} {r : Result A E} {s t : R} {xs : List ℕ} {known : Option (List ℕ)}
+    {references : List Reference} → TrueEnds K.may → K.state s ≡ new_reader_state known references → known ≡ Some xs
+    → GrowsOwn K becomes e s r t → OwnAnswer becomes (λ y. y) (sure_answer (e.reads 0 (bits K.order xs))) r
+    ⊎ IsErrAnd r (becomes OutOfMemory)
+own_grown_answered {K = K} {becomes = becomes} {e = e} {r = r} {s = s} {t = t} {xs = xs} ends new told h =
+    let front = ap (λ (z : ReaderState). e.reads z.taken (z.queue ++ bits K.order xs)) new in
+    let found = own_grown-answer {s = s} {t = t} ends xs (ap (λ (z : ReaderState). z.failed) new)
+    (ap (λ (z : ReaderState). z.bytes) new ∙ told) h in
+    subst (λ z. OwnAnswer becomes (λ y. y) (sure_answer z) r ⊎ IsErrAnd r (becomes OutOfMemory)) front found
 
 -- if the front is known
 module _ {R A : Type 0} {K : BitSource R} {s t : R} {n : ℕ} {xs : List ℕ} {known : Option (List ℕ)}

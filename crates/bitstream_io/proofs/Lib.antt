@@ -32,8 +32,12 @@ pub use Rattle.bitstream_stream.proofs.WriteLemmas
 pub use Rattle.bitstream_stream.proofs.WriteParts
 pub use Rattle.bitstream_stream.proofs.WriterLemmas
 pub use Rattle.bitstream_value.proofs.BackLemmas
+pub use Rattle.bitstream_value.proofs.ByteBackLemmas
+pub use Rattle.bitstream_value.proofs.ByteGrowsLemmas
 pub use Rattle.bitstream_value.proofs.ByteSteps
 pub use Rattle.bitstream_value.proofs.ByteTypeLemmas
+pub use Rattle.bitstream_value.proofs.GenericLemmas
+pub use Rattle.bitstream_value.proofs.GrowsLemmas
 pub use Rattle.bitstream_value.proofs.LengthLemmas
 pub use Rattle.bitstream_value.proofs.LengthSteps
 pub use Rattle.bitstream_value.proofs.OwnLemmas

@@ -51,9 +51,11 @@ pub use Rattle.bitstream_sink.specs.Counter
 pub use Rattle.bitstream_sink.specs.Counting
 pub use Rattle.bitstream_sink.specs.GrowingWriter
 pub use Rattle.bitstream_sink.specs.Recorder
+pub use Rattle.bitstream_value.specs.ByteGrows
 pub use Rattle.bitstream_value.specs.ByteSteps
 pub use Rattle.bitstream_value.specs.ByteTypes
 pub use Rattle.bitstream_value.specs.Checked
+pub use Rattle.bitstream_value.specs.Grows
 pub use Rattle.bitstream_value.specs.HuffmanTree
 pub use Rattle.bitstream_value.specs.Array
 pub use Rattle.bitstream_value.specs.Lengths

@@ -12,7 +12,7 @@ items-none : {A : Type 0} (e : ReadEntry A) → items_entry e 0 ≡ gives []
 unfolding items_entry
 items-none e = refl
 
-items-suc : {A : Type 0} (e : ReadEntry A) (n : ℕ) → items_entry e (suc n)
+pub items-suc : {A : Type 0} (e : ReadEntry A) (n : ℕ) → items_entry e (suc n)
     ≡ chain (items_entry e n) (λ xs. chain e (λ x. gives (xs ++ x ∷ [])))
 unfolding items_entry
 items-suc e n = refl

@@ -13,7 +13,7 @@ use Rattle.bitstream_number.specs.Word.{Order, High, Low, bits, bytes, number}
 use Rattle.bitstream_number.proofs.WordLemmas.{bits-bytes, number-word}
 use Rattle.bitstream_order.specs.Gather.{seen}
 use Rattle.bitstream_order.specs.Parts.{value_bytes}
-use Rattle.bitstream_stream.specs.ByteReads.{ByteSource, ByteReadEntry, BytesTaken, ByteReads, was_done, was_refused, memory_refused, given_bytes}
+use Rattle.bitstream_stream.specs.ByteReads.{ByteSource, ByteReadEntry, BytesTaken, ByteReadOutcome, ByteReads, was_done, was_refused, memory_refused, given_bytes}
 use Rattle.bitstream_stream.proofs.ByteReadsLemmas.{bytes_none, bytes_more, bytes_taken, bytes_took}
 use Rattle.bitstream_stream.proofs.ReadsLemmas.{Consumes-known}
 use Rattle.bitstream_value.specs.ByteSteps.{number_bytes}
@@ -22,7 +22,7 @@ use Rattle.bitstream_value.specs.ByteTypes.{byte_chain, byte_gives, ByteReadsOwn
 -- ---- fronts of two reads
 
 module _ {A B : Type 0} (e : ByteReadEntry A) (f : A → ByteReadEntry B) where
-  chain-ok : (u v : List ℕ) (a : A) (x : Front B) → e (u ++ v) ≡ Takes (length u) (Ok a) → f a v ≡ x
+  pub chain-ok : (u v : List ℕ) (a : A) (x : Front B) → e (u ++ v) ≡ Takes (length u) (Ok a) → f a v ≡ x
       → byte_chain e f (u ++ v) ≡ longer (length u) x
   unfolding byte_chain
   chain-ok u v a x first second = rw first (ap (longer (length u)) (ap (f a) (drop-append_seam u v) ∙ second))
@@ -31,7 +31,7 @@ module _ {A B : Type 0} (e : ByteReadEntry A) (f : A → ByteReadEntry B) where
   unfolding byte_chain
   chain-err w n x h = rw h refl
 
-  chain-none : (w : List ℕ) → e w ≡ TooFew → byte_chain e f w ≡ TooFew
+  pub chain-none : (w : List ℕ) → e w ≡ TooFew → byte_chain e f w ≡ TooFew
   unfolding byte_chain
   chain-none w h = rw h refl
 
@@ -48,22 +48,34 @@ cut (c ∷ u) v (d ∷ front) b back e =
       | inr p ↦ inr (p.0, ap (λ x. x ∷ front) (sym head) ∙ ap (λ l. c ∷ l) p.1, p.2)
     ]
 
-none_needed : (front : List ℕ) (b : ℕ) (back : List ℕ) → [] ≡ front ++ b ∷ back → ⊥
+pub none_needed : (front : List ℕ) (b : ℕ) (back : List ℕ) → [] ≡ front ++ b ∷ back → ⊥
 none_needed [] b back e = cc
 none_needed (c ∷ front) b back e = cc
 
+-- a beginning of the bytes of two reads, one behind the other, is too short for both
+module _ {A B : Type 0} (e : ByteReadEntry A) (f : A → ByteReadEntry B) where
+  pub chain-needs : (u v : List ℕ) (a : A) → ((more : List ℕ) → e (u ++ more) ≡ Takes (length u) (Ok a))
+      → ((front : List ℕ) (b : ℕ) (back : List ℕ) → u ≡ front ++ b ∷ back → e front ≡ TooFew)
+      → ((front : List ℕ) (b : ℕ) (back : List ℕ) → v ≡ front ++ b ∷ back → f a front ≡ TooFew)
+      → (front : List ℕ) (b : ℕ) (back : List ℕ) → u ++ v ≡ front ++ b ∷ back → byte_chain e f front ≡ TooFew
+  chain-needs u v a decides first second front b back is = elim (cut u v front b back is) [
+    | inl p ↦ chain-none e f front (first front b p.0 p.1)
+    | inr p ↦ subst (λ w. byte_chain e f w ≡ TooFew) (sym p.1)
+        (chain-ok e f u p.0 a TooFew (decides p.0) (second p.0 b back p.2))
+  ]
+
 -- ---- reads one after another
 
-both_taken : {R : Type 0} (K : ByteSource R) (x y : List ℕ) (s t u : R) → BytesTaken (K.state s) x (K.state t)
+pub both_taken : {R : Type 0} (K : ByteSource R) (x y : List ℕ) (s t u : R) → BytesTaken (K.state s) x (K.state t)
     → BytesTaken (K.state t) y (K.state u) → BytesTaken (K.state s) (x ++ y) (K.state u)
 both_taken K x y s t u h k =
     let first = bytes_taken {K = K} {grows = false} (length x) x s t refl h in
     let second = bytes_taken {K = K} {grows = false} (length y) y t u refl k in
     (bytes_took (length x + length y) (x ++ y) s u (bytes_more (length x) (length y) x y s t u first second)).0
 
-module _ {R A B : Type 0} {K : ByteSource R} (e : ByteReadEntry A) (f : A → ByteReadEntry B) where
-  pub chain_reads : {a : A} {r : Result B Error} {s t z : R} → ByteReads K e s (Ok a) t → ByteReads K (f a) t r z
-      → ByteReads K (byte_chain e f) s r z
+module _ {R A B : Type 0} {K : ByteSource R} {grows : Bool} (e : ByteReadEntry A) (f : A → ByteReadEntry B) where
+  pub chain_reads : {a : A} {r : Result B Error} {s t z : R} → ByteReadOutcome K grows e s (Ok a) t
+      → ByteReadOutcome K grows (f a) t r z → ByteReadOutcome K grows (byte_chain e f) s r z
   chain_reads {a = a} {r = r} {s = s} {t = t} {z = z} (was_done h) (was_done k) =
       let u = h.bytes in
       let v = k.bytes in
@@ -71,11 +83,7 @@ module _ {R A B : Type 0} {K : ByteSource R} (e : ByteReadEntry A) (f : A → By
         bytes = u ++ v;
         decides = λ more. rw (append_assoc u v more, length-append u v)
             (chain-ok e f u (v ++ more) a (Takes (length v) r) (h.decides (v ++ more)) (k.decides more));
-        needs = λ front b back is. elim (cut u v front b back is) [
-          | inl p ↦ chain-none e f front (h.needs front b p.0 p.1)
-          | inr p ↦ subst (λ w. byte_chain e f w ≡ TooFew) (sym p.1)
-              (chain-ok e f u p.0 a TooFew (h.decides p.0) (k.needs p.0 b back p.2))
-        ];
+        needs = chain-needs e f u v a h.decides h.needs k.needs;
         took = both_taken K u v s t z h.took k.took;
       })
   chain_reads {a = a} {s = s} {t = t} (was_done h) (was_refused k) =
@@ -97,11 +105,18 @@ module _ {R A B : Type 0} {K : ByteSource R} (e : ByteReadEntry A) (f : A → By
         refusals = k.refusals ∙ ap (λ l. k.refusal ∷ l) took.refusals;
         references = k.references ∙ took.references;
       })
-  chain_reads (was_done h) (memory_refused g k) = cc
+  chain_reads {a = a} {s = s} {t = t} {z = z} (was_done h) (memory_refused g k) =
+      memory_refused g (record {
+        answer = k.answer;
+        bytes = h.bytes ++ k.bytes;
+        few = chain-ok e f h.bytes k.bytes a TooFew (h.decides k.bytes) k.few;
+        took = both_taken K h.bytes k.bytes s t z h.took k.took;
+      })
   chain_reads (was_refused h) k = let p = h.answer in cc
-  chain_reads (memory_refused g h) k = cc
+  chain_reads (memory_refused g h) k = let p = h.answer in cc
 
-  pub chain_stops : {x : Error} {s t : R} → ByteReads K e s (Err x) t → ByteReads K (byte_chain e f) s (Err x) t
+  pub chain_stops : {x : Error} {s t : R} → ByteReadOutcome K grows e s (Err x) t
+      → ByteReadOutcome K grows (byte_chain e f) s (Err x) t
   chain_stops {x = x} (was_done h) = was_done (record {
     bytes = h.bytes;
     decides = λ more. chain-err e f (h.bytes ++ more) (length h.bytes) x (h.decides more);
@@ -121,10 +136,16 @@ module _ {R A B : Type 0} {K : ByteSource R} (e : ByteReadEntry A) (f : A → By
     refusals = h.refusals;
     references = h.references;
   })
-  chain_stops (memory_refused g h) = cc
+  chain_stops {x = x} (memory_refused g h) = memory_refused g (record {
+    answer = let p = h.answer in cc;
+    bytes = h.bytes;
+    few = chain-none e f h.bytes h.few;
+    took = h.took;
+  })
 
 -- no read at all
-pub nothing_read : {R A : Type 0} {K : ByteSource R} (a : A) (s : R) → ByteReads K (byte_gives a) s (Ok a) s
+pub nothing_read : {R A : Type 0} {K : ByteSource R} {grows : Bool} (a : A) (s : R)
+    → ByteReadOutcome K grows (byte_gives a) s (Ok a) s
 nothing_read {K = K} a s = was_done (record {
   bytes = [];
   decides = λ more. refl;
@@ -135,11 +156,11 @@ nothing_read {K = K} a s = was_done (record {
 -- ---- numbers
 
 -- the n bytes of a number in an order, as `read` answers it
-abbrev bytes_in : Order → ℕ → ℕ → List ℕ
+abbrev pub bytes_in : Order → ℕ → ℕ → List ℕ
 bytes_in o n = value_bytes o (λ (x : ℕ). bytes High n x) (λ (x : ℕ). bytes Low n x)
 
 -- they have it as their number
-number-bytes : (o : Order) (n v : ℕ) → v < 2 ^ (8 * n) → number o (bits o (bytes_in o n v)) ≡ v
+pub number-bytes : (o : Order) (n v : ℕ) → v < 2 ^ (8 * n) → number o (bits o (bytes_in o n v)) ≡ v
 number-bytes High n v fits = ap (number High) (bits-bytes High n v) ∙ number-word High (8 * n) v ∙ mod-eq_of_lt fits
 number-bytes Low n v fits = ap (number Low) (bits-bytes Low n v) ∙ number-word Low (8 * n) v ∙ mod-eq_of_lt fits
 

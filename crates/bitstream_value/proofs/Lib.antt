@@ -18,3 +18,7 @@ pub mod OwnSteps
 pub mod ByteSteps
 pub mod LengthSteps
 pub mod FitsLemmas
+pub mod GrowsLemmas
+pub mod GenericLemmas
+pub mod ByteGrowsLemmas
+pub mod ByteBackLemmas

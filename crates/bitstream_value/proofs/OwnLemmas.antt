@@ -3,7 +3,7 @@ use Rattle.std.proofs.Common.{◌≡◌, ℕ, ◌+◌, Bool, true, false, List, 
 use Rattle.std.specs.Result.{IsErrAnd}
 use Rattle.bitstream_count.specs.declared.error.Error.{Error}
 use Rattle.bitstream_count.specs.Entry.{Front, TooFew, Takes, ReadEntry, WriteEntry, chain, front_then, result_then}
-use Rattle.bitstream_stream.specs.Reads.{BitSource, Reads, ReadsConst, ConstAnswer, is_run_too_long, had_failed, was_done, was_refused, memory_refused}
+use Rattle.bitstream_stream.specs.Reads.{BitSource, Reads, ReadOutcome, ReadsConst, ConstAnswer, is_run_too_long, had_failed, was_done, was_refused, memory_refused}
 use Rattle.bitstream_stream.specs.Sink.{Sink, WritesAll}
 use Rattle.bitstream_stream.proofs.ReadsLemmas.{Reads-chain-ok, Reads-chain-err, Reads-gives, Reads-behind, Begun-nil}
 use Rattle.bitstream_value.specs.Own.{OwnAnswer, ReadsOwn, WritesOwn, same_error, plain_reads, must_hold}
@@ -67,7 +67,7 @@ written_plainly K es r s t h = written_by K es r s t h.plain h.called h.answer
 -- ---- reads that have no error but the reader's are such reads
 
 -- the answer without the type's own errors, of which there are none
-abbrev joined : {A : Type 0} → Result (Result A Error) Error → Result A Error
+abbrev pub joined : {A : Type 0} → Result (Result A Error) Error → Result A Error
 joined (Ok answer) = answer
 joined (Err x) = Err x
 
@@ -79,7 +79,7 @@ front_taken (Takes m (Ok a)) n r h = let here : m ≡ m + 0 = omega arith in let
 front_taken (Takes m (Err x)) n r h = let size : m ≡ n = cc in let same : Err x ≡ r = cc in
     ap (λ k. Takes k (Err x)) size ∙ ap (λ (y : Result _ Error). Takes n (joined y)) same
 
-front_short : {A : Type 0} (f : Front A) → front_then {B = Result A Error} f (λ m a. Takes 0 (Ok (Ok a))) ≡ TooFew → f
+pub front_short : {A : Type 0} (f : Front A) → front_then {B = Result A Error} f (λ m a. Takes 0 (Ok (Ok a))) ≡ TooFew → f
     ≡ TooFew
 front_short TooFew h = refl
 front_short (Takes m (Ok a)) h = cc
@@ -100,20 +100,20 @@ failed_never : {A : Type 0} (z : Result A Error) (y : Error) → Ok (Err y)
 failed_never (Ok a) y h = cc
 failed_never (Err x) y h = cc
 
-none_needed : (front : List Bool) (b : Bool) (back : List Bool) → [] ≡ front ++ b ∷ back → ⊥
+pub none_needed : (front : List Bool) (b : Bool) (back : List Bool) → [] ≡ front ++ b ∷ back → ⊥
 none_needed [] b back e = cc
 none_needed (c ∷ front) b back e = cc
 
 module _ {R A : Type 0} (K : BitSource R) (e : ReadEntry A) (s t : R) where
-  never : (y : Error) → Reads K (plain_reads {E = Error} e) s (Ok (Err y)) t → ⊥
+  pub never_own : {grows : Bool} (y : Error) → ReadOutcome K grows (plain_reads {E = Error} e) s (Ok (Err y)) t → ⊥
   unfolding chain
-  never y (had_failed h) = failed_never e.on_failed y h.answer
-  never y (was_done h) = front_never (e.reads (K.state s).taken (h.word ++ [])) (length h.word) y (h.decides [])
-  never y (was_refused h) = let p = h.answer in cc
-  never y (memory_refused g h) = let p = h.answer in cc
+  never_own y (had_failed h) = failed_never e.on_failed y h.answer
+  never_own y (was_done h) = front_never (e.reads (K.state s).taken (h.word ++ [])) (length h.word) y (h.decides [])
+  never_own y (was_refused h) = let p = h.answer in cc
+  never_own y (memory_refused g h) = let p = h.answer in cc
 
-  read_by : (plain : Result (Result A Error) Error) → is_run_too_long (joined plain) ≡ is_run_too_long plain
-      → Reads K (plain_reads e) s plain t → Reads K e s (joined plain) t
+  pub read_by : {grows : Bool} (plain : Result (Result A Error) Error) → is_run_too_long (joined plain)
+      ≡ is_run_too_long plain → ReadOutcome K grows (plain_reads e) s plain t → ReadOutcome K grows e s (joined plain) t
   unfolding chain
   read_by plain long h =
       Reads-behind e (plain_reads e) [] (joined plain) plain s s t (Begun-nil K s)
@@ -128,7 +128,7 @@ module _ {R A : Type 0} (K : BitSource R) (e : ReadEntry A) (s t : R) where
   read_of : (plain : Result (Result A Error) Error) (r : Result A Error) → Reads K (plain_reads e) s plain t
       → OwnAnswer same_error (λ x. x) plain r → Reads K e s r t
   read_of (Ok (Ok a)) r h is = subst (λ x. Reads K e s x t) (sym is) (read_by (Ok (Ok a)) refl h)
-  read_of (Ok (Err y)) r h is = absurd (never y h)
+  read_of (Ok (Err y)) r h is = absurd (never_own y h)
   read_of (Err x) r h is = subst (λ y. Reads K e s y t) (sym (is_error r x is)) (read_by (Err x) refl h)
 
   -- reads of a type that has no error but the reader's are such reads

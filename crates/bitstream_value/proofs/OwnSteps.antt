@@ -56,7 +56,7 @@ module _ {R B E : Type 0} {K : BitSource R} {becomes : Error → E → Type 0} (
       k)
 
 -- a part that has the same errors of its own
-part_stops : {R A B E : Type 0} {K : BitSource R} {becomes : Error → E → Type 0} {e : ReadEntry (Result A E)} (f : A
+pub part_stops : {R A B E : Type 0} {K : BitSource R} {becomes : Error → E → Type 0} {e : ReadEntry (Result A E)} (f : A
     → ReadEntry (Result B E)) {r : Result B E} {s t : R} (error : E) (plain : Result (Result A E) Error)
     → r ≡ Err error → Reads K e s plain t → OwnAnswer becomes (λ x. x) plain (Err error)
     → ReadsOwn K becomes (chain e (part_then f)) s r t

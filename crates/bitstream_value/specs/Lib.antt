@@ -11,3 +11,5 @@ pub mod Lengths
 pub mod Own
 pub mod ByteSteps
 pub mod ByteTypes
+pub mod Grows
+pub mod ByteGrows

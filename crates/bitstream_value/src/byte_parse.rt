@@ -1,9 +1,9 @@
 //! Types whose values are read from bytes.
-ghost use Rattle.std.specs.Prelude.{Result};
+ghost use Rattle.std.specs.Prelude.{Bool, false, Result};
 ghost use Rattle.bitstream_count.specs.declared.error.Error.{Error};
 ghost use Rattle.bitstream_number.specs.Word.{Order};
 ghost use Rattle.bitstream_stream.specs.ByteReads.{ByteReadEntry};
-ghost use Rattle.bitstream_value.specs.ByteTypes.{ByteReadsOwn};
+ghost use Rattle.bitstream_value.specs.ByteGrows.{ByteOwnReads};
 
 use bitstream_stream::byte_read::ByteRead;
 
@@ -12,6 +12,9 @@ use bitstream_stream::byte_read::ByteRead;
 pub trait FromByteStream: Sized {
     /// The type of the errors of a read.
     type Error;
+
+    // Whether a read asks for memory of its own.
+    ghost grows: { Bool } = { false };
 
     // What an error of the reader becomes.
     ghost becomes: { Error → Self.Error → Type 0 };
@@ -26,7 +29,7 @@ pub trait FromByteStream: Sized {
     /// Those of the reader, as they become errors of the type, and the type's own. The parts before
     /// the one that is refused stay read.
     fn from_reader<R: ByteRead>(reader: &mut R) -> Result<Self, Self::Error>
-        ensures reads { ByteReadsOwn R.source becomes (reads R.source.order)
+        ensures reads { ByteOwnReads grows R.source becomes (reads R.source.order)
             reader.old result reader.new };
 }
 
@@ -38,6 +41,9 @@ pub trait FromByteStreamWith: Sized {
 
     /// The type of the errors of a read.
     type Error;
+
+    // Whether a read asks for memory of its own.
+    ghost grows: { Bool } = { false };
 
     // What an error of the reader becomes.
     ghost becomes: { Error → Self.Error → Type 0 };
@@ -54,7 +60,7 @@ pub trait FromByteStreamWith: Sized {
         reader: &mut R,
         context: &Self::Context,
     ) -> Result<Self, Self::Error>
-        ensures reads { ByteReadsOwn R.source becomes (reads R.source.order context.now)
+        ensures reads { ByteOwnReads grows R.source becomes (reads R.source.order context.now)
             reader.old result reader.new };
 }
 
@@ -66,6 +72,9 @@ pub trait FromByteStreamUsing: Sized {
 
     /// The type of the errors of a read.
     type Error;
+
+    // Whether a read asks for memory of its own.
+    ghost grows: { Bool } = { false };
 
     // What an error of the reader becomes.
     ghost becomes: { Error → Self.Error → Type 0 };
@@ -79,6 +88,6 @@ pub trait FromByteStreamUsing: Sized {
     ///
     /// As [`FromByteStream::from_reader`].
     fn from_reader<R: ByteRead>(reader: &mut R, context: Self::Context) -> Result<Self, Self::Error>
-        ensures reads { ByteReadsOwn R.source becomes (reads R.source.order context)
+        ensures reads { ByteOwnReads grows R.source becomes (reads R.source.order context)
             reader.old result reader.new };
 }

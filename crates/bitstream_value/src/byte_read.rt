@@ -1,5 +1,5 @@
 //! Calls that read values of users' types from bytes.
-ghost use Rattle.bitstream_value.specs.ByteTypes.{ByteReadsOwn};
+ghost use Rattle.bitstream_value.specs.ByteGrows.{ByteOwnReads};
 
 use crate::byte_parse::{FromByteStream, FromByteStreamUsing, FromByteStreamWith};
 use bitstream_stream::byte_read::ByteRead;
@@ -12,7 +12,7 @@ pub trait ByteReadExt: ByteRead {
     ///
     /// As [`FromByteStream::from_reader`].
     fn parse<F: FromByteStream>(&mut self) -> Result<F, F::Error>
-        ensures reads { ByteReadsOwn Self.source F.becomes (F.reads Self.source.order)
+        ensures reads { ByteOwnReads F.grows Self.source F.becomes (F.reads Self.source.order)
             self.old result self.new };
 
     /// Reads a value of such a type, with a context that is lent.
@@ -21,7 +21,7 @@ pub trait ByteReadExt: ByteRead {
     ///
     /// As [`FromByteStreamWith::from_reader`].
     fn parse_with<F: FromByteStreamWith>(&mut self, context: &F::Context) -> Result<F, F::Error>
-        ensures reads { ByteReadsOwn Self.source F.becomes
+        ensures reads { ByteOwnReads F.grows Self.source F.becomes
             (F.reads Self.source.order context.now) self.old result self.new };
 
     /// Reads a value of such a type, with a context that is used up.
@@ -30,7 +30,7 @@ pub trait ByteReadExt: ByteRead {
     ///
     /// As [`FromByteStreamUsing::from_reader`].
     fn parse_using<F: FromByteStreamUsing>(&mut self, context: F::Context) -> Result<F, F::Error>
-        ensures reads { ByteReadsOwn Self.source F.becomes (F.reads Self.source.order context)
+        ensures reads { ByteOwnReads F.grows Self.source F.becomes (F.reads Self.source.order context)
             self.old result self.new };
 }
 

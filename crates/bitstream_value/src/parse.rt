@@ -1,9 +1,9 @@
 //! Types whose values are read from bits.
-ghost use Rattle.std.specs.Prelude.{Result};
+ghost use Rattle.std.specs.Prelude.{Bool, false, Result};
 ghost use Rattle.bitstream_count.specs.declared.error.Error.{Error};
 ghost use Rattle.bitstream_count.specs.Entry.{ReadEntry};
 ghost use Rattle.bitstream_number.specs.Word.{Order};
-ghost use Rattle.bitstream_value.specs.Own.{ReadsOwn};
+ghost use Rattle.bitstream_value.specs.Grows.{OwnReads};
 
 use bitstream_stream::read::BitRead;
 
@@ -12,6 +12,9 @@ use bitstream_stream::read::BitRead;
 pub trait FromBitStream: Sized {
     /// The type of the errors of a read.
     type Error;
+
+    // Whether a read asks for memory of its own.
+    ghost grows: { Bool } = { false };
 
     // What an error of the reader becomes.
     ghost becomes: { Error → Self.Error → Type 0 };
@@ -26,7 +29,7 @@ pub trait FromBitStream: Sized {
     /// Those of the reader, as they become errors of the type, and the type's own. The parts before
     /// the one that is refused stay read.
     fn from_reader<R: BitRead>(reader: &mut R) -> Result<Self, Self::Error>
-        ensures reads { ReadsOwn R.source becomes (reads R.source.order)
+        ensures reads { OwnReads grows R.source becomes (reads R.source.order)
             reader.old result reader.new };
 }
 
@@ -38,6 +41,9 @@ pub trait FromBitStreamWith: Sized {
 
     /// The type of the errors of a read.
     type Error;
+
+    // Whether a read asks for memory of its own.
+    ghost grows: { Bool } = { false };
 
     // What an error of the reader becomes.
     ghost becomes: { Error → Self.Error → Type 0 };
@@ -51,7 +57,7 @@ pub trait FromBitStreamWith: Sized {
     ///
     /// As [`FromBitStream::from_reader`].
     fn from_reader<R: BitRead>(reader: &mut R, context: &Self::Context) -> Result<Self, Self::Error>
-        ensures reads { ReadsOwn R.source becomes (reads R.source.order context.now)
+        ensures reads { OwnReads grows R.source becomes (reads R.source.order context.now)
             reader.old result reader.new };
 }
 
@@ -63,6 +69,9 @@ pub trait FromBitStreamUsing: Sized {
 
     /// The type of the errors of a read.
     type Error;
+
+    // Whether a read asks for memory of its own.
+    ghost grows: { Bool } = { false };
 
     // What an error of the reader becomes.
     ghost becomes: { Error → Self.Error → Type 0 };
@@ -76,6 +85,6 @@ pub trait FromBitStreamUsing: Sized {
     ///
     /// As [`FromBitStream::from_reader`].
     fn from_reader<R: BitRead>(reader: &mut R, context: Self::Context) -> Result<Self, Self::Error>
-        ensures reads { ReadsOwn R.source becomes (reads R.source.order context)
+        ensures reads { OwnReads grows R.source becomes (reads R.source.order context)
             reader.old result reader.new };
 }

@@ -2,7 +2,7 @@
 ghost use Rattle.std.specs.Prelude.{IfOk};
 ghost use Rattle.bitstream_order.specs.Gather.{seen};
 ghost use Rattle.bitstream_stream.specs.Reads.{Reads};
-ghost use Rattle.bitstream_value.specs.Own.{ReadsOwn};
+ghost use Rattle.bitstream_value.specs.Grows.{OwnReads};
 
 use crate::checked::CheckablePrimitive;
 use crate::huffman::FromBits;
@@ -94,7 +94,7 @@ pub trait BitReadExt: BitRead {
     ///
     /// As [`FromBitStream::from_reader`].
     fn parse<F: FromBitStream>(&mut self) -> Result<F, F::Error>
-        ensures reads { ReadsOwn Self.source F.becomes (F.reads Self.source.order)
+        ensures reads { OwnReads F.grows Self.source F.becomes (F.reads Self.source.order)
             self.old result self.new };
 
     /// Reads a value of such a type, with a context that is lent.
@@ -103,7 +103,7 @@ pub trait BitReadExt: BitRead {
     ///
     /// As [`FromBitStreamWith::from_reader`].
     fn parse_with<F: FromBitStreamWith>(&mut self, context: &F::Context) -> Result<F, F::Error>
-        ensures reads { ReadsOwn Self.source F.becomes (F.reads Self.source.order context.now)
+        ensures reads { OwnReads F.grows Self.source F.becomes (F.reads Self.source.order context.now)
             self.old result self.new };
 
     /// Reads a value of such a type, with a context that is used up.
@@ -112,7 +112,7 @@ pub trait BitReadExt: BitRead {
     ///
     /// As [`FromBitStreamUsing::from_reader`].
     fn parse_using<F: FromBitStreamUsing>(&mut self, context: F::Context) -> Result<F, F::Error>
-        ensures reads { ReadsOwn Self.source F.becomes (F.reads Self.source.order context)
+        ensures reads { OwnReads F.grows Self.source F.becomes (F.reads Self.source.order context)
             self.old result self.new };
 }
 

@@ -3,7 +3,7 @@ ghost use Rattle.std.specs.Prelude.{◌≡◌, ◌%◌, ◌≤◌, ◌↔◌, tr
 ghost use Rattle.bitstream_order.specs.Parts.{value_bytes};
 ghost use Rattle.bitstream_order.specs.Gather.{seen};
 ghost use Rattle.bitstream_stream.specs.Reads.{BitSource, Reads, ReadsGrowing};
-ghost use Rattle.bitstream_value.specs.Own.{ReadsOwn};
+ghost use Rattle.bitstream_value.specs.Grows.{OwnReads};
 ghost use Rattle.bitstream_stream.specs.ReadTable.{bit_entry, signed_entry, unary_entry, bytes_entry, skip_entry, align_entry};
 
 use bitstream_count::error::Error;
@@ -116,12 +116,12 @@ pub trait BitRead2 {
 
     /// Reads a value of a type that says how it is read, as [`BitReadExt::parse`].
     fn parse<F: FromBitStream>(&mut self) -> Result<F, F::Error>
-        ensures reads { ReadsOwn source F.becomes (F.reads source.order)
+        ensures reads { OwnReads F.grows source F.becomes (F.reads source.order)
             self.old result self.new };
 
     /// Reads a value of such a type, with a context that is lent, as [`BitReadExt::parse_with`].
     fn parse_with<F: FromBitStreamWith>(&mut self, context: &F::Context) -> Result<F, F::Error>
-        ensures reads { ReadsOwn source F.becomes (F.reads source.order context.now)
+        ensures reads { OwnReads F.grows source F.becomes (F.reads source.order context.now)
             self.old result self.new };
 }
 

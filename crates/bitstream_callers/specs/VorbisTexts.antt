@@ -1,0 +1,7 @@
+-- What a Vorbis comment says, as the bytes of its texts.
+use Rattle.std.specs.Prelude.{ℕ, List}
+
+-- the text that names the program that wrote the file, and the texts that say something of it
+pub record Comment : Type 0 where
+  pub vendor : List ℕ
+  pub comments : List (List ℕ)
