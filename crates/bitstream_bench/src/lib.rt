@@ -31,6 +31,8 @@ mod older;
 #[cfg(test)]
 mod own;
 #[cfg(test)]
+mod owners;
+#[cfg(test)]
 mod program;
 #[cfg(test)]
 mod program_rows;
