@@ -4,7 +4,8 @@ use Rattle.std.specs.Borrow.{GName}
 use Rattle.bitstream_io.specs.Reference.{Reference, by_name}
 use Rattle.std.specs.Io.KnownBytes.{Consumes}
 use Rattle.std.specs.declared.io.ErrorKind.{ErrorKind}
-use Rattle.std.proofs.Common.{◌≡◌, ℕ, ◌+◌, List, [], ◌∷◌, ◌++◌, length, Option, Some, Result, Ok, Err, refl, sym, ap, ◌∙◌, ◌⊎◌, subst, arith, append_assoc, inl, inr}
+use Rattle.std.proofs.Common.{◌≡◌, ℕ, ◌+◌, List, [], ◌∷◌, ◌++◌, length, drop, Option, Some, Result, Ok, Err, refl, sym, ap, ap₂, ◌∙◌, ◌⊎◌, subst, arith, append_assoc, length-append, inl, inr}
+use Rattle.std.proofs.Math.Seq.{drop-append_seam}
 use Rattle.bitstream_io.specs.Word.{Order, bits}
 use Rattle.bitstream_io.specs.Gather.{seen}
 use Rattle.bitstream_io.specs.Fault.{read_refusal_of}
@@ -42,6 +43,15 @@ told_whatever : {A : Type 0} (o : Order) (f : List Bool → A) (gone : List ℕ)
 told_whatever o f gone w rest a parts says more = ap (λ (b : List Bool). f (b ++ more)) parts
     ∙ ap f (append_assoc w rest more) ∙ says (rest ++ more)
 
+-- the bits of these behind the first of two parts of the word
+behind_head : (o : Order) (gone : List ℕ) (w head tail rest : List Bool) (at : ℕ) → [] ++ bits o gone ≡ w ++ rest
+    → w ≡ head ++ tail → at ≡ 0 + length head → drop at (bits o gone) ≡ tail ++ rest
+behind_head o gone w head tail rest at held cut place =
+    let first : at ≡ length head = omega arith in
+    ap₂ (λ (n : ℕ) (b : List Bool). drop n b) first
+    (held ∙ ap (λ (b : List Bool). b ++ rest) cut ∙ append_assoc head tail rest)
+    ∙ drop-append_seam head (tail ++ rest)
+
 -- the values and faults of a new reader's calls, by the bytes of its stream
 abbrev pub FieldsKnown : FieldCalls → (Refusal → Type 0) → Order → List Field → Option (List ℕ)
     → Result (List FieldValue) Fault → Option (List ℕ) → Type 0
@@ -61,12 +71,29 @@ module _ (calls : FieldCalls) (may allowed : Refusal → Type 0) (o : Order) (fi
     says = told_whatever o (says_by calls o 1 fields 0) h.took.gone h.word t.queue (Unpacks vs t.taken) h.took.parts
         h.says;
   }
-  FieldsKnown-from known references (Err f) t is demands (inl h) = inl (record {
-    gone = h.gone;
-    len = t.taken;
-    taken = bytes_taken known references (length h.word) h.gone t demands h.loses h.fetched h.taken;
-    says = told_whatever o (says_by calls o 1 fields 0) h.gone h.word h.rest (Stops f) h.parts h.says;
-  })
+  FieldsKnown-from known references (Err f) t is demands (inl h) =
+      let size : t.taken ≡ h.at + length h.tail =
+      omega (arith, h.taken, h.place, ap length h.cut, length-append h.head h.tail) in
+      inl (record {
+        front = h.front;
+        here = h.here;
+        back = h.back;
+        parts = h.parts;
+        why = h.why;
+        reason = h.reason;
+        gone = h.gone;
+        values = h.values;
+        at = h.at;
+        before = told_by o (says_by calls o 1 h.front 0) h.gone h.word h.rest (Unpacks h.values h.at) h.held h.before;
+        len = length h.tail;
+        answer = h.answer;
+        found = ap ((calls o h.here).reads h.at) (behind_head o h.gone h.word h.head h.tail h.rest h.at h.held h.cut h.place)
+            ∙ h.found h.rest;
+        tells = h.tells;
+        taken = subst (λ (n : ℕ). TakesLeastBytes known h.gone n t.bytes) size
+            (bytes_taken known references (length h.word) h.gone t demands h.loses h.fetched h.taken);
+        says = told_whatever o (says_by calls o 1 fields 0) h.gone h.word h.rest (Stops f) h.held h.says;
+      })
   FieldsKnown-from known references (Err f) t is demands (inr (inl (inl h))) = inr (inl (inl (record {
     front = h.front;
     here = h.here;

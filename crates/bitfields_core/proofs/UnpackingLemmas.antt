@@ -8,7 +8,7 @@ use Rattle.std.specs.Io.KnownBytes.{Consumes}
 use Rattle.bitstream_io.specs.Word.{Order, bits}
 use Rattle.bitstream_io.proofs.WordLemmas.{bits-append}
 use Rattle.bitstream_io.specs.Error.{Error}
-use Rattle.bitstream_io.specs.Entry.{ReadEntry}
+use Rattle.bitstream_io.specs.Entry.{ReadEntry, Takes}
 use Rattle.bitstream_io.specs.Fault.{read_refusal_of}
 use Rattle.bitstream_io.specs.Refusal.{Refusal, IsTrueEnd}
 use Rattle.bitstream_io.specs.Own.{OwnAnswer}
@@ -20,7 +20,7 @@ use Rattle.bitfields_core.specs.declared.fault.Reason.TheVariants.{BitsEnded, Ou
 use Rattle.bitfields_core.specs.declared.field.Field.{Field}
 use Rattle.bitfields_core.specs.declared.field_value.FieldValue.{FieldValue}
 use Rattle.bitfields_core.specs.Fault.{fault}
-use Rattle.bitfields_core.specs.Unpacking.{FieldCalls, Unpacked, Unpacks, asks_memory, Stops, says_by, values_and, field_read, read_reason, behind, IsReadReason, ReadsField, ReadsFields, ReadsLines}
+use Rattle.bitfields_core.specs.Unpacking.{FieldCalls, Unpacked, Unpacks, asks_memory, Stops, says_by, values_and, TellsReason, field_read, read_reason, behind, IsReadReason, ReadsField, ReadsFields, ReadsLines}
 use Rattle.bitfields_core.specs.Value.{printed_line, printed_lines, value_list}
 use Rattle.bitfields_core.proofs.FieldCalls.{says-first, says-told, says-refused, says-short}
 
@@ -187,17 +187,33 @@ module _ (calls : FieldCalls) where
     pub took : Took o old word new
     pub says : (more : List Bool) → says_by calls o k fields old.taken (word ++ more) ≡ Unpacks vs new.taken
 
-  -- a call answered an error, and this word was taken until then
+  -- the calls of the first fields answered, the next one told a reason, and this word was taken until then
   pub record ToldFields (o : Order) (k : ℕ) (fields : List Field) (old : ReaderState) (f : Fault) (new : ReaderState) :
       Type 0 where
+    pub front : List Field
+    pub here : Field
+    pub back : List Field
+    pub parts : fields ≡ front ++ here ∷ back
+    pub why : Reason
+    pub reason : f ≡ fault (k + length front) why
     pub word : List Bool
+    pub head : List Bool
+    pub tail : List Bool
+    pub cut : word ≡ head ++ tail
     pub gone : List ℕ
     pub loses : Consumes old.bytes new.bytes gone
     pub rest : List Bool
-    pub parts : old.queue ++ bits o gone ≡ word ++ rest
+    pub held : old.queue ++ bits o gone ≡ word ++ rest
     pub fetched : new.fetched ≡ old.fetched + length gone
     pub taken : new.taken ≡ old.taken + length word
     pub references : new.references ≡ old.references
+    pub values : List FieldValue
+    pub at : ℕ
+    pub place : at ≡ old.taken + length head
+    pub before : (more : List Bool) → says_by calls o k front old.taken (word ++ more) ≡ Unpacks values at
+    pub answer : Result (Result (Option FieldValue) Reason) Error
+    pub found : (more : List Bool) → (calls o here).reads at (tail ++ more) ≡ Takes (length tail) answer
+    pub tells : TellsReason answer why
     pub says : (more : List Bool) → says_by calls o k fields old.taken (word ++ more) ≡ Stops f
 
   -- the calls of the first fields answered, and no memory was left for the line of the last of them
@@ -289,16 +305,33 @@ module _ (calls : FieldCalls) where
       (s t z : ReaderState) → ReadDone o (calls o f) s (Ok (Ok v)) t → ToldFields o (k + 1) fs t why z
       → ToldFields o k (f ∷ fs) s why z
   ToldFields-later o k f fs v why s t z h x =
+      let number : k + 1 + length x.front ≡ k + length (f ∷ x.front) = omega arith in
       record {
+        front = f ∷ x.front;
+        here = x.here;
+        back = x.back;
+        parts = ap (λ (gs : List Field). f ∷ gs) x.parts;
+        why = x.why;
+        reason = x.reason ∙ ap (λ (n : ℕ). fault n x.why) number;
         word = h.word ++ x.word;
+        head = h.word ++ x.head;
+        tail = x.tail;
+        cut = ap (λ (w : List Bool). h.word ++ w) x.cut ∙ sym (append_assoc h.word x.head x.tail);
         gone = h.gone ++ x.gone;
         loses = Consumes-trans s.bytes t.bytes z.bytes h.gone x.gone h.loses x.loses;
         rest = x.rest;
-        parts = held_parts o s.queue t.queue h.word h.gone x.gone (first_parts o (calls o f) (Ok v) s t h)
-            ∙ ap (λ (w : List Bool). h.word ++ w) x.parts ∙ sym (append_assoc h.word x.word x.rest);
+        held = held_parts o s.queue t.queue h.word h.gone x.gone (first_parts o (calls o f) (Ok v) s t h)
+            ∙ ap (λ (w : List Bool). h.word ++ w) x.held ∙ sym (append_assoc h.word x.word x.rest);
         fetched = omega (arith, h.fetched, x.fetched, length-append h.gone x.gone);
         taken = omega (arith, h.taken, x.taken, length-append h.word x.word);
         references = x.references ∙ h.references;
+        values = value_list v ++ x.values;
+        at = x.at;
+        place = omega (arith, h.taken, x.place, length-append h.word x.head);
+        before = word_then o k f x.front v s t h x.word (Unpacks x.values x.at) x.before;
+        answer = x.answer;
+        found = x.found;
+        tells = x.tells;
         says = word_then o k f fs v s t h x.word (Stops why) x.says;
       }
 
@@ -387,20 +420,38 @@ module _ (calls : FieldCalls) where
 
   -- a field answered a fault, which its bits say
   ToldFields-here : (o : Order) (k : ℕ) (f : Field) (fs : List Field) (r : Result (Result (Option FieldValue)
-      Reason) Error) (why : Fault) (s t : ReaderState) (h : ReadDone o (calls o f) s r t)
-      → ((more : List Bool) → says_by calls o k (f ∷ fs) s.taken (h.word ++ more) ≡ Stops why)
-      → ToldFields o k (f ∷ fs) s why t
-  ToldFields-here o k f fs r why s t h says = record {
-    word = h.word;
-    gone = h.gone;
-    loses = h.loses;
-    rest = h.rest;
-    parts = h.parts;
-    fetched = h.fetched;
-    taken = h.taken;
-    references = h.references;
-    says = says;
-  }
+      Reason) Error) (why : Reason) (s t : ReaderState) → TellsReason r why → (h : ReadDone o (calls o f) s r t)
+      → ((more : List Bool) → says_by calls o k (f ∷ fs) s.taken (h.word ++ more) ≡ Stops (fault k why))
+      → ToldFields o k (f ∷ fs) s (fault k why) t
+  ToldFields-here o k f fs r why s t tells h says =
+      let number : k ≡ k + 0 = omega arith in
+      record {
+        front = [];
+        here = f;
+        back = fs;
+        parts = refl;
+        why = why;
+        reason = ap (λ (n : ℕ). fault n why) number;
+        word = h.word;
+        head = [];
+        tail = h.word;
+        cut = refl;
+        gone = h.gone;
+        loses = h.loses;
+        rest = h.rest;
+        held = h.parts;
+        fetched = h.fetched;
+        taken = h.taken;
+        references = h.references;
+        values = [];
+        at = s.taken;
+        place = omega arith;
+        before = λ more. refl;
+        answer = r;
+        found = h.decides;
+        tells = tells;
+        says = says;
+      }
 
   -- a field's call faulted
   UnpackingRefusedFields-here : (o : Order) (may : Refusal → Type 0) (k : ℕ) (f : Field) (fs : List Field)
@@ -479,7 +530,7 @@ module _ (calls : FieldCalls) where
       → ComesTo K.order K.may k (f ∷ fs) (K.state old) (Err (fault k (read_reason e))) (K.state new)
   refused_here K k f fs e old new fine (had_failed x) = absurd (let failed = x.failed in cc)
   refused_here K k f fs e old new fine (was_done x) =
-      inl (ToldFields-here K.order k f fs (Err e) (fault k (read_reason e)) (K.state old) (K.state new) x
+      inl (ToldFields-here K.order k f fs (Err e) (read_reason e) (K.state old) (K.state new) refl x
       (λ more. says-refused calls K.order k f fs (K.state old).taken (length x.word) (x.word ++ more) e
       (x.decides more)))
   refused_here K k f fs e old new fine (was_refused x) =
@@ -491,7 +542,7 @@ module _ (calls : FieldCalls) where
       → ComesTo K.order K.may k (f ∷ fs) (K.state old) (Err (fault k why)) (K.state new)
   told_here K k f fs why old new fine (had_failed x) = absurd (let failed = x.failed in cc)
   told_here K k f fs why old new fine (was_done x) =
-      inl (ToldFields-here K.order k f fs (Ok (Err why)) (fault k why) (K.state old) (K.state new) x
+      inl (ToldFields-here K.order k f fs (Ok (Err why)) why (K.state old) (K.state new) refl x
       (λ more. says-told calls K.order k f fs (K.state old).taken (length x.word) (x.word ++ more) why
       (x.decides more)))
   told_here K k f fs why old new fine (was_refused x) = absurd (let a = x.answer in cc)

@@ -1,16 +1,16 @@
 -- Unpacking: the values that bits hold for fields.
-use Rattle.std.specs.Prelude.{◌≡◌, ◌⊎◌, ◌<◌, ◌≤◌, ◌*◌, ◌^◌, Result, Ok, Err, Option, Some, None, ℕ, ◌+◌, ◌==◌, if◌then◌else◌, Bool, true, false, List, [], ◌∷◌, ◌++◌, length, map}
+use Rattle.std.specs.Prelude.{◌≡◌, ◌⊎◌, ◌<◌, ◌≤◌, ◌*◌, ◌^◌, Result, Ok, Err, Option, Some, None, ℕ, ◌+◌, ◌==◌, if◌then◌else◌, Bool, true, false, List, [], ◌∷◌, ◌++◌, length, drop, map}
 use Rattle.std.specs.Io.KnownBytes.{Consumes}
 use Rattle.bitstream_io.specs.Word.{Order, bits}
 use Rattle.bitstream_io.specs.Error.{Error}
 use Rattle.bitstream_io.specs.Error.TheVariants as errors
-use Rattle.bitstream_io.specs.Entry.{ReadEntry, chain, gives}
+use Rattle.bitstream_io.specs.Entry.{ReadEntry, Takes, chain, gives}
 use Rattle.bitstream_io.specs.ReadTable.{unsigned_entry, signed_entry, unary_entry, vbr_entry, any_vbr_entry, signed_vbr_entry, bytes_entry, skip_entry, align_entry}
 use Rattle.bitstream_io.specs.Run.{read_run}
 use Rattle.bitstream_io.specs.Fault.{read_refusal_of}
 use Rattle.bitstream_io.specs.Refusal.{Refusal, IsTrueEnd}
 use Rattle.bitstream_io.specs.Reads.{BitSource}
-use Rattle.bitstream_io.specs.Own.{ReadsOwn}
+use Rattle.bitstream_io.specs.Own.{OwnAnswer, ReadsOwn}
 use Rattle.bitfields_core.specs.declared.fault.Reason.{Reason}
 use Rattle.bitfields_core.specs.declared.fault.Reason.TheVariants.{BitsEnded, ConstantDiffers, LimitPassed, StreamFault, OutOfMemory}
 use Rattle.bitfields_core.specs.declared.fault.Fault.{Fault}
@@ -125,6 +125,10 @@ abbrev pub MemoryRefused : {R : Type 0} → FieldCalls → BitSource R → ℕ �
 MemoryRefused calls K k field old result new =
     LineRefused calls K k field old result new ⊎ BufferRefused k field old result new
 
+-- a field's read call answers this reason, or an error for which it is the reason
+abbrev pub TellsReason : Result (Result (Option FieldValue) Reason) Error → Reason → Type 0
+TellsReason answer why = OwnAnswer IsReadReason (λ a. a) answer (Err why)
+
 -- a field's read call answered a reason
 pub record AnswersReason {R : Type 0} (calls : FieldCalls) (K : BitSource R) (k : ℕ) (field : Field) (old : R)
     (result : Result (List FieldValue) Fault) (new : R) : Type 0 where
@@ -181,12 +185,25 @@ pub record UnpackedBytes (o : Order) (fields : List Field) (old : Option (List �
   pub says : (more : List Bool) → unpacked o 1 fields 0 (bits o gone ++ more) ≡ Unpacks values len
   pub prints : text ≡ printed_lines values
 
--- The bytes taken say the fault.
+-- The bytes taken say the fault. They hold the bits of the fields before, and those that the read call of its own field
+-- takes to tell its reason, and no more.
 pub record ToldBytes (calls : FieldCalls) (o : Order) (fields : List Field) (old : Option (List ℕ)) (f : Fault)
     (new : Option (List ℕ)) : Type 0 where
+  pub front : List Field
+  pub here : Field
+  pub back : List Field
+  pub parts : fields ≡ front ++ here ∷ back
+  pub why : Reason
+  pub reason : f ≡ fault (1 + length front) why
   pub gone : List ℕ
+  pub values : List FieldValue
+  pub at : ℕ
+  pub before : says_by calls o 1 front 0 (bits o gone) ≡ Unpacks values at
   pub len : ℕ
-  pub taken : TakesLeastBytes old gone len new
+  pub answer : Result (Result (Option FieldValue) Reason) Error
+  pub found : (calls o here).reads at (drop at (bits o gone)) ≡ Takes len answer
+  pub tells : TellsReason answer why
+  pub taken : TakesLeastBytes old gone (at + len) new
   pub says : (more : List Bool) → says_by calls o 1 fields 0 (bits o gone ++ more) ≡ Stops f
 
 -- Memory for the value of a field, or for its line, was refused. The bytes taken hold that field's bits and those of

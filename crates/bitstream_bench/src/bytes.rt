@@ -2,9 +2,10 @@
 //! `bitstream_vectors`.
 use crate::asserts::{are, each_holds, ended, gives, holds, same};
 use bitstream_io::{
-    BE, BigEndian, BitRead, BitReader, BitWrite, BitWriter, ByteRead, ByteWrite, LE, Slice,
-    SliceMut, Source, Target,
+    BE, BigEndian, BitRead, BitReader, BitWrite, BitWriter, ByteRead, ByteWrite, LE, SeekSource,
+    Slice, SliceMut, Source, Target,
 };
+use std::io::SeekFrom;
 
 const D: [u8; 4] = [0xb1, 0xed, 0x3b, 0xc1];
 
@@ -45,6 +46,25 @@ fn lends_the_stream_of_a_reader(rt: HostRuntime) {
     let end = ended(reader.read_bit());
     holds(&rt, end & reader.reader().is_none());
     same(&rt, reader.into_reader().len(), 0);
+}
+
+/// Whether a reader that took 12 bits, and one that met the end, go back to the start.
+fn goes_back<R: SeekSource>(reader: &mut BitReader<R, BE>, bits: u32) -> [bool; 7] {
+    [
+        gives(reader.read_unsigned_var(bits), 0xb1e_u16),
+        gives(reader.position_in_bits(), 12),
+        gives(reader.seek_bits(SeekFrom::Start(0)), 0),
+        gives(reader.read_unsigned_var(bits), 0xb1e_u16),
+        ended(reader.read_unsigned_var::<u32>(32)),
+        gives(reader.seek_bits(SeekFrom::Start(0)), 0),
+        gives(reader.read_unsigned_var(bits), 0xb1e_u16),
+    ]
+}
+
+/// The width of the words is known only as the program runs.
+#[test]
+fn seeks_in_memory(rt: HostRuntime) {
+    each_holds(&rt, &goes_back(&mut BitReader::over(&D), 12));
 }
 
 /// Takes a writer by value.

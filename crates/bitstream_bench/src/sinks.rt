@@ -62,6 +62,17 @@ fn ample_memory_is_never_refused(rt: HostRuntime) {
     each_holds(&rt, &take(rt.alloc()));
 }
 
+/// A recorder with a capacity asks for memory once: it takes as many bytes, and no more if its memory
+/// refuses to grow.
+#[test]
+fn capacities_are_kept(rt: HostRuntime) {
+    let recorder = Refused::with_capacity(RefuseMemory::new(rt.alloc(), 1), 4096);
+    let mut recorder = recorder.expect(&rt, "memory is left");
+    let taken = recorder.write_bytes(&[0x5a; 4096]).is_ok();
+    let more = recorder.write_bytes(&[0x5a]);
+    holds(&rt, taken & matches!(more, Err(Error::OutOfMemory)));
+}
+
 /// A recorder of a byte is the better of it and one that fails while it is given more than its memory
 /// holds.
 #[test]
