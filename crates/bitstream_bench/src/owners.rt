@@ -3,7 +3,7 @@
 use crate::asserts::{holds, same};
 use bitstream_callers::block_header::BlockHeader;
 use bitstream_callers::parameter_set::{OperatingPoint, ParameterSet};
-use bitstream_callers::stream_info::StreamInfoBlock;
+use bitstream_callers::stream_info_block::StreamInfoBlock;
 use bitstream_callers::vorbis_comment::{CommentError, Text, VorbisComment};
 use bitstream_io::{BE, BitRead, BitReadExt, BitReader, ByteRead, ByteReadExt, ByteReader, Error};
 use std::alloc::Global;
