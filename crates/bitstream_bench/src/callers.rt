@@ -111,7 +111,7 @@ fn parses_up_to_each(rt: &impl Abort, block: &StreamInfoBlock, read: &[usize]) {
         let parsed = parses(&mut reader, block, served == 8);
         let left = reader.into_reader().inner.inner;
         same(rt, (served, parsed), (served, true));
-        are(rt, left, &WHOLE_BLOCK[*read..]);
+        are(rt, left, &WHOLE_BLOCK[(*read).min(34)..]);
     }
 }
 
@@ -125,7 +125,7 @@ fn builds_up_to_each(rt: &impl Abort, alloc: Global, block: &StreamInfoBlock, wr
         are(
             rt,
             &writer.into_writer().inner.inner,
-            &WHOLE_BLOCK[..*written],
+            &WHOLE_BLOCK[..(*written).min(34)],
         );
     }
 }
