@@ -1,4 +1,4 @@
-//! The ten integer types, a file each.
+//! The ten integer types, a file each. `.ci/numbers` prints the files, from `tools/numbers`.
 
 mod i128;
 mod i16;

@@ -201,6 +201,8 @@ impl<N: NonZeroInteger> VBRInteger for Option<N> {
     }
 }
 
+// From here on printed by `.ci/numbers`, from `tools/numbers/non_zero_integer` for each type.
+
 impl NonZeroInteger for NonZero<u8> {
     type Base = u8;
 

@@ -77,6 +77,8 @@ fn write_signed_vbr<F: Width, S: SignedInteger, W: BitWrite>(
     writer.write_signed_vbr::<F, S>(number)
 }
 
+// From here on printed by `.ci/numbers`, from `tools/numbers/signed_integer` for each type.
+
 impl Integer for i8 {
     ghost reads = { λ o n. signed_entry o 8 n };
 

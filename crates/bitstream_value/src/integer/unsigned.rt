@@ -77,6 +77,8 @@ pub(crate) fn write_number_vbr<F: Width, U: UnsignedInteger, W: BitWrite>(
     writer.write_unsigned_vbr::<F, U>(number)
 }
 
+// From here on printed by `.ci/numbers`, from `tools/numbers/unsigned_integer` for each type.
+
 impl Integer for u8 {
     ghost reads = { λ o n. unsigned_entry o 8 n };
 
