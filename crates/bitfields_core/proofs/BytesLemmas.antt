@@ -12,7 +12,8 @@ use Rattle.std.proofs.lemmas.List.Splits.{slice_split_none, slice_split_at, join
 use Rattle.bitfields_core.specs.declared.fault.Reason.{Reason}
 use Rattle.bitfields_core.specs.declared.fault.Reason.TheVariants.{ValueMisspelt, ValueDoesNotFit}
 use Rattle.bitfields_core.specs.Decimal.{is_decimal, is_byte, decimal_value, decimal_below, spaced, bytes_of_parts, bytes_within, bytes_text}
-use Rattle.bitfields_core.proofs.DecimalLemmas.{both, below_parts, decimal_lacks, decimal_value-decimal, decimal-decimal_value, is_decimal-decimal}
+use Rattle.bitfields_core.proofs.DecimalLemmas.{below_parts, decimal_lacks, decimal_value-decimal, decimal-decimal_value, is_decimal-decimal}
+use Rattle.bitstream_io.proofs.LeadLemmas.{both}
 
 small : (b : ℕ) → b < 256 → b < 10 ^ 64
 small b h =

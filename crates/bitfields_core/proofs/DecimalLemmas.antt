@@ -20,6 +20,7 @@ use Rattle.std.proofs.lemmas.Fmt.{decimal_by_steps_wide, decimal_step_wide, deci
 use Rattle.std.specs.Fmt.{decimal, signed_decimal}
 use Rattle.bitstream_io.specs.Word.{FitsSignedBits}
 use Rattle.std.proofs.lemmas.Str.Parse.{IsDigitsTest, digit_from_value, numerals_by_value}
+use Rattle.bitstream_io.proofs.LeadLemmas.{both}
 
 pub in_range : (c : ℕ) → is_ascii_digit c ≡ true → IsInRange 48 57 c
 in_range c e = search rules
@@ -139,11 +140,6 @@ pub decimal_within-decimal : (low high n : ℕ) → n < 10 ^ 64 → low ≤ n �
     ≡ Some n
 decimal_within-decimal low high n h a b =
     rw (is_decimal-decimal n h, decimal_value-decimal n h, le-leb low n a, le-leb n high b) refl
-
-pub both : (a b : Bool) → (a && b) ≡ true → (a ≡ true) × (b ≡ true)
-both true true h = (refl, refl)
-both true false h = absurd (cc)
-both false b h = absurd (cc)
 
 list_all-IsDigitsTest : IsDigitsTest (λ ds. list_all is_ascii_digit ds ≡ true)
 list_all-IsDigitsTest = record {

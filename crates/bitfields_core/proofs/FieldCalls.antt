@@ -190,7 +190,7 @@ skip-answers n p more =
     word_front-some n (λ _. Ok tt) (replicate n false) more (length-replicate n false)
     ∙ ap (λ (m : ℕ). Takes m (Ok tt)) (sym (length-replicate n false))
 
-two_bits : (size : GroupSize) → 2 ≤ group_bits size
+pub two_bits : (size : GroupSize) → 2 ≤ group_bits size
 two_bits Four = omega arith
 two_bits Eight = omega arith
 
@@ -346,18 +346,6 @@ pub unpacked-written : (o : Order) (k : ℕ) (fields : List Field) (vs : List Fi
 unpacked-written = says-written field_read trips
 
 -- ---- packing, field by field
-
--- the write calls of the fields, and others behind them
-pub write_run-append : (es fs : List WriteEntry) (at : ℕ)
-    → write_run (es ++ fs) at ≡ write_run es at ++ write_run fs (at + length (write_run es at))
-write_run-append [] fs at = let none : at ≡ at + 0 = omega arith in ap (write_run fs) none
-write_run-append (e ∷ es) fs at =
-    let w = accepted (e at) in
-    let x = write_run es (at + length w) in
-    let place : at + length w + length x ≡ at + length (w ++ x) = rw length-append (omega arith) in
-    ap (λ (u : List Bool). w ++ u) (write_run-append es fs (at + length w))
-    ∙ sym (append_assoc w x (write_run fs (at + length w + length x)))
-    ∙ ap (λ (p : ℕ). (w ++ x) ++ write_run fs p) place
 
 pub packed-first : (o : Order) (f : Field) (fields : List Field) (vs : List FieldValue) (at : ℕ) (w : List Bool)
     → field_write o f vs at ≡ Ok w

@@ -34,8 +34,9 @@ use Rattle.bitfields_core.specs.Layout.{IsField, group_bits}
 use Rattle.bitfields_core.specs.Packing.{field_write}
 use Rattle.bitfields_core.specs.Repacking.{HasOneWord, are_zeros, boundary_entry, exact_read, if_zeros, zeros_entry}
 use Rattle.bitfields_core.specs.Value.{value_count, value_list, FitsField}
-use Rattle.bitfields_core.proofs.FieldCalls.{Trips, trips}
+use Rattle.bitfields_core.proofs.FieldCalls.{Trips, trips, two_bits}
 use Rattle.bitfields_core.proofs.ZeroLemmas.{are_zeros-only, are_zeros-replicate}
+use Rattle.bitstream_io.proofs.CheckedLemmas.{signed_from-fits}
 
 -- ---- what an answer tells of a call
 
@@ -95,13 +96,6 @@ one_number o n w size = (
   ap (λ (k : ℕ). word o k (number o w)) (sym size) ∙ word-number o w,
 )
 
--- a signed number of n bits has one word, too
-signed_from-fits : (n k : ℕ) → 0 < n → k < 2 ^ n → FitsSignedBits n (signed_from n k)
-signed_from-fits n k some small = elim (cases_lt k (2 ^ (n - 1))) [
-  | inl low ↦ rw (lt-ltb k (2 ^ (n - 1)) low) low
-  | inr high ↦ let twice = half n some in rw (le-ltb k (2 ^ (n - 1)) high) (omega arith)
-]
-
 residue-signed_from : (n k : ℕ) → k < 2 ^ n → residue n (signed_from n k) ≡ k
 residue-signed_from n k small = elim (cases_lt k (2 ^ (n - 1))) [
   | inl low ↦ rw (lt-ltb k (2 ^ (n - 1)) low) (mod-eq_of_lt small)
@@ -144,10 +138,6 @@ if_none : (yes : Bool) (why : Reason) (v : Option FieldValue)
     → (yes ≡ true) × (None ≡ v)
 if_none true why v h = (refl, cc)
 if_none false why v h = absurd (cc)
-
-wide_groups : (size : GroupSize) → 2 ≤ group_bits size
-wide_groups Four = omega arith
-wide_groups Eight = omega arith
 
 module _ (o : Order) (at m : ℕ) (b : List Bool) (v : Option FieldValue) where
   -- a value that fits the field and whose word the bits are
@@ -206,7 +196,7 @@ module _ (o : Order) (at m : ℕ) (b : List Bool) (v : Option FieldValue) where
   unfolding groups_entry
   told_groups strict size u h =
       let field = group_bits size in
-      let wide = wide_groups size in
+      let wide = two_bits size in
       let some : 0 < field = omega (arith, wide) in
       let t = read_vbr_only o field some strict 64 (2 ^ 64) b m u wide h in (
         t.1,

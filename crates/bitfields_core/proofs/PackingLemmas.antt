@@ -29,7 +29,8 @@ use Rattle.bitfields_core.specs.Fault.{fault}
 use Rattle.bitfields_core.specs.Layout.{IsField, IsLayout}
 use Rattle.bitfields_core.specs.Packing.{WritesBits, PackedBytes, PackingRefused, Packs, PacksValues, write_reason, field_write, field_writes, packed}
 use Rattle.bitfields_core.specs.Value.{value_count, FitsField, Fit}
-use Rattle.bitfields_core.proofs.FieldCalls.{refusals-none, write_run-append}
+use Rattle.bitfields_core.proofs.FieldCalls.{refusals-none}
+use Rattle.bitstream_io.proofs.RunLemmas.{write_run-append}
 
 -- ---- a list of accepted calls, to a sink that has room
 

@@ -27,8 +27,9 @@ use Rattle.bitfields_core.specs.Layout.{IsField, IsLayout, group_bits}
 use Rattle.bitfields_core.specs.Packing.{field_word, field_write, field_writes, packed, WritesBits}
 use Rattle.bitfields_core.specs.Size.{size_of, spelt_size, Sizes}
 use Rattle.bitfields_core.specs.Value.{value_count, first_unsigned, first_signed, first_bytes, Fit, FitsField}
-use Rattle.bitfields_core.proofs.FieldCalls.{unsigned_first, signed_first, bytes_first, field_word-written, run-more, refusals-more, write_run-append}
+use Rattle.bitfields_core.proofs.FieldCalls.{unsigned_first, signed_first, bytes_first, field_word-written, run-more, refusals-more}
 use Rattle.bitfields_core.proofs.PackingLemmas.{WritesBits-all}
+use Rattle.bitstream_io.proofs.RunLemmas.{write_run-append}
 
 -- ---- a field's word
 

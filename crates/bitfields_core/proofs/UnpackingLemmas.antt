@@ -13,7 +13,7 @@ use Rattle.bitstream_io.specs.Fault.{read_refusal_of}
 use Rattle.bitstream_io.specs.Refusal.{Refusal, IsTrueEnd}
 use Rattle.bitstream_io.specs.Own.{OwnAnswer}
 use Rattle.bitstream_io.specs.Reads.{ReaderState, BitSource, Reads, ReadDone, ReadRefused, had_failed, was_done, was_refused, memory_refused}
-use Rattle.bitstream_io.proofs.ReadsLemmas.{Took, Took-nil, Took-trans, Took-left, took}
+use Rattle.bitstream_io.proofs.ReadsLemmas.{Took, Took-nil, Took-trans, Took-left, took, parts_left}
 use Rattle.bitfields_core.specs.declared.fault.Fault.{Fault}
 use Rattle.bitfields_core.specs.declared.fault.Reason.{Reason}
 use Rattle.bitfields_core.specs.declared.fault.Reason.TheVariants.{BitsEnded, OutOfMemory}
@@ -168,13 +168,6 @@ Unpacking-buffer_refused K fields i d old now text f h known asks is = record {
 
 -- ---- what the calls come to
 
--- the bits held before and those of the bytes fetched, by a word and the bits held behind it
-held_parts : (o : Order) (a b u : List Bool) (g h : List ℕ) → a ++ bits o g ≡ u ++ b → a ++ bits o (g ++ h) ≡ u
-    ++ (b ++ bits o h)
-held_parts o a b u g h p =
-    ap (λ (w : List Bool). a ++ w) (bits-append o g h) ∙ sym (append_assoc a (bits o g) (bits o h))
-    ∙ ap (λ (w : List Bool). w ++ bits o h) p ∙ append_assoc u b (bits o h)
-
 first_parts : {A : Type 0} (o : Order) (e : ReadEntry A) (v : A) (s t : ReaderState) (h : ReadDone o e s (Ok v) t)
     → s.queue ++ bits o h.gone ≡ h.word ++ t.queue
 first_parts o e v s t h = h.parts ∙ ap (λ (w : List Bool). h.word ++ w) (sym h.queue)
@@ -320,7 +313,7 @@ module _ (calls : FieldCalls) where
         gone = h.gone ++ x.gone;
         loses = Consumes-trans s.bytes t.bytes z.bytes h.gone x.gone h.loses x.loses;
         rest = x.rest;
-        held = held_parts o s.queue t.queue h.word h.gone x.gone (first_parts o (calls o f) (Ok v) s t h)
+        held = parts_left o s.queue t.queue h.word h.gone x.gone (first_parts o (calls o f) (Ok v) s t h)
             ∙ ap (λ (w : List Bool). h.word ++ w) x.held ∙ sym (append_assoc h.word x.word x.rest);
         fetched = omega (arith, h.fetched, x.fetched, length-append h.gone x.gone);
         taken = omega (arith, h.taken, x.taken, length-append h.word x.word);
@@ -382,7 +375,7 @@ module _ (calls : FieldCalls) where
       → UnpackingRefusedFields o may (k + 1) fs t why z → UnpackingRefusedFields o may k (f ∷ fs) s why z
   UnpackingRefusedFields-later o may k f fs v why s t z h x =
       let first = took o (calls o f) (Ok v) s t h in
-      let whole = held_parts o s.queue t.queue h.word h.gone x.gone (first_parts o (calls o f) (Ok v) s t h) in
+      let whole = parts_left o s.queue t.queue h.word h.gone x.gone (first_parts o (calls o f) (Ok v) s t h) in
       record {
         field = x.field;
         refusal = x.refusal;

@@ -13,7 +13,7 @@ use Rattle.bitstream_io.specs.Word.{Order, number, word}
 use Rattle.bitstream_io.proofs.BytesWritten.{word-zeros}
 use Rattle.bitstream_io.proofs.EntryLemmas.{Same, Same-trans, chain_takes, map_takes, word_front-some}
 use Rattle.bitstream_io.proofs.LawLemmas.{Same-chain}
-use Rattle.bitstream_io.proofs.ReadsLemmas.{Begun-nil, Reads-behind, Reads-chain-err, Reads-chain-ok, Reads-gives, Reads-nothing, Reads-same}
+use Rattle.bitstream_io.proofs.ReadsLemmas.{Begun-nil, Reads-behind, Reads-chain-err, Reads-chain-ok, Reads-gives, Reads-nothing, Reads-same, none_needed}
 use Rattle.bitstream_io.proofs.TableLemmas.{unsigned-takes}
 use Rattle.bitstream_io.proofs.WordLemmas.{number-word, word-number}
 use Rattle.bitfields_core.specs.Repacking.{are_zeros, boundary_entry, zeros_entry}
@@ -100,10 +100,6 @@ bit_size p b (c ∷ w) h =
     let size : 1 ≡ length (c ∷ w) = cc same in
     sym size
 
-no_front : (front : List Bool) (b : Bool) (back : List Bool) → [] ≡ front ++ b ∷ back → ⊥
-no_front [] b back e = cc
-no_front (c ∷ front) b back e = cc
-
 -- a sound reader that is not at a boundary
 off_by : (s : ReaderState) → s.failed ≡ false → ((s.failed ≡ false) × (s.taken % 8 ≡ 0) → ⊥)
     → 1 ≤ to_boundary s.taken
@@ -129,7 +125,7 @@ module _ {R : Type 0} {K : BitSource R} where
   Reads-at {d = d} {e = e} {r = r} {s = s} {t = t} same failed h =
       Reads-behind e d [] r r s s t (Begun-nil K s)
       (record {
-        needs = λ front b back is. absurd (no_front front b back is);
+        needs = λ front b back is. absurd (none_needed front b back is);
         short = λ more short. sym (same more) ∙ short;
       }) (λ broken q. q ∙ failed) (λ y q. q) refl (λ v decides more. sym (same (v ++ more)) ∙ decides more) h
 

@@ -36,7 +36,7 @@ use Rattle.bitstream_stream.proofs.WriteParts.{all_none, all_append, all_err, al
 use Rattle.bitstream_value.specs.Array.{items_entry, words}
 use Rattle.bitstream_value.specs.Grows.{GrowsOwn}
 use Rattle.bitstream_value.specs.Own.{OwnAnswer, ReadsOwn, WritesOwn, part_then, same_error}
-use Rattle.bitstream_value.proofs.ArrayLemmas.{items-start, items-stop as items-ended}
+use Rattle.bitstream_value.proofs.ArrayLemmas.{items-start, items-stop as items-ended, items-suc}
 use Rattle.bitstream_value.proofs.CheckedLemmas.{signed-holds, signed-on_failed}
 use Rattle.bitstream_value.proofs.GrowsLemmas.{own_grown-answer}
 use Rattle.bitstream_value.proofs.OwnSteps.{then_own_signed, then_own_call, then_own_write, then_own_signed_call, then_own_signed_write, own_written}
@@ -341,11 +341,6 @@ pub ruleset many_own_reads = (next_own_read, exit_own_read, next_own_const, exit
 pub ruleset many_writes = (next_call, next_write, stop_call, stop_write, all_one)
 
 -- ---- items that are read in a loop
-
-items-suc : {A : Type 0} (e : ReadEntry A) (n : ℕ) → items_entry e (suc n)
-    ≡ chain (items_entry e n) (λ xs. chain e (λ x. gives (xs ++ x ∷ [])))
-unfolding items_entry
-items-suc e n = refl
 
 module _ {R A : Type 0} {K : BitSource R} (e : ReadEntry A) where
   -- none yet

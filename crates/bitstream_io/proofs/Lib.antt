@@ -45,3 +45,5 @@ pub use Rattle.bitstream_value.proofs.OwnSteps
 pub use Rattle.bitstream_value.proofs.ReadSteps
 pub use Rattle.bitstream_value.proofs.SureLemmas
 pub use Rattle.bitstream_value.proofs.WriteSteps
+pub use Rattle.bitstream_order.proofs.LeadLemmas
+pub use Rattle.bitstream_value.proofs.CheckedLemmas

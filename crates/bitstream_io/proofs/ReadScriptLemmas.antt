@@ -19,6 +19,7 @@ use Rattle.bitstream_io.specs.ReadScript as lists
 use Rattle.bitstream_io.specs.declared.script.answers.Answer.{Answer}
 use Rattle.bitstream_io.specs.declared.script.read_call.ReadCall.{ReadCall}
 use Rattle.bitstream_io.specs.declared.script.read_call.ReadCall.TheVariants.{Bytes}
+use Rattle.bitstream_io.proofs.RunLemmas.{failed_or_not}
 
 -- ---- read runs
 
@@ -45,10 +46,6 @@ front-done front n p answer others h sound = ap (λ (f : Front Answer). answer_a
 too_long-is : (answer : Result Answer Error) → is_run_too_long answer ≡ true → answer ≡ Err RunTooLong
 too_long-is (Err RunTooLong) h = refl
 too_long-is _ h = cc
-
-failed_or_not : (b : Bool) → (b ≡ true) ⊎ (b ≡ false)
-failed_or_not true = inl refl
-failed_or_not false = inr refl
 
 -- a call of those that ask for no memory
 pub free_call : (call : ReadCall) (calls : List ReadCall) → AsksNoMemory (call ∷ calls) → (asks_memory call ≡ false)

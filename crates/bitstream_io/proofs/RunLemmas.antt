@@ -68,7 +68,7 @@ limited-ok (Some most) e len word is within = ap (within_limit (Some most) len) 
 
 -- ---- calls in order
 
-failed_or_not : (b : Bool) → (b ≡ true) ⊎ (b ≡ false)
+pub failed_or_not : (b : Bool) → (b ≡ true) ⊎ (b ≡ false)
 failed_or_not true = inl refl
 failed_or_not false = inr refl
 

@@ -26,7 +26,7 @@ each : (ℕ → Bool) → ℕ → Bool
 each p zero = true
 each p (suc n) = p n && each p n
 
-both : (x y : Bool) → (x && y) ≡ true → (x ≡ true) × (y ≡ true)
+pub both : (x y : Bool) → (x && y) ≡ true → (x ≡ true) × (y ≡ true)
 both true y h = (refl, h)
 both false y h = cc
 

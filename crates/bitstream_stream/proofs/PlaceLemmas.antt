@@ -6,6 +6,7 @@ use Rattle.std.specs.Prelude.{unsigned_abs}
 use Rattle.std.specs.Result.{OkIff, result_ok}
 use Rattle.std.specs.Int.{FitsUnsigned}
 use Rattle.bitstream_stream.specs.Place.{place_of}
+use Rattle.bitstream_order.proofs.SliceLemmas.{in_range}
 
 left_out : (b : Bool) (k : ℕ) → nat_lt k (2 ^ 64) ≡ b → (k < 2 ^ 64 → ⊥) → None ≡ (if b then Some k else None)
 left_out true k is above = absurd (above (ltb-true k (2 ^ 64) is))
@@ -14,16 +15,13 @@ left_out false k is above = refl
 below_limit : (k : ℕ) → pos k <ℤ pos (2 ^ 64) → k < 2 ^ 64
 below_limit k h = omega (arith, ints)
 
-fits : (k : ℕ) → k < 2 ^ 64 → FitsUnsigned w64 (pos k)
-fits k h = (omega (arith, ints), omega (arith, ints))
-
 not_below : (k : ℕ) → pos 0 ≤ℤ negsuc k → ⊥
 not_below k h = omega (arith, ints)
 
-pub in_range : {X : Type 0} (x : ℤ) (r : Result ℕ X) → OkIff r (FitsUnsigned w64 x) (unsigned_abs x) → result_ok r
+pub place-is : {X : Type 0} (x : ℤ) (r : Result ℕ X) → OkIff r (FitsUnsigned w64 x) (unsigned_abs x) → result_ok r
     ≡ place_of x
-in_range (pos k) (Ok v) h = ap Some h.1 ∙ sym (ap (λ b. if b then Some k else None)
+place-is (pos k) (Ok v) h = ap Some h.1 ∙ sym (ap (λ b. if b then Some k else None)
     (lt-ltb k (2 ^ 64) (below_limit k h.0.1)))
-in_range (pos k) (Err e) h = left_out (nat_lt k (2 ^ 64)) k refl (λ below. h (fits k below))
-in_range (negsuc k) (Ok v) h = absurd (not_below k h.0.0)
-in_range (negsuc k) (Err e) h = refl
+place-is (pos k) (Err e) h = left_out (nat_lt k (2 ^ 64)) k refl (λ below. h (in_range k below))
+place-is (negsuc k) (Ok v) h = absurd (not_below k h.0.0)
+place-is (negsuc k) (Err e) h = refl

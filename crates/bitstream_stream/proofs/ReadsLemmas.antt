@@ -191,7 +191,7 @@ Behind-needs {e = e} {p = p} {w = w} v h needs front b back parts = elim (cut fr
   | inr behind ↦ ap (λ l. e.reads p l) behind.1 ∙ h.short behind.0 (needs behind.0 b back (sym behind.2))
 ]
 
-none_needed : (front : List Bool) (b : Bool) (back : List Bool) → [] ≡ front ++ b ∷ back → ⊥
+pub none_needed : (front : List Bool) (b : Bool) (back : List Bool) → [] ≡ front ++ b ∷ back → ⊥
 none_needed [] b back e = cc
 none_needed (c ∷ front) b back e = cc
 

@@ -24,7 +24,7 @@ use Rattle.bitstream_stream.proofs.WriteLemmas.{replicate-more}
 
 -- ---- one bit
 
-bit_front : (p : ℕ) (b : Bool) (more : List Bool) → bit_entry.reads p (b ∷ more) ≡ Takes 1 (Ok b)
+pub bit_front : (p : ℕ) (b : Bool) (more : List Bool) → bit_entry.reads p (b ∷ more) ≡ Takes 1 (Ok b)
 bit_front p b more = word_front-some 1 (λ w. Ok (first_bit w)) (b ∷ []) more refl
 
 bit_word : (p : ℕ) (b : Bool) (v : List Bool) → ((more : List Bool) → bit_entry.reads p (v ++ more)
@@ -46,13 +46,13 @@ bit_short : (p : ℕ) (more : List Bool) → bit_entry.reads p more ≡ TooFew �
 bit_short p [] h = refl
 bit_short p (b ∷ more) h = let some : Takes 1 (Ok b) ≡ TooFew = sym (bit_front p b more) ∙ h in cc
 
-same_bit : (b stop : Bool) → beq b stop ≡ true → b ≡ stop
+pub same_bit : (b stop : Bool) → beq b stop ≡ true → b ≡ stop
 same_bit true true h = refl
 same_bit true false h = cc
 same_bit false true h = cc
 same_bit false false h = refl
 
-other_bit : (b stop : Bool) → beq b stop ≡ false → b ≡ not stop
+pub other_bit : (b stop : Bool) → beq b stop ≡ false → b ≡ not stop
 other_bit true true h = cc
 other_bit true false h = refl
 other_bit false true h = refl

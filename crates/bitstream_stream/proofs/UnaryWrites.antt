@@ -21,6 +21,7 @@ use Rattle.bitstream_number.specs.Word.{Order, High, Low, digits, word}
 use Rattle.bitstream_number.proofs.WordLemmas.{word_cat}
 use Rattle.bitstream_stream.proofs.WriteLemmas.{word-bit}
 use Rattle.bitstream_stream.proofs.BytesWritten.{word-zeros, reverse-replicate, appended_more}
+use Rattle.bitstream_number.proofs.Masks.{mask-is}
 
 -- ---- bits that are all the same
 
@@ -42,15 +43,9 @@ word-ones Low n = ap reverse (digits-ones n) ∙ reverse-replicate n true
 pub zeros_others : (n v : ℕ) → v ≡ 0 → (o : Order) → word o n v ≡ replicate n (not true)
 zeros_others n v is o = ap (word o n) is ∙ word-zeros o n
 
-pub ones_number : (size n all v : ℕ) → n ≤ size → all ≡ 2 ^ size - 1 → v ≡ all / 2 ^ (size - n) → v ≡ 2 ^ n - 1
-ones_number size n all v le greatest is =
-    let rest : size - (size - n) ≡ n = omega arith in
-    is ∙ ap (λ (x : ℕ). x / 2 ^ (size - n)) greatest ∙ ones_shr size (size - n) (omega arith)
-    ∙ ap (λ (k : ℕ). 2 ^ k - 1) rest
-
 pub ones_others : (size n all v : ℕ) → n ≤ size → all ≡ 2 ^ size - 1 → v ≡ all / 2 ^ (size - n) → (o : Order)
     → word o n v ≡ replicate n (not false)
-ones_others size n all v le greatest is o = ap (word o n) (ones_number size n all v le greatest is) ∙ word-ones o n
+ones_others size n all v le greatest is o = ap (word o n) (mask-is size n all v le greatest is) ∙ word-ones o n
 
 bit_small : (b : Bool) (n : ℕ) → n ≡ bool_byte b → n < 2 ^ 1
 bit_small true n e = omega arith

@@ -6,10 +6,8 @@ use Rattle.std.proofs.lemmas.Int.{ints}
 use Rattle.std.proofs.lemmas.Nat.{and_mask}
 use Rattle.bitstream_number.specs.Word.{FitsSignedBits, zig, zag}
 use Rattle.bitstream_number.proofs.WordLemmas.{half}
+use Rattle.bitstream_order.proofs.SignLemmas.{rest_of, negative-is}
 use lib.Signed.{mag, ◌≤ℤ◌}
-
-rest_of : (a m q : ℕ) → a < q → pos m ≡ negsuc a +ℤ pos q → m ≡ q - 1 - a
-rest_of a m q h e = omega (arith, ints)
 
 -- twice a number that is below half of the numbers of n bits
 shifted_is : (n k m s : ℕ) → k ≡ n → 1 ≤ n → m < 2 ^ (n - 1) → s ≡ m * 2 ^ 1 % 2 ^ k → s ≡ 2 * m
@@ -55,10 +53,6 @@ even_back p one b r x same bit none shifted is =
     let even : p % 2 ≡ 0 = omega arith in
     rw even (is ∙ ap pos shifted)
 
--- a number less a greater one
-taken : (r m : ℕ) → r < m → pos r -ℤ pos m ≡ negsuc (m - 1 - r)
-taken r m below = omega (arith, ints)
-
 -- an odd place
 pub odd_back : (k n p one b q r : ℕ) (x : ℤ) → k ≡ n → 1 ≤ n → p < 2 ^ n → one ≡ 1 → b ≡ bit_and p one → b ≢ 0 → q
     ≡ 2 ^ n - 1 - p → r ≡ q / 2 ^ 1 → x ≡ pos r -ℤ pos (2 ^ (k - 1)) → x ≡ zag p
@@ -67,7 +61,7 @@ odd_back k n p one b q r x size some below same bit set turned shifted is =
     let odd : p % 2 ≡ 1 = omega arith in
     let small = half_below n q r some (turned_below n p q turned) shifted in
     let place : 2 ^ (n - 1) - 1 - r ≡ p / 2 = omega (arith, half n some) in
-    rw odd (is ∙ ap (λ j. pos r -ℤ pos (2 ^ (j - 1))) size ∙ taken r _ small ∙ ap negsuc place)
+    rw odd (is ∙ ap (λ j. pos r -ℤ pos (2 ^ (j - 1))) size ∙ negative-is r _ small ∙ ap negsuc place)
 
 -- a number below 0 that fits n bits is at least - 2 ^ (n - 1)
 pub above_least : (n : ℕ) (x : ℤ) → FitsSignedBits n x → x <ℤ pos 0 → pos 0 ≤ℤ (x +ℤ pos (2 ^ (n - 1)))

@@ -24,7 +24,7 @@ use Rattle.bitstream_value.proofs.BackLemmas.{signed-word}
 
 -- ---- a number that was read fits its width
 
-signed_from-fits : (n k : ℕ) → 0 < n → k < 2 ^ n → FitsSignedBits n (signed_from n k)
+pub signed_from-fits : (n k : ℕ) → 0 < n → k < 2 ^ n → FitsSignedBits n (signed_from n k)
 signed_from-fits n k some below = elim (cases_lt k (2 ^ (n - 1))) [
   | inl less ↦ rw (lt-ltb k (2 ^ (n - 1)) less) less
   | inr more ↦ rw (le-ltb k (2 ^ (n - 1)) more) (omega (arith, half n some, below, more))

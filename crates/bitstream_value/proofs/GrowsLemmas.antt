@@ -12,9 +12,9 @@ use Rattle.bitstream_order.specs.Refusal.{TrueEnds}
 use Rattle.bitstream_stream.proofs.SliceLemmas.{Reads-answer}
 use Rattle.bitstream_stream.specs.Reads.{sure_answer, is_run_too_long, ReaderState, BitSource, Reads, ReadsGrowing, had_failed, was_done, was_refused, memory_refused}
 use Rattle.bitstream_stream.proofs.EntryLemmas.{chain-none, chain-ok}
-use Rattle.bitstream_stream.proofs.ReadsLemmas.{Took-trans, took, Behind, Behind-needs, Reads-chain-ok, Reads-chain-err, Reads-gives, Reads-growing}
+use Rattle.bitstream_stream.proofs.ReadsLemmas.{Took-trans, took, Behind, Behind-needs, Reads-chain-ok, Reads-chain-err, Reads-gives, Reads-growing, none_needed}
 use Rattle.bitstream_value.specs.Own.{OwnAnswer, ReadsOwn, part_then, same_error, plain_reads}
-use Rattle.bitstream_value.proofs.OwnLemmas.{is_error, none_needed, joined, front_short, never_own, read_by}
+use Rattle.bitstream_value.proofs.OwnLemmas.{is_error, joined, front_short, never_own, read_by}
 use Rattle.bitstream_value.specs.Grows.{GrowthRefused, GrowingOutcome, by_reads, between_reads, GrowsOwn, OwnReads, parts_entry, PartsRead}
 use Rattle.std.proofs.Math.Seq.{drop-append_seam}
 use Rattle.std.proofs.lemmas.Bool.Decides.{leb_tells}

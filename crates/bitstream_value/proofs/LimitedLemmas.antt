@@ -189,19 +189,6 @@ module _ {N : Type 0} {K : BitSource N} {stop : Bool} {most : ℕ} {from : N} wh
       let none : most - k ≡ 0 = omega arith in
       h.on (Ok None) to (rw (none, tree-end, path_entry-leaf) (Reads-gives None to))
 
--- a digit that is compared with the stop digit
-pub stop-digit : (b stop : Bool) → beq b stop ≡ true → b ≡ stop
-stop-digit true true h = refl
-stop-digit true false h = absurd cc
-stop-digit false true h = absurd cc
-stop-digit false false h = refl
-
-pub other-digit : (b stop : Bool) → beq b stop ≡ false → b ≡ not stop
-other-digit true true h = absurd cc
-other-digit true false h = refl
-other-digit false true h = refl
-other-digit false false h = absurd cc
-
 -- ---- writing
 
 -- k of the same bits were written, and what is written from there on completes them

@@ -5,7 +5,7 @@ use Rattle.bitstream_count.specs.declared.error.Error.{Error}
 use Rattle.bitstream_count.specs.Entry.{Front, TooFew, Takes, ReadEntry, WriteEntry, chain, front_then, result_then}
 use Rattle.bitstream_stream.specs.Reads.{BitSource, Reads, ReadOutcome, ReadsConst, ConstAnswer, is_run_too_long, had_failed, was_done, was_refused, memory_refused}
 use Rattle.bitstream_stream.specs.Sink.{Sink, WritesAll}
-use Rattle.bitstream_stream.proofs.ReadsLemmas.{Reads-chain-ok, Reads-chain-err, Reads-gives, Reads-behind, Begun-nil}
+use Rattle.bitstream_stream.proofs.ReadsLemmas.{Reads-chain-ok, Reads-chain-err, Reads-gives, Reads-behind, Begun-nil, none_needed}
 use Rattle.bitstream_value.specs.Own.{OwnAnswer, ReadsOwn, WritesOwn, same_error, plain_reads, must_hold}
 
 -- reads that have no error but the reader's
@@ -99,10 +99,6 @@ failed_never : {A : Type 0} (z : Result A Error) (y : Error) → Ok (Err y)
     ≡ result_then {B = Result A Error} z (λ a. Ok (Ok a)) → ⊥
 failed_never (Ok a) y h = cc
 failed_never (Err x) y h = cc
-
-pub none_needed : (front : List Bool) (b : Bool) (back : List Bool) → [] ≡ front ++ b ∷ back → ⊥
-none_needed [] b back e = cc
-none_needed (c ∷ front) b back e = cc
 
 module _ {R A : Type 0} (K : BitSource R) (e : ReadEntry A) (s t : R) where
   pub never_own : {grows : Bool} (y : Error) → ReadOutcome K grows (plain_reads {E = Error} e) s (Ok (Err y)) t → ⊥

@@ -8,6 +8,7 @@ use Rattle.bitstream_count.specs.Entry.{Front, TooFew, Takes, longer, chain, giv
 use Rattle.bitstream_stream.specs.ReadTable.{bit_entry}
 use Rattle.bitstream_stream.proofs.EntryLemmas.{chain-ok, chain-none}
 use Rattle.bitstream_value.specs.Tree.{Tree, leaf, node, IsPath, path_entry, IsBefore, IsFirstPath, or_else, first_path, symbol_word}
+use Rattle.bitstream_stream.proofs.UnaryReads.{bit_front}
 
 abbrev none : Option (List Bool)
 none = None
@@ -41,15 +42,12 @@ pub path_entry-node : {S : Type 0} (a b : Tree S) → path_entry (node a b)
 unfolding path_entry
 path_entry-node a b = refl
 
-bit-front : (p : ℕ) (c : Bool) (bits : List Bool) → bit_entry.reads p (c ∷ bits) ≡ Takes 1 (Ok c)
-bit-front p c bits = rw (le-leb 1 (suc (length bits)) (omega arith)) refl
-
 -- a read of a branch, behind its bit
 path-step : {S : Type 0} (a b : Tree S) (p : ℕ) (c : Bool) (bits : List Bool)
     → (path_entry (node a b)).reads p (c ∷ bits) ≡ longer 1
     ((if c then path_entry b else path_entry a).reads (p + 1) bits)
 path-step a b p c bits = rw path_entry-node (chain-ok bit_entry (λ d. if d then path_entry b else path_entry a) p
-    (c ∷ bits) 1 c (bit-front p c bits))
+    (c ∷ bits) 1 c (bit_front p c bits))
 
 pub path-reads : {S : Type 0} (t : Tree S) (w : List Bool) (s : S) (p : ℕ) (rest : List Bool) → IsPath t w s
     → (path_entry t).reads p (w ++ rest) ≡ Takes (length w) (Ok s)

@@ -6,10 +6,11 @@ use Rattle.bitfields_core.specs.Layout.{IsField}
 use Rattle.bitfields_core.specs.Packing.{field_writes}
 use Rattle.bitfields_core.specs.Unpacking.{unpacked, Unpacks}
 use Rattle.bitfields_core.specs.Value.{lines}
-use Rattle.bitfields_core.proofs.FieldCalls.{unpacked-written, write_run-append}
+use Rattle.bitfields_core.proofs.FieldCalls.{unpacked-written}
 use Rattle.bitfields_core.proofs.PrintedLines.{printed_lines-values}
 use Rattle.bitfields_core.proofs.ValueLemmas.{values-Fit}
 use Rattle.bitfields_core.proofs.laws.packed_lines_are_unpacked.Goals as goal
+use Rattle.bitstream_io.proofs.RunLemmas.{write_run-append}
 
 pub returns : goal.returns
 returns c = λ o fields input vs bytes layout spelt packs. (

@@ -1,7 +1,8 @@
 use Rattle.std.proofs.Common.{arith, not, ◌-◌, ◌/◌, ◌^◌, ap, replicate, sym, ◌∙◌}
 use Rattle.std.proofs.lemmas.Nat.{pow_pos}
-use Rattle.bitstream_stream.proofs.UnaryWrites.{zeros_others, ones_others, ones_number}
+use Rattle.bitstream_stream.proofs.UnaryWrites.{zeros_others, ones_others}
 use Rattle.bitstream_stream.proofs.others.others.Goals as goal
+use Rattle.bitstream_number.proofs.Masks.{mask-is}
 
 pub returns-then-stop-clause-word : goal.returns-then-stop-clause-word
 returns-then-stop-clause-word g c = λ o.
@@ -18,7 +19,7 @@ returns-else-stop-clause-word g c = λ o.
 
 pub returns-else-stop-clause-below : goal.returns-else-stop-clause-below
 returns-else-stop-clause-below g c =
-    let is = ones_number g.U.Numeric.BITS_SIZE c.args.n _ _ c.requires (ap g.U.UnsignedInteger.value c.ALL.ensures
+    let is = mask-is g.U.Numeric.BITS_SIZE c.args.n _ _ c.requires (ap g.U.UnsignedInteger.value c.ALL.ensures
     ∙ g.met.U.UnsignedInteger.ALL_law)
     (c.shr_default.ensures ∙ ap (λ w. g.U.UnsignedInteger.value c.ALL.result / 2 ^ (w - c.args.n)) c.BITS_SIZE.ensures)
     in

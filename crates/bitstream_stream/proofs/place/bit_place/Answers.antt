@@ -1,10 +1,10 @@
 use Rattle.std.proofs.Common.{rules, ap, ◌∙◌, ◌≡◌, to_z, of_z}
 use Rattle.std.specs.Int.{w128}
 use Rattle.bitstream_stream.specs.Place.{place_of}
-use Rattle.bitstream_stream.proofs.PlaceLemmas.{in_range}
+use Rattle.bitstream_stream.proofs.PlaceLemmas.{place-is}
 use Rattle.bitstream_stream.proofs.place.bit_place.Goals as goal
 
 pub returns : goal.returns
 returns c =
     let kept : to_z w128 (of_z w128 c.meant.result) ≡ c.meant.result = search rules in
-    c.ok.ensures.value ∙ in_range _ _ c.try_from.ensures ∙ ap place_of (kept ∙ c.meant.ensures)
+    c.ok.ensures.value ∙ place-is _ _ c.try_from.ensures ∙ ap place_of (kept ∙ c.meant.ensures)
