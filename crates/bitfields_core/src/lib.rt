@@ -9,7 +9,6 @@
 #![tactic(auto)]
 
 mod decimal;
-mod exact;
 mod fault;
 mod fault_line;
 mod field;
@@ -22,8 +21,9 @@ mod packing;
 mod repacking;
 mod running;
 mod sizing;
+mod strict_reading;
 mod unpacking;
-mod value;
+mod values;
 
 pub use fault::{Fault, Reason};
 pub use field::{Field, GroupSize};

@@ -12,7 +12,7 @@ use crate::fault::{Fault, Reason};
 use crate::field::{Field, GroupSize};
 use crate::field_value::{FieldValue, first_bytes, first_signed, first_unsigned};
 use crate::layout::Layout;
-use crate::value::{behind_value, values};
+use crate::values::{behind_value, values};
 use bitstream_io::{BitWrite, BitWriter, Bits, Endianness, Error, Lent, Target};
 use std::alloc::Global;
 

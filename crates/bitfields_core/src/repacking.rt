@@ -7,7 +7,7 @@ ghost use Rattle.bitfields_core.specs.Layout.{IsLayout};
 ghost use Rattle.bitfields_core.specs.Repacking.{Ends, IsRepacked, ReadsPackedBytes, Repacks};
 ghost use Rattle.bitfields_core.specs.Value.{Fit};
 
-use crate::exact::read_packed_from;
+use crate::strict_reading::read_packed_from;
 use crate::fault::{Fault, Reason};
 use crate::field_value::FieldValue;
 use crate::layout::Layout;

@@ -58,7 +58,7 @@ pub fn run<R: Input, W: Target, X: Target>(
         (request_of (map string_bytes words.now))
         input.old output.old faults.old result input.new output.new faults.new }
 {
-    match call(alloc, words, input, output) {
+    match run_command(alloc, words, input, output) {
         Ok(()) => 0,
         Err(fault) => report(fault, faults),
     }
@@ -82,7 +82,7 @@ fn print_line<X: Target>(fault: Fault, faults: &mut X)
     let _ = faults.write_all(line.as_slice());
 }
 
-fn call<R: Input, W: Target>(
+fn run_command<R: Input, W: Target>(
     alloc: Global,
     words: &[String],
     input: &mut R,
@@ -101,7 +101,7 @@ fn call<R: Input, W: Target>(
     let Some(order) = parse_order(order.as_str()) else {
         return Err(Fault::new(0, Reason::BadArguments));
     };
-    follow(alloc, command, order, text.as_str(), input, output)
+    with_layout(alloc, command, order, text.as_str(), input, output)
 }
 
 fn parse_command(word: &str) -> Option<Command>
@@ -126,7 +126,7 @@ fn parse_order(word: &str) -> Option<NamedOrder>
     }
 }
 
-fn follow<R: Input, W: Target>(
+fn with_layout<R: Input, W: Target>(
     alloc: Global,
     command: Command,
     order: NamedOrder,
@@ -140,12 +140,12 @@ fn follow<R: Input, W: Target>(
 {
     let layout = parse_layout(alloc, text)?;
     match order {
-        NamedOrder::Big => perform::<BigEndian, R, W>(alloc, command, &layout, input, output),
-        NamedOrder::Little => perform::<LittleEndian, R, W>(alloc, command, &layout, input, output),
+        NamedOrder::Big => dispatch::<BigEndian, R, W>(alloc, command, &layout, input, output),
+        NamedOrder::Little => dispatch::<LittleEndian, R, W>(alloc, command, &layout, input, output),
     }
 }
 
-fn perform<E: Endianness, R: Input, W: Target>(
+fn dispatch<E: Endianness, R: Input, W: Target>(
     alloc: Global,
     command: Command,
     layout: &Layout,

@@ -6,7 +6,7 @@ ghost use Rattle.bitfields_core.specs.Value.{lines as lines_of, values as values
 use crate::fault::Fault;
 use crate::layout::Layout;
 use crate::packing::append_fields;
-use crate::value::values;
+use crate::values::values;
 use bitstream_io::BitsWritten;
 use std::alloc::Global;
 

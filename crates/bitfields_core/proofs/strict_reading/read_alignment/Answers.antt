@@ -1,7 +1,7 @@
 use Rattle.bitfields_core.specs.Repacking.{if_zeros as if_zeros_of}
 use Rattle.bitfields_core.proofs.FieldAnswers.{answers, stops}
 use Rattle.bitfields_core.proofs.ZeroLemmas.{boundary}
-use Rattle.bitfields_core.proofs.exact.read_alignment.Goals as goal
+use Rattle.bitfields_core.proofs.strict_reading.read_alignment.Goals as goal
 
 pub returns-in_err-zero-clause-reads : goal.returns-in_err-zero-clause-reads
 returns-in_err-zero-clause-reads g c =

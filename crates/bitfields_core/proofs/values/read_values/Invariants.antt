@@ -1,7 +1,7 @@
 use Rattle.std.proofs.Common.{◌≡◌, map, ◌+◌, drop}
 use Rattle.bitfields_core.specs.Value.{values as values_of}
 use Rattle.bitfields_core.proofs.LayoutLemmas.{after}
-use Rattle.bitfields_core.proofs.value.read_values.Given as goal
+use Rattle.bitfields_core.proofs.values.read_values.Given as goal
 
 abbrev pub invariant-loop-index : goal.invariant-loop-index
 invariant-loop-index l =

@@ -1,7 +1,7 @@
 use Rattle.std.proofs.Common.{rules, ◌≡◌, ◌++◌, ◌<◌, length, arith, sym, ◌∙◌}
 use Rattle.bitfields_core.specs.Value.{value_list}
 use Rattle.bitfields_core.proofs.ValueLemmas.{one_value}
-use Rattle.bitfields_core.proofs.value.read_values.Goals as goal
+use Rattle.bitfields_core.proofs.values.read_values.Goals as goal
 
 pub loop-index-preserved : goal.loop-index-preserved
 loop-index-preserved c =

@@ -3,7 +3,7 @@ use Rattle.bitfields_core.specs.Repacking.{exact_read, with_alignment}
 use Rattle.bitfields_core.specs.Value.{value_list}
 use Rattle.bitfields_core.proofs.RepackingLemmas.{field_at, packed_end, packed_end_err, stopped_at}
 use Rattle.bitfields_core.proofs.UnpackingLemmas.{Remaining-buffer_refused, Remaining-err, Remaining-line_refused, Remaining-more}
-use Rattle.bitfields_core.proofs.exact.read_packed_from.Goals as goal
+use Rattle.bitfields_core.proofs.strict_reading.read_packed_from.Goals as goal
 
 pub loop-index-preserved : goal.loop-index-preserved
 loop-index-preserved g c =

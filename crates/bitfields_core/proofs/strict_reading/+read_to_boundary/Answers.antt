@@ -1,7 +1,7 @@
 use Rattle.std.proofs.Common.{rules}
 use Rattle.bitfields_core.proofs.PackingLemmas.{result_err}
 use Rattle.bitfields_core.proofs.ZeroLemmas.{at_boundary, boundary_bit, boundary_bit_err, boundary_rest_err, off_boundary}
-use Rattle.bitfields_core.proofs.exact.+read_to_boundary.Goals as goal
+use Rattle.bitfields_core.proofs.strict_reading.+read_to_boundary.Goals as goal
 
 pub returns-then-byte_aligned : goal.returns-then-byte_aligned
 returns-then-byte_aligned g t c =

@@ -2,8 +2,8 @@ use Rattle.std.proofs.Common.{◌≡◌, ◌≢◌, ℕ, ◌<◌, ◌≤◌, Lis
 use Rattle.bitfields_core.specs.declared.running.Command.{Command}
 use Rattle.bitfields_core.specs.declared.running.NamedOrder.{NamedOrder}
 use Rattle.bitfields_core.specs.Call.{Request, bit_order, command_of, order_of, request_of}
-use Rattle.bitfields_core.proofs.running.call.Goals as goal
-use Rattle.bitfields_core.proofs.running.call.Goals.{in_default-via-then-words-lt3, in_default-via-else-words-lt3+else-words-lt4}
+use Rattle.bitfields_core.proofs.running.run_command.Goals as goal
+use Rattle.bitfields_core.proofs.running.run_command.Goals.{in_default-via-then-words-lt3, in_default-via-else-words-lt3+else-words-lt4}
 
 -- three words, of which the first two name a command and an order
 asked : {S : Type 0} (text : S → List ℕ) (words : List S) {x y z : S} {command : Command}
@@ -26,7 +26,7 @@ returns g c =
     let command = ap command_of (sym c.as_str.ensures.value) ∙ sym c.parse_command.ensures ∙ c.in-Some.is in
     let order = ap order_of (sym c.as_str-2.ensures.value) ∙ sym c.parse_order.ensures ∙ c.in-Some-parse_order.is in
     rw (asked string_bytes c.args.words.now (omega arith) (omega arith) c.command-item.is c.order-item.is
-    c.text-item.is command order) (rw c.as_str-3.ensures.value at c.follow.ensures)
+    c.text-item.is command order) (rw c.as_str-3.ensures.value at c.with_layout.ensures)
 
 -- any number of words but three
 not_asked : {S : Type 0} (text : S → List ℕ) (words : List S) → length words ≢ 3 → request_of (map text words) ≡ None

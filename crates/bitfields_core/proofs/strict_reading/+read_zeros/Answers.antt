@@ -1,7 +1,7 @@
 use Rattle.std.proofs.Common.{◌≡◌, ◌≤◌, ◌+◌, ◌-◌, arith}
 use Rattle.bitfields_core.proofs.PackingLemmas.{result_err}
 use Rattle.bitfields_core.proofs.ZeroLemmas.{zeros, zeros_err, zeros_more, zeros_front_err, zeros_rest_err}
-use Rattle.bitfields_core.proofs.exact.+read_zeros.Goals as goal
+use Rattle.bitfields_core.proofs.strict_reading.+read_zeros.Goals as goal
 
 pub returns-in_err-word : goal.returns-in_err-word
 returns-in_err-word g t c =

@@ -1,6 +1,6 @@
 use Rattle.std.proofs.Common.{map}
 use Rattle.bitfields_core.proofs.ValueLemmas.{IfOk-Fit}
-use Rattle.bitfields_core.proofs.value.values.Goals as goal
+use Rattle.bitfields_core.proofs.values.values.Goals as goal
 
 pub returns-clause-fit : goal.returns-clause-fit
 returns-clause-fit c =

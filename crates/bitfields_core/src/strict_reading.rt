@@ -11,7 +11,7 @@ use crate::fault::{Fault, Reason};
 use crate::field::Field;
 use crate::field_value::FieldValue;
 use crate::unpacking::{room_for, unpack_field};
-use crate::value::push_value;
+use crate::values::push_value;
 use bitstream_io::{BitRead, Error};
 use std::alloc::Global;
 
