@@ -40,7 +40,7 @@ pub struct Slice<'a> {
 }
 
 impl<'a> Slice<'a> {
-    ghost use Rattle.bitstream_order.specs.Slice.{byte_meant, slice_bytes, slice_place};
+    ghost use Rattle.bitstream_order.specs.Slice.{byte_meant, slice_bytes, slice_place, slice_remaining};
 
     /// Returns a source of these bytes, at their start.
     pub fn new(bytes: &'a [u8]) -> Slice<'a>
@@ -53,6 +53,13 @@ impl<'a> Slice<'a> {
             all: bytes,
             past: 0,
         }
+    }
+
+    /// Returns the bytes left.
+    pub fn rest(&self) -> &'a [u8]
+        ensures { slice_remaining self.now ≡ Some result.now }
+    {
+        self.bytes
     }
 
     /// Returns the place in bytes.

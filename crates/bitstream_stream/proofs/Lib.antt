@@ -11,6 +11,7 @@ pub mod LentWalk
 pub mod MemoryBytes
 pub mod MemoryLemmas
 pub mod MemoryRuns
+pub mod MemorySeeks
 pub mod MemoryWindows
 pub mod MemoryWords
 pub mod PlaceLemmas

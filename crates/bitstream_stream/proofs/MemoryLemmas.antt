@@ -12,7 +12,7 @@ use Rattle.bitstream_count.proofs.UnaryLemmas.{begins_unary, begins_others, othe
 use Rattle.bitstream_count.specs.Entry.{ReadEntry, TooFew, Takes, takes, word_front}
 use Rattle.bitstream_number.specs.Word.{Order, word, bits, number}
 use Rattle.bitstream_number.proofs.WordLemmas.{length-bits, bits-append, length-word, number-word}
-use Rattle.bitstream_order.specs.Refusal.{Refusal}
+use Rattle.bitstream_order.specs.Refusal.{Refusal, TrueEnds}
 use Rattle.bitstream_order.specs.Tail.{IsTail}
 use Rattle.bitstream_stream.specs.Reads.{ReaderState, Reads, ReadDone, had_failed, was_done, was_refused, bits_left, failed_reader}
 use Rattle.bitstream_stream.specs.ReadTable.{unsigned_entry, unary_entry, skip_entry, align_entry, whole_bytes_entry}
@@ -21,7 +21,7 @@ use Rattle.bitstream_stream.specs.Reader.{new_reader_state}
 use Rattle.bitstream_stream.proofs.EntryLemmas.{word_front-some, word_front-none, word_needs}
 use Rattle.bitstream_stream.proofs.ReadsLemmas.{Took, Took-too_long, Reads-chain-ok}
 use Rattle.bitstream_stream.proofs.TableLemmas.{unsigned-takes}
-use Rattle.bitstream_stream.specs.Memory.{held, rest_bits, taken_bits, memory_state}
+use Rattle.bitstream_stream.specs.Memory.{held, rest_bits, taken_bits, memory_state, EndsInMemory}
 use Rattle.bitstream_stream.specs.MemoryState.{held_there}
 use Rattle.bitstream_stream.specs.MemorySource.{memory_source}
 use Rattle.bitstream_stream.specs.MemoryTakes.{GoesOn, TakesNumber, FailsAtEnd}
@@ -154,6 +154,10 @@ some_is e = cc
 pub rest_size : {E : Type 0} (o : Order) (r : SliceReader E)
     → length (rest_bits o r.bytes.now r.bit) ≡ 8 * length r.bytes.now - r.bit
 rest_size o r = length-drop r.bit (bits o r.bytes.now) ∙ ap (λ k. k - r.bit) (length-bits o r.bytes.now)
+
+-- it is refused only at a true end
+pub memory_ends : TrueEnds EndsInMemory
+memory_ends refusal h = record { left = h.left; kind = h.kind; told = h.before; few = h.few }
 
 -- a call that has no front of the bits left is refused
 pub refused : {E A : Type 0} (o : Order) (entry : ReadEntry A) (old new : SliceReader E) → old.failed ≡ false

@@ -30,7 +30,7 @@ use Rattle.bitstream_stream.proofs.TableLemmas.{unsigned-takes}
 
 -- ---- the bits behind a place
 
-bits_behind : (o : Order) (k j : ℕ) (xs : List ℕ) → drop j (bits o (drop k xs)) ≡ drop (8 * k + j) (bits o xs)
+pub bits_behind : (o : Order) (k j : ℕ) (xs : List ℕ) → drop j (bits o (drop k xs)) ≡ drop (8 * k + j) (bits o xs)
 bits_behind o zero j xs = ap (λ n. drop n (bits o xs)) (omega arith)
 bits_behind o (suc k) j [] = drop-nil j ∙ sym (drop-nil (8 * suc k + j))
 bits_behind o (suc k) j (x ∷ xs) =
@@ -38,7 +38,7 @@ bits_behind o (suc k) j (x ∷ xs) =
     bits_behind o k j xs ∙ sym (drop-append-add (word o 8 x) (bits o xs) (8 * k + j))
     ∙ ap (λ n. drop n (word o 8 x ++ bits o xs)) size
 
-bits_at : (o : Order) (place : ℕ) (xs : List ℕ) → drop (place % 8) (bits o (drop (place / 8) xs))
+pub bits_at : (o : Order) (place : ℕ) (xs : List ℕ) → drop (place % 8) (bits o (drop (place / 8) xs))
     ≡ drop place (bits o xs)
 bits_at o place xs =
     let whole : 8 * (place / 8) + place % 8 ≡ place = omega arith in
@@ -350,7 +350,7 @@ none_back {K = K} {n = n} {old = old} {mid = mid} {at = at} begins meant fails =
       ended = λ xs told. ap (λ (s : ReaderState). s.bytes) fails ∙ left_at_end K old mid at xs begins told;
     })
 
-start_place : (x : ℕ) → x < 2 ^ 64 → place_of (pos x) ≡ Some x
+pub start_place : (x : ℕ) → x < 2 ^ 64 → place_of (pos x) ≡ Some x
 start_place x below = ap (λ b. if b then Some x else None) (lt-ltb x (2 ^ 64) below)
 
 pub goes_there : {R : Type 0} {K : SeekerOf R} {place : ℕ} {old new : R} {r : Result ℕ Error} → place < 2 ^ 64

@@ -6,6 +6,7 @@ pub mod ByteWriter
 pub mod Carries
 pub mod Groups
 pub mod Memory
+pub mod MemorySeek
 pub mod MemorySource
 pub mod MemoryState
 pub mod MemoryTakes

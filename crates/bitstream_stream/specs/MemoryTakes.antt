@@ -1,5 +1,5 @@
 -- What is taken from bytes in memory.
-use Rattle.std.specs.Prelude.{◌≡◌, ℕ, ◌+◌, ◌*◌, ◌/◌, ◌%◌, ◌^◌, ◌<◌, ◌≤◌, ◌∷◌, true, length, take, drop, Some}
+use Rattle.std.specs.Prelude.{◌≡◌, ℕ, ◌+◌, ◌*◌, ◌/◌, ◌%◌, ◌^◌, ◌<◌, ◌≤◌, ◌∷◌, true, false, length, take, drop, Some}
 use Rattle.bitstream_number.specs.Word.{Order, word}
 use Rattle.bitstream_order.specs.Refusal.{Refusal}
 use Rattle.bitstream_stream.specs.Memory.{held, rest_bits, EndsInMemory}
@@ -12,6 +12,14 @@ pub record GoesOn {E : Type 0} (n : ℕ) (old new : SliceReader E) : Type 0 wher
   pub bytes : new.bytes.now ≡ drop ((old.bit + n) / 8) old.bytes.now
   pub bit : new.bit ≡ (old.bit + n) % 8
   pub failed : new.failed ≡ old.failed
+  pub refusals : new.refusals.list ≡ old.refusals.list
+
+-- a reader stands at the bit at this place of its bytes, and has not failed
+pub record IsAt {E : Type 0} (place : ℕ) (old new : SliceReader E) : Type 0 where
+  pub all : new.all.now ≡ old.all.now
+  pub bytes : new.bytes.now ≡ drop (place / 8) old.all.now
+  pub bit : new.bit ≡ place % 8
+  pub failed : new.failed ≡ false
   pub refusals : new.refusals.list ≡ old.refusals.list
 
 -- the next n bits are the word of v, and are taken

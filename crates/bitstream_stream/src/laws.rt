@@ -2,7 +2,7 @@
 //!
 //! The contract of each function is a law. Its body is empty.
 
-ghost use Rattle.std.specs.Prelude.{◌≡◌, ℕ, ◌+◌, ◌*◌, ◌^◌, ◌<◌, ◌≤◌, ◌++◌, Bool, false, List, [], length, Some, None, Result, Ok};
+ghost use Rattle.std.specs.Prelude.{◌≡◌, ℕ, ◌+◌, ◌*◌, ◌^◌, ◌<◌, ◌≤◌, ◌++◌, Bool, false, List, [], length, drop, Some, None, Result, Ok};
 ghost use Rattle.bitstream_number.specs.Word.{Order, High, Low, bits as bits_of, bytes as bytes_in};
 ghost use Rattle.bitstream_count.specs.Entry.{ReadEntry, WriteEntry, chain, gives};
 ghost use Rattle.bitstream_count.specs.declared.error.Error.{Error};
@@ -11,7 +11,9 @@ ghost use Rattle.std.specs.declared.io.ErrorKind.TheVariants.{WriteZero};
 ghost use Rattle.bitstream_order.specs.Reference.{capacity_of};
 ghost use Rattle.bitstream_order.specs.Refusal.{Refusal, TrueEnds, AllLackRoom, MayRefuseSeek};
 ghost use Rattle.bitstream_order.specs.Slice.{slice_bytes, slice_place, slice_remaining, slice_refuses_seek};
-ghost use Rattle.bitstream_stream.specs.Reads.{Reads, sure_answer};
+ghost use Rattle.bitstream_stream.specs.MemorySeek.{memory_bytes};
+ghost use Rattle.bitstream_stream.specs.MemorySource.{memory_source};
+ghost use Rattle.bitstream_stream.specs.Reads.{Reads, bits_left, sure_answer};
 ghost use Rattle.bitstream_stream.specs.ReadTable.{unsigned_entry, bytes_entry, align_entry};
 ghost use Rattle.bitstream_stream.specs.Seek.{reader_seeker, MaySeek, TellsRest};
 ghost use Rattle.bitstream_stream.specs.Sink.{WriteRefused, WritesAll};
@@ -135,4 +137,14 @@ pub fn slices_refuse_no_seek()
 /// A reader of bytes in memory is refused only at a true end.
 pub fn memory_ends<E: Endianness>()
     ensures { TrueEnds ⟦<SliceReader<'static, E> as BitRead>⟧.source.may }
+{}
+
+/// Wherever a reader of bytes in memory stands, its bytes left are those behind its place, and so are its
+/// bits left, if it has not failed.
+pub fn memory_tells_its_rest<E: Endianness>()
+    ensures bytes { (reader : SliceReader E) → ((memory_source E.order).state reader).bytes
+        ≡ Some (drop ((memory_source E.order).state reader).fetched (memory_bytes reader)) }
+    ensures bits { (reader : SliceReader E) → ((memory_source E.order).state reader).failed ≡ false
+        → bits_left E.order ((memory_source E.order).state reader)
+        ≡ Some (drop ((memory_source E.order).state reader).taken (bits_of E.order (memory_bytes reader))) }
 {}

@@ -7,6 +7,7 @@ pub mod byte_read;
 pub mod byte_reader;
 pub mod byte_write;
 pub mod byte_writer;
+mod capped;
 pub mod check;
 mod grow;
 pub mod laws;

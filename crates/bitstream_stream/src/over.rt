@@ -6,17 +6,20 @@ ghost use Rattle.bitstream_order.specs.Port.{new_port_state};
 use crate::byte_read::ByteRead;
 use crate::byte_reader::ByteReader;
 use crate::byte_writer::ByteWriter;
-use crate::read::BitRead;
 use crate::reader::BitReader;
+use crate::slice_reader::SliceReader;
 use crate::writer::BitWriter;
 use bitstream_order::order::Endianness;
 use bitstream_order::slice::Slice;
 use bitstream_order::slice_mut::SliceMut;
 
 impl<'a, E: Endianness> BitReader<Slice<'a>, E> {
-    ghost use Rattle.bitstream_stream.specs.Reader.{new_reader_state, requests_made, turns_made};
+    ghost use Rattle.bitstream_stream.specs.MemorySeek.{memory_bytes};
+    ghost use Rattle.bitstream_stream.specs.MemorySource.{memory_source};
+    ghost use Rattle.bitstream_stream.specs.Reader.{new_reader_state};
 
-    /// Returns a reader of bytes in memory, as a [`Slice`].
+    /// Returns a reader of bytes in memory, as [`SliceReader::over`] does. A reader of a [`Slice`], whose
+    /// requests are counted, is made by [`new`](BitReader::new).
     ///
     /// # Examples
     ///
@@ -27,12 +30,11 @@ impl<'a, E: Endianness> BitReader<Slice<'a>, E> {
     /// assert_eq!(rt; reader.read_unsigned_var::<u16>(12)?, 0xb1e);
     /// assert!(rt; matches!(reader.read_unsigned_var::<u8>(8), Err(Error::EndOfInput)));
     /// ```
-    pub fn over(bytes: &'a [u8]) -> BitReader<Slice<'a>, E>
-        ensures state { ⟦<Self as BitRead>⟧.source.state result ≡ new_reader_state (Some bytes.now) [] }
-        ensures requests { requests_made result ≡ 0 }
-        ensures turns { turns_made result ≡ 0 }
+    pub fn over(bytes: &'a [u8]) -> SliceReader<'a, E>
+        ensures state { (memory_source E.order).state result ≡ new_reader_state (Some bytes.now) [] }
+        ensures bytes { memory_bytes result ≡ bytes.now }
     {
-        BitReader::new(Slice::new(bytes))
+        SliceReader::over(bytes)
     }
 }
 

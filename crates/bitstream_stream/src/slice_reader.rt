@@ -3,6 +3,7 @@ ghost use Rattle.std.specs.Prelude.{◌≡◌, ◌+◌, ◌*◌, ◌<◌, ◌≤
 ghost use Rattle.bitstream_order.specs.Tail.{IsTail};
 ghost use Rattle.bitstream_stream.specs.Reader.{new_reader_state};
 
+use crate::capped::capped;
 use crate::read::BitRead;
 use bitstream_order::order::Endianness;
 use bitstream_order::refusals::Refusals;
@@ -12,6 +13,8 @@ mod bytes;
 mod moves;
 mod read;
 mod run;
+mod seek;
+mod ways;
 mod window;
 mod words;
 
@@ -19,9 +22,9 @@ mod words;
 ///
 /// It holds no queue: its place is a bit of the bytes. So it tells how many bits were
 /// [read](SliceReader::bits_read) and are [left](SliceReader::bits_left), and the [rest](SliceReader::rest)
-/// of the bytes. It is refused only at the end of the bytes, as [`EndOfInput`](bitstream_count::error::Error);
+/// of the bytes, and [goes](SliceReader::seek_bits) to any of their bits. It is refused only at the end of the bytes, as [`EndOfInput`](bitstream_count::error::Error);
 /// a refused call takes nothing, and the reader has failed: each later call for a value answers
-/// `Failed`.
+/// `Failed`, until a seek makes it read again.
 ///
 /// # Examples
 ///
@@ -51,11 +54,14 @@ pub struct SliceReader<'a, E> {
 
 impl<'a, E: Endianness> SliceReader<'a, E> {
     ghost use Rattle.bitstream_stream.specs.Reads.{bits_left};
+    ghost use Rattle.bitstream_stream.specs.Memory.{taken_bits};
+    ghost use Rattle.bitstream_stream.specs.MemorySeek.{memory_bytes};
     ghost use Rattle.bitstream_stream.specs.MemorySource.{memory_source};
 
     /// Returns a reader of these bytes, at their start.
     pub fn over(bytes: &'a [u8]) -> SliceReader<'a, E>
-        ensures { (memory_source E.order).state result ≡ new_reader_state (Some bytes.now) [] }
+        ensures state { (memory_source E.order).state result ≡ new_reader_state (Some bytes.now) [] }
+        ensures bytes { memory_bytes result ≡ bytes.now }
     {
         SliceReader {
             all: bytes,
@@ -67,18 +73,20 @@ impl<'a, E: Endianness> SliceReader<'a, E> {
         }
     }
 
+    /// Returns how many bits were taken.
+    fn taken(&self) -> u128
+        ensures { result ≡ taken_bits self.now.all.now self.now.bytes.now self.now.bit }
+    {
+        8 * (self.all.len() - self.bytes.len()) as u128 + self.bit as u128
+    }
+
     /// Returns how many bits were read: at most 2^64 - 1, and exactly that number if it is less.
     pub fn bits_read(&self) -> u64
         ensures most { result ≤ ((memory_source E.order).state self.now).taken }
         ensures exact { ((memory_source E.order).state self.now).taken < 2 ^ 64
             → result ≡ ((memory_source E.order).state self.now).taken }
     {
-        let taken = 8 * (self.all.len() - self.bytes.len()) as u128 + self.bit as u128;
-        if taken < 1 << 64 {
-            taken as u64
-        } else {
-            u64::MAX
-        }
+        capped(self.taken())
     }
 
     /// Returns how many bits are left: at most 2^64 - 1, and exactly that number if it is less. Of a
@@ -91,12 +99,7 @@ impl<'a, E: Endianness> SliceReader<'a, E> {
             → IfSome (bits_left E.order ((memory_source E.order).state self.now))
             (λ left. length left < 2 ^ 64 → result ≡ length left) }
     {
-        let left = 8 * self.bytes.len() as u128 - self.bit as u128;
-        if left < 1 << 64 {
-            left as u64
-        } else {
-            u64::MAX
-        }
+        capped(8 * self.bytes.len() as u128 - self.bit as u128)
     }
 
     /// Returns whether no bit is left. Of a reader that has failed, whether none was left before.

@@ -18,6 +18,7 @@ use bitstream_order::sign::complement;
 use bitstream_order::target::Target;
 use std::marker::PhantomData;
 
+mod memory;
 mod queue;
 mod ways;
 
