@@ -51,7 +51,8 @@ pub use Rattle.std.proofs.Common.{◌≡◌, ◌∙◌, ℕ, ◌+◌, ◌-◌, �
 -- a one that is shifted left: 1 * 2 ^ n % 2 ^ size ≡ 2 ^ n
 pub use Rattle.std.proofs.lemmas.Nat.{one_shl}
 pub use Rattle.bitstream_number.specs.Word.{Order, High, Low, bits, number}
-pub use Rattle.bitstream_order.proofs.SliceLemmas.{slice_ends}
+-- the reader that `over` makes is refused only at a true end (`SliceEnds` has the same of a reader over a `Slice`)
+pub use Rattle.bitstream_stream.proofs.MemoryLemmas.{memory_ends as slice_ends}
 pub use Rattle.bitstream_stream.specs.ReadTable.{unsigned_entry, signed_entry}
 pub use Rattle.bitstream_stream.proofs.ReadsLemmas.{Reads-chain-ok, Reads-gives, exit}
 -- the calls of a new writer to bytes in memory with room for their bits, and an alignment behind them, answer `Ok`

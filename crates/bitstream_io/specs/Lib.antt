@@ -35,6 +35,8 @@ pub use Rattle.bitstream_stream.specs.ByteReads
 pub use Rattle.bitstream_stream.specs.ByteSink
 pub use Rattle.bitstream_stream.specs.ByteWriter
 pub use Rattle.bitstream_stream.specs.Carries
+pub use Rattle.bitstream_stream.specs.MemorySeek
+pub use Rattle.bitstream_stream.specs.MemorySource
 pub use Rattle.bitstream_stream.specs.Place
 pub use Rattle.bitstream_stream.specs.ReadTable
 pub use Rattle.bitstream_stream.specs.Reader
