@@ -22,9 +22,11 @@ mod words;
 ///
 /// It holds no queue: its place is a bit of the bytes. So it tells how many bits were
 /// [read](SliceReader::bits_read) and are [left](SliceReader::bits_left), and the [rest](SliceReader::rest)
-/// of the bytes, and [goes](SliceReader::seek_bits) to any of their bits. It is refused only at the end of the bytes, as [`EndOfInput`](bitstream_count::error::Error);
-/// a refused call takes nothing, and the reader has failed: each later call for a value answers
-/// `Failed`, until a seek makes it read again.
+/// of the bytes, and [goes](SliceReader::seek_bits) to any of their bits. It is refused only at the end of
+/// the bytes, as [`EndOfInput`](bitstream_count::error::Error). A refused call takes nothing, but for the
+/// bits up to a whole byte, which [take_bytes](SliceReader::take_bytes) and [part](SliceReader::part) drop
+/// first. The reader has failed then: each later call for a value answers `Failed`, until a seek makes
+/// it read again.
 ///
 /// # Examples
 ///
