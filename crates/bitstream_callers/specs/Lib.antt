@@ -13,6 +13,7 @@ pub mod Sensor
 pub mod Sps
 pub mod StreamInfo
 pub mod StreamInfoBlock
+pub mod TcpOptions
 pub mod Telemetry
 pub mod VorbisComment
 pub mod VorbisTexts

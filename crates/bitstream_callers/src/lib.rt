@@ -19,5 +19,6 @@ pub mod sensor;
 pub mod sps;
 pub mod stream_info;
 pub mod stream_info_block;
+pub mod tcp_options;
 pub mod telemetry;
 pub mod vorbis_comment;

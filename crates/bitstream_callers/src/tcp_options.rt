@@ -1,0 +1,76 @@
+//! The options of a TCP header, by a parser that holds its reader beside what it fills.
+ghost use Rattle.bitstream_io.specs.Callers.{Reads, High, memory_source};
+ghost use Rattle.bitstream_callers.specs.TcpOptions.{option_entry};
+
+use bitstream_io::{BE, BitRead, BitReadExt, Bits, Error, SliceReader};
+
+/// What the options say that are known here.
+#[derive(Clone, Copy, Debug, PartialEq)]
+pub struct TcpOptions {
+    /// The most bytes of a segment.
+    pub maximum_segment: Option<u16>,
+    /// By how many bits the window is shifted.
+    pub window_scale: Option<u8>,
+    /// Whether selective acknowledgements are permitted.
+    pub selective: bool,
+}
+
+/// Goes from option to option.
+#[derive(Drop)]
+struct Parser<'a, 'b> {
+    reader: SliceReader<'a, BE>,
+    options: &'b mut TcpOptions,
+}
+
+impl Parser<'_, '_> {
+    /// Reads an option, and tells whether another one may follow. One of a length below 2 is the last.
+    fn next(&mut self) -> Result<bool, Error>
+        ensures { Reads (memory_source High) option_entry self.old.reader result self.new.reader }
+    {
+        let kind = self.reader.read::<Bits<8>, u8>()?;
+        if kind <= 1 {
+            return Ok(kind == 1);
+        }
+        let length = self.reader.read::<Bits<8>, u8>()?;
+        if length <= 1 {
+            return Ok(false);
+        }
+        let mut data = self.reader.part((length - 2) as usize)?;
+        note(self.options, kind, &mut data);
+        Ok(true)
+    }
+}
+
+/// Notes what the data of an option say. Data that are too short say nothing.
+fn note(options: &mut TcpOptions, kind: u8, data: &mut SliceReader<BE>) {
+    match kind {
+        2 => options.maximum_segment = data.read::<Bits<16>, u16>().ok(),
+        3 => options.window_scale = data.read::<Bits<8>, u8>().ok(),
+        4 => options.selective = data.is_at_end(),
+        _ => {}
+    }
+}
+
+/// Reads options up to the last one. A header has 40 bytes for them.
+fn read_options(parser: &mut Parser) -> Result<(), Error> {
+    for _option in 0..40u32 {
+        if parser.reader.is_at_end() || !parser.next()? {
+            return Ok(());
+        }
+    }
+    Ok(())
+}
+
+/// Notes what the options of a header say, and returns the bytes behind the last one.
+///
+/// # Errors
+///
+/// `EndOfInput` if an option is longer than the bytes left.
+pub fn parse_options<'a>(bytes: &'a [u8], options: &mut TcpOptions) -> Result<&'a [u8], Error> {
+    let mut parser = Parser {
+        reader: SliceReader::over(bytes),
+        options,
+    };
+    read_options(&mut parser)?;
+    Ok(parser.reader.rest())
+}
