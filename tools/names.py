@@ -62,6 +62,7 @@ Rattle.bitstream_io.proofs.CallerLemmas: GoesBack Finds Packs inl inr is_error o
     packs-is packs-room packs-whole
     non_zero_u8-again non_zero_u16-again non_zero_u32-again non_zero_u64-again non_zero_u128-again
     option_u8-again option_u16-again option_u32-again option_u64-again option_u128-again
+Rattle.bitstream_io.proofs.SliceLemmas: new_answer
 Rattle.bitstream_io.proofs.WriteParts: all_none
 """
 )

@@ -76,7 +76,8 @@ class Proofs:
         over = "slice_ends c.over.ensures.state refl c.read.ensures"
         path = f"{self.type}/parse"
         out = [f"use {self.goals}.{self.type}.parse.Goals as goal", ""] + (self.finds() if self.sized else [])
-        answers = [("answer", "c", f"own_answered {over}")] * self.own
+        answer = f"own_answered {over}" if self.own else "new_answer slice_ends _ _ c.over.ensures.state c.read.ensures"
+        answers = [("answer", "c", answer)]
         answers += self.there(over) if self.sized else []
         back, is_ = f"c.{m}_goes_back.ensures {o} value 0 0 more fits", "is"
         if self.sized:

@@ -1,6 +1,10 @@
 use Rattle.bitstream_io.proofs.CallerLemmas.{◌∙◌, High, ap, front_answered, refl, slice_ends}
+use Rattle.bitstream_io.proofs.SliceLemmas.{new_answer}
 use Rattle.bitstream_callers.specs.Sensor.{measurement_entry}
 use Rattle.bitstream_callers.proofs.sensor.Measurement.parse.Goals as goal
+
+pub returns-clause-answer : goal.returns-clause-answer
+returns-clause-answer c = new_answer slice_ends _ _ c.over.ensures.state c.read.ensures
 
 pub returns-clause-back : goal.returns-clause-back
 returns-clause-back c = λ measurement more fits is.

@@ -2,6 +2,7 @@ use Rattle.bitstream_callers.specs.StreamInfo.{stream_info_entry, stream_info_at
 use Rattle.bitstream_callers.proofs.StreamInfoLemmas.{stream_info_packs, told}
 use Rattle.std.proofs.Common.{◌++◌, ◌∙◌, ℕ, List, Ok, refl, ap, sym, arith}
 use Rattle.bitstream_io.proofs.CallerLemmas.{Finds, fields_there, fields_short, front_answered, slice_ends, unsigned-finds, non_zero-finds, gives-finds, packs-whole}
+use Rattle.bitstream_io.proofs.SliceLemmas.{new_answer}
 use Rattle.bitstream_io.specs.Callers.{High, bits, non_zero_u8}
 use Rattle.bitstream_callers.proofs.stream_info.StreamInfo.parse.Goals as goal
 
@@ -11,6 +12,9 @@ found packet = unsigned-finds _ _ 16 144 _ High 16 _ refl refl (unsigned-finds _
     (unsigned-finds _ _ 24 112 _ High 32 _ refl refl (unsigned-finds _ _ 24 88 _ High 32 _ refl refl (unsigned-finds _ _
     20 64 _ High 32 _ refl refl (non_zero-finds _ _ 3 44 _ non_zero_u8 High 8 _ refl refl (non_zero-finds _ _ 5 41 _
     non_zero_u8 High 8 _ refl refl (unsigned-finds _ _ 36 36 _ High 64 _ refl refl (gives-finds _ _ _))))))))
+
+pub returns-clause-answer : goal.returns-clause-answer
+returns-clause-answer c = new_answer slice_ends _ _ c.over.ensures.state c.read.ensures
 
 pub returns-clause-there : goal.returns-clause-there
 returns-clause-there c = λ enough. fields_there slice_ends c.over.ensures.state refl c.read.ensures (found _) (omega
