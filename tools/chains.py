@@ -18,6 +18,7 @@ READS = {name: "read" for name in """read read_var read_counted read_bit read_un
     read_unsigned read_unsigned_var read_unsigned_counted read_signed read_signed_var read_signed_counted
     read_unsigned_vbr read_unsigned_vbr_any byte_align""".split()}
 READS |= {"read_const": "const", "parse": "part", "parse_with": "part", "parse_using": "part"}
+READS |= {"read_to_vec": "growing"}
 WRITES = {name: "call" for name in """write_bit write_const write_from write_bytes write_unary write_unsigned
     write_unsigned_var write_unsigned_counted write_signed write_signed_var write_signed_counted write_unsigned_vbr pad
     byte_align""".split()}
@@ -26,7 +27,7 @@ WRITES |= {"build": "part", "build_with": "part", "build_using": "part"}
 # Of these the value may be of a signed type.
 OF_EITHER_SIGN = re.compile(r"(read|write)(_signed)?(_var|_counted)?$")
 # These have no type that decides anything.
-UNTYPED = re.compile(r"(read|write)_(bit|const|unary|unsigned.*|bytes)$|read_to_bytes$|skip$|pad$|byte_align$")
+UNTYPED = re.compile(r"(read|write)_(bit|const|unary|unsigned.*|bytes)$|read_to_(bytes|vec)$|skip$|pad$|byte_align$")
 
 # A constant that stands in no entry of the contract is a read by itself there (`alone`), which gives nothing.
 # What stands for a call in a term, by the kind of the contract and the form of the call: a lemma, as many blanks as the
@@ -48,6 +49,15 @@ NEXT = {
         "signed": f"then_own_signed 4 FACT refl refl {READ_FITS}",
         "signed read of": f"next_own_signed_part 1 WIDE FACT {READ_FITS}",
         "part": "then_part 1 FACT refl refl",
+    },
+    "GrowsOwn": {
+        "read": "go_grown 1 (grown FACT)",
+        "growing": "go_grown 1 (by_reads FACT)",
+        "const": "next_grown_const 2 FACT",
+        "signed": f"next_grown_signed 1 WIDE FACT {READ_FITS}",
+        "signed read of": f"next_grown_signed 1 WIDE FACT {READ_FITS}",
+        "part": "part_go 1 (if_grown false FACT)",
+        "growing part": "part_go 1 FACT",
     },
     "WritesAll": {
         "call": "next_call 7 FACT",
@@ -72,6 +82,14 @@ STOP = {
         "part": "end_part 1 FACT refl refl RESIDUAL",
         "signed read of": "exit_own_read 1 RESIDUAL FACT",
     },
+    "GrowsOwn": {
+        "read": "stop_grown 1 (grown FACT) RESIDUAL",
+        "growing": "stop_grown 1 (by_reads FACT) RESIDUAL",
+        "const": "exit_grown_const 2 RESIDUAL FACT refl",
+        "signed read of": "stop_grown 1 (grown FACT) RESIDUAL",
+        "part": "part_stop 1 (if_grown false FACT) (is_error 2 RESIDUAL)",
+        "growing part": "part_stop 1 FACT (is_error 2 RESIDUAL)",
+    },
     "WritesAll": {
         "call": "stop_call 7 RESIDUAL FACT",
         "value": "stop_write 7 RESIDUAL FACT",
@@ -85,6 +103,7 @@ STOP = {
 LAST = {
     "Reads": {"read": "FACT"},
     "ReadsOwn": {},
+    "GrowsOwn": {},
     "WritesAll": {
         "call": "all_one 5 FACT",
         "value": "FACT",
@@ -93,22 +112,28 @@ LAST = {
     },
 }
 # Of a test of a `bool`: what is read if it holds, and if not.
-TESTS = {"Reads": ("if_read 3", "else_read 3"), "ReadsOwn": ("if_own 3", "else_own 3")}
+TESTS = {
+    "Reads": ("if_read 3", "else_read 3"),
+    "ReadsOwn": ("if_own 3", "else_own 3"),
+    "GrowsOwn": ("if_growing 3", "else_growing 3"),
+}
 # Calls of an `Option` that may stand among the arguments; a `len` of a slice is known as it stands.
 PURE = ("is_some", "is_none", "number", "len")
 # And of an `Ok` behind the last call.
-END = {"Reads": "Reads-gives 2", "ReadsOwn": "own_end 2", "WritesAll": "all_none 2"}
+END = {"Reads": "Reads-gives 2", "ReadsOwn": "own_end 2", "GrowsOwn": "grown_end 2", "WritesAll": "all_none 2"}
 # A part that has no error of its own, made into plain reads or writes.
 PLAINLY = {"Reads": "(read_plainly 5 FACT)", "WritesAll": "(written_plainly 5 FACT)"}
 # Where the lemmas stand, in the order in which they are imported, and the shorter names of some.
 CALLER = "Rattle.bitstream_io.proofs."
 LEMMAS = {
     "borrow.Author.Rules": "sfits_of",
-    "Rattle.std.proofs.Common": "refl w8 w16 w32 w64",
+    "Rattle.std.proofs.Common": "refl false w8 w16 w32 w64",
     "Rattle.std.specs.Int": "w128",
     CALLER + "CallerLemmas": "next_signed_part next_own_signed_part if_read else_read"
     " const_alone next_const exit_const next_own_read next_own_const exit_own_read"
-    " exit_own_const",
+    " exit_own_const next_grown_signed next_grown_const exit_grown_const if_growing else_growing",
+    CALLER + "GrowsLemmas": "go_grown stop_grown grown if_grown part_go part_stop grown_end",
+    "Rattle.bitstream_io.specs.Grows": "by_reads",
     CALLER + "OwnLemmas": "is_error plainly_read plainly_written read_plainly written_plainly",
     CALLER + "OwnSteps": "if_own else_own then_own_signed then_part end_part own_end",
     CALLER + "ReadSteps": "next_signed_read",
@@ -327,10 +352,20 @@ class Body:
         args = self.list_of_values()
         self.rewrites[len(self.calls)] = self.pure[before:]
         typed = said or list(wanted) or self.type_of(args)
+        if form == "part" and self.kind == "GrowsOwn" and self.grows(typed, line):
+            form = "growing part"
         wide = self.width(word, typed, line)
         if form == "value" and typed[:1] == ["["]:
             form = "list"
         return self.add(form, "reads" if self.kind != "WritesAll" else "writes", word, name, wide, line)
+
+    def grows(self, typed, line):
+        """Tells whether a part of a type of the crate's own asks for memory."""
+        found = [it for it in self.functions if it.name == "from_reader" and [it.owner] == list(typed)]
+        said = {growing(it) for it in found}
+        if len(said) != 1:
+            unknown(line, f"whether `{''.join(typed)}` asks for memory")
+        return said.pop()
 
     def width(self, word, typed, line):
         """Gives the width of a call's value if it is of a signed type."""
@@ -364,11 +399,12 @@ class Body:
             unknown(line, f"the contract of `{word}`")
         kind, label = kinds.pop()
         form = {("Reads", "Reads"): "read", ("ReadsOwn", "Reads"): "read", ("ReadsOwn", "ReadsOwn"): "part"}
+        form |= {("GrowsOwn", "Reads"): "read", ("GrowsOwn", "ReadsOwn"): "part", ("GrowsOwn", "GrowsOwn"): "growing part"}
         form |= {("WritesAll", "WritesAll"): "list"}
         if (self.kind, kind) not in form:
             unknown(line, f"the contract of `{word}`")
         wide, form = self.signed_of(found[0], args), form[self.kind, kind]
-        if wide and form == "part":
+        if wide and form.endswith("part"):
             unknown(line, f"the signed number of `{word}`")
         return self.add(f"signed {form} of {wide}" if wide else form, label, word, name, "", line)
 
@@ -397,6 +433,11 @@ class Body:
         self.calls[last] = call._replace(way="?", label=call.label + (f"-{count}" if count > 1 else ""))
 
 
+def growing(function):
+    """Tells whether the type whose `from_reader` this is says that a read of it asks for memory."""
+    return function.ghosts.get("grows") == ["true"]
+
+
 def clause_of(function):
     """Gives the kind of a function's contract, and the clause's name, or None."""
     ensured = [(it[2][0], it[1]) for it in function.clauses if it[0] == "ensures" and it[2]]
@@ -415,7 +456,7 @@ def contract(function):
     ensured = [it for it in function.clauses if it[0] == "ensures"]
     found = clause_of(function)
     if not found or len(ensured) != 1:
-        unknown(function.line, "a contract that is not one clause, `Reads`, `ReadsOwn` or `WritesAll`")
+        unknown(function.line, "a contract that is not one clause, `Reads`, `ReadsOwn`, `GrowsOwn` or `WritesAll`")
     said = ensured[0][2]
     if said[-7:] != [said[-3], ".", "old", "result", said[-3], ".", "new"]:
         unknown(function.line, "a contract that does not end in `READER.old result READER.new`")
@@ -424,6 +465,10 @@ def contract(function):
 
 def contract_of_trait(function, reads):
     plain = function.ghosts.get("becomes") == ["same_error"] and "answers" not in function.ghosts
+    if reads and growing(function):
+        if "plain_reads" in function.ghosts.get("reads", []):
+            unknown(function.line, "`plain_reads` of a type that asks for memory")
+        return "GrowsOwn", list(function.params)[0], "reads", ""
     if reads:
         plain = plain and "plain_reads" in function.ghosts.get("reads", [])
         around = "plainly_read" if plain else ""

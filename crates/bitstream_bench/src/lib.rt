@@ -21,6 +21,8 @@ mod examples;
 #[cfg(test)]
 mod faults;
 #[cfg(test)]
+mod flac_example;
+#[cfg(test)]
 mod inherited;
 #[cfg(test)]
 mod lent;

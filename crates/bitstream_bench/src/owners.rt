@@ -1,11 +1,15 @@
-//! Types that own memory: the comment of a FLAC file, and a parameter set with a list of parts. That they are not
-//! always refused memory no clause tells; `.ci/memory` refuses each of their growths.
+//! Types that own memory: the comment of a FLAC file and its picture, and a parameter set with a list of parts. That
+//! they are not always refused memory no clause tells; `.ci/memory` refuses each growth of a comment.
 use crate::asserts::{holds, same};
 use bitstream_callers::block_header::BlockHeader;
 use bitstream_callers::parameter_set::{OperatingPoint, ParameterSet};
+use bitstream_callers::picture::{Picture, PictureSize};
 use bitstream_callers::stream_info_block::StreamInfoBlock;
 use bitstream_callers::vorbis_comment::{CommentError, Text, VorbisComment};
-use bitstream_io::{BE, BitRead, BitReadExt, BitReader, ByteRead, ByteReadExt, ByteReader, Error};
+use bitstream_io::{
+    BE, BitRead, BitReadExt, BitReader, BitWriteExt, BitWriter, ByteRead, ByteReadExt, ByteReader,
+    Error, ToBitStream,
+};
 use std::alloc::Global;
 
 /// A file that `flac` 1.4.2 wrote with `-T TITLE=Prélude -T 'ARTIST=J. S. Bach' -T DATE=1717`, up to its frame.
@@ -114,4 +118,45 @@ fn a_parameter_set_is_read(rt: HostRuntime) {
     let set = BitReader::<_, BE>::over(&bytes).parse_using::<ParameterSet>(rt.alloc());
     let short = BitReader::<_, BE>::over(&bytes[..5]).parse_using::<ParameterSet>(rt.alloc());
     holds(&rt, is_read(set) & matches!(short, Err(Error::EndOfInput)));
+}
+
+/// The block of a picture, after the format's description: a front cover of 16 times 32 pixels.
+const PICTURE: &[u8] =
+    b"\0\0\0\x03\0\0\0\x09image/png\0\0\0\x05Cover\0\0\0\x10\0\0\0\x20\0\0\0\x18\0\0\0\0\0\0\0\x04\x89PNG";
+
+/// Reads the picture that bytes begin with.
+fn picture(alloc: Global, bytes: &[u8]) -> Result<Picture, Error> {
+    BitReader::<_, BE>::over(bytes).parse_using(alloc)
+}
+
+/// Whether a picture is that of the block, and goes back to its bytes.
+fn is_that_picture(picture: &Picture) -> bool {
+    let mut built = [0; 50];
+    let written = BitWriter::<_, BE>::over(&mut built).build(picture).is_ok();
+    (picture.kind == 3)
+        & (picture.media.bytes.as_slice() == b"image/png".as_slice())
+        & (picture.description.bytes.as_slice() == b"Cover".as_slice())
+        & (picture.size
+            == PictureSize {
+                width: 16,
+                height: 32,
+                depth: 24,
+                colors: 0,
+            })
+        & (picture.image.bytes.as_slice() == b"\x89PNG".as_slice())
+        & written
+        & (built.as_slice() == PICTURE)
+        & matches!(picture.bits::<u32>(), Ok(400))
+}
+
+#[test]
+fn a_picture_goes_both_ways(rt: HostRuntime) {
+    match picture(rt.alloc(), PICTURE) {
+        Ok(picture) => holds(&rt, is_that_picture(&picture)),
+        Err(_) => holds(&rt, false),
+    }
+    for len in 0..PICTURE.len() {
+        let ended = matches!(picture(rt.alloc(), &PICTURE[..len]), Err(Error::EndOfInput));
+        same(&rt, (len, ended), (len, true));
+    }
 }

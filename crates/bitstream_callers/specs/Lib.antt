@@ -1,9 +1,11 @@
 pub mod Adts
 pub mod BlockHeader
+pub mod FlacComment
 pub mod Golomb
 pub mod Header
 pub mod PacketHeader
 pub mod PaddedPort
+pub mod Picture
 pub mod PrimaryHeader
 pub mod ParameterSet
 pub mod Parameters

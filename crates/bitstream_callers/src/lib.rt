@@ -6,11 +6,13 @@
 
 pub mod adts;
 pub mod block_header;
+pub mod flac_comment;
 pub mod golomb;
 pub mod header;
 pub mod packet_header;
 pub mod padded_port;
 pub mod parameter_set;
+pub mod picture;
 pub mod plain;
 pub mod primary_header;
 pub mod reading;

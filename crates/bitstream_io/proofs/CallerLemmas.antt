@@ -38,6 +38,7 @@ use Rattle.bitstream_value.specs.Grows.{GrowsOwn}
 use Rattle.bitstream_value.specs.Own.{OwnAnswer, ReadsOwn, WritesOwn, part_then, same_error}
 use Rattle.bitstream_value.proofs.ArrayLemmas.{items-start, items-stop as items-ended, items-suc}
 use Rattle.bitstream_value.proofs.CheckedLemmas.{signed-holds, signed-on_failed}
+use Rattle.bitstream_value.proofs.ByteSteps.{bytes_in, number-bytes}
 use Rattle.bitstream_value.proofs.GrowsLemmas.{own_grown-answer}
 use Rattle.bitstream_value.proofs.OwnSteps.{then_own_signed, then_own_call, then_own_write, then_own_signed_call, then_own_signed_write, own_written}
 use Rattle.bitstream_value.proofs.ReadSteps.{next-finds, width_of}
@@ -45,6 +46,7 @@ use Rattle.bitstream_value.proofs.SureLemmas.{items-word, word_short}
 use Rattle.bitstream_value.proofs.WriteSteps.{next_call, next_write, stop_call, stop_write, signed_call, signed_value}
 use Rattle.bitstream_io.specs.Optional.{optional, optional_size, optional_writes}
 use Rattle.bitstream_io.specs.ReadBack.{IsReadAs}
+use Rattle.bitstream_io.specs.Steps.{bytes_number}
 use Rattle.bitstream_io.proofs.CallsBack.{then-read, mapped-read, value_in-fits, const-read, const-back}
 -- words of std
 pub use Rattle.std.proofs.Common.{◌≡◌, ◌∙◌, ℕ, ◌+◌, ◌-◌, ◌^◌, ◌<◌, List, [], ◌∷◌, ◌++◌, Some, Ok, ap, arith, inl, inr, refl, rules, ⊎_elim}
@@ -88,6 +90,18 @@ sound failed read = (ok_front failed read).failed
 pub in_range : {R : Type 0} {K : BitSource R} {s t : R} (o : Order) (size n : ℕ) (x : ℤ)
     → Reads K (signed_entry o size n) s (Ok x) t → FitsSignedBits n x
 in_range o size n x read = (signed-holds o size n read).1
+
+-- a number of n bytes in an order of its own, as `read_as_to` reads it, and a refused one
+module _ {R : Type 0} {K : BitSource R} (o p : Order) (n : ℕ) {s t : R} where
+  pub bytes_number-read : {v : ℕ} → Reads K (bytes_entry o n) s (Ok (bytes_in p n v)) t → v < 2 ^ (8 * n)
+      → Reads K (bytes_number o p n) s (Ok v) t
+  bytes_number-read {v = v} h fits =
+      subst (λ x. Reads K (bytes_number o p n) s (Ok x) t) (number-bytes p n v fits)
+      (Reads-chain-ok _ _ h (Reads-gives _ t))
+
+  pub bytes_number-stops : {x : Error} → Reads K (bytes_entry o n) s (Err x) t
+      → Reads K (bytes_number o p n) s (Err x) t
+  bytes_number-stops h = Reads-chain-err _ _ h
 
 -- an error of an answer that a clause sees by a view
 pub seen_is_err : {A B : Type 0} {x : Error} (view : A → B) (r : Result A Error) → seen view r ≡ Err x → r ≡ Err x
@@ -246,6 +260,51 @@ module _ {R B E : Type 0} {K : BitSource R} {becomes : Error → E → Type 0} {
         → flow ≡ Break x → IsErrAnd r (λ y. y ≡ x.0) → f false ≡ gives (Err err) → ReadsOwn K becomes (chain e f) s r t
     end_own_const h p q k other =
         exit_own_const k (subst (λ y. ReadsConst K becomes e err s y t) (p ∙ ap result_from_control_flow q) h) other
+
+-- ---- the same in a function that asks for memory
+
+-- a number of a signed type, which stands behind the read as what its bits say
+pub next_grown_signed : {R B E : Type 0} {K : BitSource R} {becomes : Error → E → Type 0} {e : ReadEntry ℤ}
+    (f : ℤ → ReadEntry (Result B E)) (w : Width) {r : Result B E} {s t z : R} {x : ℤ} → Reads K e s (Ok x) t → SFits w x
+    → GrowsOwn K becomes (f (to_z w (of_z w x))) t r z → GrowsOwn K becomes (chain e f) s r z
+next_grown_signed {K = K} {becomes = becomes} f w {r = r} {t = t} {z = z} {x = x} h fits k =
+    go_grown f (grown h) (subst (λ y. GrowsOwn K becomes (f y) t r z) (to_z-of_z w x fits) k)
+
+-- what is read if a condition holds, and if not
+module _ {R A E : Type 0} {K : BitSource R} {becomes : Error → E → Type 0} (x y : ReadEntry (Result A E))
+    {r : Result A E} {s t : R} where
+  pub if_growing : (b : Bool) → b ≡ true → GrowsOwn K becomes x s r t → GrowsOwn K becomes (if b then x else y) s r t
+  if_growing true is h = h
+  if_growing false is h = cc
+
+  pub else_growing : (b : Bool) → b ≡ false → GrowsOwn K becomes y s r t → GrowsOwn K becomes (if b then x else y) s r t
+  else_growing true is h = cc
+  else_growing false is h = h
+
+-- a constant that was the right one, or was another
+module _ {R B E : Type 0} {K : BitSource R} {becomes : Error → E → Type 0} {e : ReadEntry Bool}
+    (f : Bool → ReadEntry (Result B E)) (err : E) {r : Result B E} {s t : R} where
+  grown_const_goes : {z : R} (plain : Result Bool Error) → Reads K e s plain t → ConstAnswer becomes err plain (Ok tt)
+      → GrowsOwn K becomes (f true) t r z → GrowsOwn K becomes (chain e f) s r z
+  grown_const_goes (Ok true) h is k = go_grown f (grown h) k
+  grown_const_goes (Ok false) h is k = cc
+  grown_const_goes (Err x) h is k = absurd is
+
+  grown_const_stops : (x : E) (plain : Result Bool Error) → Reads K e s plain t → ConstAnswer becomes err plain (Err x)
+      → IsErrAnd r (λ y. y ≡ x) → f false ≡ gives (Err err) → GrowsOwn K becomes (chain e f) s r t
+  grown_const_stops x (Ok true) h is k other = cc
+  grown_const_stops x (Ok false) h is k other =
+      let same : x ≡ err = cc in
+      rw (is_error r x k, same) (go_grown f (grown h) (rw other (grown_end (Err err) t)))
+  grown_const_stops x (Err y) h is k other = rw (is_error r x k) (stop_grown f (grown h) is)
+
+  pub next_grown_const : {z : R} → ReadsConst K becomes e err s (Ok tt) t → GrowsOwn K becomes (f true) t r z
+      → GrowsOwn K becomes (chain e f) s r z
+  next_grown_const h k = grown_const_goes h.plain h.reads h.answer k
+
+  pub exit_grown_const : {x : E} → IsErrAnd r (λ y. y ≡ x) → ReadsConst K becomes e err s (Err x) t
+      → f false ≡ gives (Err err) → GrowsOwn K becomes (chain e f) s r t
+  exit_grown_const {x = x} k h other = grown_const_stops x h.plain h.reads h.answer k other
 
 -- writes in a function with errors of its own, listed: a call or a value that was written, and one whose error a `?`
 -- returned

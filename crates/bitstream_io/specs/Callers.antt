@@ -20,4 +20,4 @@ pub use Rattle.bitstream_value.specs.Tree.{Tree, leaf, node, IsPath, path_entry,
 pub use Rattle.bitstream_io.specs.Loop.{ItemsRead, ItemsWritten}
 pub use Rattle.bitstream_io.specs.NonZeroTypes.{non_zero_u8, non_zero_u16, non_zero_u32, non_zero_u64, non_zero_u128, non_zero_u8_entry, non_zero_u16_entry, non_zero_u32_entry, non_zero_u64_entry, non_zero_u128_entry}
 pub use Rattle.bitstream_io.specs.Optional.{optional, optional_writes, optional_size}
-pub use Rattle.bitstream_io.specs.Steps.{◌>>=◌}
+pub use Rattle.bitstream_io.specs.Steps.{◌>>=◌, bytes_number}

@@ -1,9 +1,10 @@
-use Rattle.std.proofs.Common.{◌≡◌, ◌<◌, Bool, true, false, List, ℕ, refl, ap, subst}
+use Rattle.std.proofs.Common.{◌≡◌, ◌<◌, true, false, refl, ap, subst}
 use Rattle.std.specs.Str.{IsUtf8, is_utf8}
 use Rattle.std.specs.String.{string_bytes}
-use Rattle.std.proofs.lemmas.Str.{IsUtf8-string_bytes, is_utf8-from_IsUtf8, IsUtf8-from_is_utf8}
+use Rattle.std.proofs.lemmas.Str.{IsUtf8-string_bytes, is_utf8-from_IsUtf8}
 use Rattle.bitstream_io.specs.Word.{Low}
 use Rattle.bitstream_io.proofs.ByteGrowsLemmas.{few_growing_byte_reads, then_grown_number, then_growing_bytes, end_growing_bytes, grown_bytes_is}
+use Rattle.bitstream_callers.proofs.VorbisLemmas.{no_text}
 use Rattle.bitstream_callers.proofs.vorbis_comment.TextFromByteStreamUsing.from_reader.Goals as goal
 
 pub returns-in_err-size : goal.returns-in_err-size
@@ -31,10 +32,6 @@ returns-in-Ok g c =
           (then_growing_bytes _ _ c.read_to_vec.ensures.reads c.branch-bytes.ensures c.in_ok-bytes.is
           (grown_bytes_is (rw (utf8, is) refl)));
     }
-
-no_text : (bytes : List ℕ) → (b : Bool) → is_utf8 bytes ≡ b → (IsUtf8 bytes → ⊥) → is_utf8 bytes ≡ false
-no_text bytes true is not = absurd (not (IsUtf8-from_is_utf8 bytes is))
-no_text bytes false is not = is
 
 pub returns : goal.returns
 returns g c =

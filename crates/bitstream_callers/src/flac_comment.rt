@@ -1,0 +1,73 @@
+//! The Vorbis comment of a FLAC file again, read from bits, with its texts as strings: as the Rust
+//! crate's own example has it, but for the allocator.
+ghost use Rattle.std.specs.Prelude.{true};
+ghost use Rattle.std.specs.String.{string_bytes};
+ghost use Rattle.bitstream_io.specs.Callers.{GrowsOwn, seen};
+ghost use Rattle.bitstream_callers.specs.FlacComment.{comment_reads, text_reads};
+ghost use Rattle.bitstream_callers.specs.VorbisComment.{becomes_reader};
+
+use crate::vorbis_comment::CommentError;
+use bitstream_io::{BitRead, FromBitStreamUsing, LE};
+use std::alloc::Global;
+use std::marker::Model;
+
+/// What is said of a file.
+#[derive(Drop)]
+pub struct VorbisComment {
+    /// The program that wrote the file.
+    pub vendor: String,
+    /// What is said, each as a name, `=` and a text.
+    pub comment: Vec<String>,
+}
+
+impl Model for VorbisComment {
+    ghost use Rattle.std.specs.Prelude.{map};
+    ghost use Rattle.std.specs.String.{string_bytes};
+    ghost use Rattle.bitstream_callers.specs.VorbisTexts.{Comment};
+
+    ghost Value = { Comment };
+
+    ghost view = { λ c. record { vendor = string_bytes c.vendor; comments = map string_bytes c.comment.items } };
+}
+
+/// Reads a text, behind its length in four bytes.
+///
+/// # Errors
+///
+/// Those of the reader, or that the bytes of the text are not UTF-8. They are read then.
+fn read_entry<R: BitRead>(reader: &mut R, alloc: Global) -> Result<String, CommentError>
+    ensures reads { GrowsOwn R.source becomes_reader (text_reads R.source.order)
+        reader.old (seen string_bytes result) reader.new }
+{
+    let size = reader.read_as_to::<LE, u32>()?;
+    let bytes = reader.read_to_vec(alloc, size as usize)?;
+    match String::from_utf8(bytes) {
+        Ok(text) => Ok(text),
+        Err(_) => Err(CommentError::NotText),
+    }
+}
+
+impl FromBitStreamUsing for VorbisComment {
+    type Context = Global;
+
+    type Error = CommentError;
+
+    ghost grows = { true };
+
+    ghost becomes = { becomes_reader };
+
+    ghost reads = { λ o _. comment_reads o };
+
+    fn from_reader<R: BitRead>(
+        reader: &mut R,
+        alloc: Global,
+    ) -> Result<VorbisComment, CommentError> {
+        let vendor = read_entry(reader, alloc)?;
+        let count = reader.read_as_to::<LE, u32>()?;
+        let mut comment = Vec::new(alloc);
+        for _ in 0..count {
+            comment.push(read_entry(reader, alloc)?)?;
+        }
+        Ok(VorbisComment { vendor, comment })
+    }
+}
