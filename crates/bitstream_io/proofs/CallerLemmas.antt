@@ -19,7 +19,7 @@ use Rattle.std.specs.declared.ops.ControlFlow.{ControlFlow}
 use Rattle.bitstream_count.specs.declared.error.Error.{Error}
 use Rattle.bitstream_count.specs.declared.error.Error.TheVariants.{EndOfInput, Failed, OutOfMemory}
 use Rattle.bitstream_count.specs.Entry.{ReadEntry, WriteEntry, Takes, chain, gives, refuses}
-use Rattle.bitstream_number.specs.Word.{FitsSignedBits, bytes_of, word}
+use Rattle.bitstream_number.specs.Word.{FitsSignedBits, bytes_of, signed_number, word}
 use Rattle.bitstream_number.proofs.WordLemmas.{length-bits}
 use Rattle.bitstream_order.specs.Gather.{seen}
 use Rattle.bitstream_order.specs.Refusal.{TrueEnds}
@@ -37,6 +37,7 @@ use Rattle.bitstream_value.specs.Array.{items_entry, words}
 use Rattle.bitstream_value.specs.Grows.{GrowsOwn}
 use Rattle.bitstream_value.specs.Own.{OwnAnswer, ReadsOwn, WritesOwn, part_then, same_error}
 use Rattle.bitstream_value.proofs.ArrayLemmas.{items-start, items-stop as items-ended, items-suc}
+use Rattle.bitstream_value.proofs.BackLemmas.{signed-word}
 use Rattle.bitstream_value.proofs.CheckedLemmas.{signed-holds, signed-on_failed}
 use Rattle.bitstream_value.proofs.ByteSteps.{bytes_in, number-bytes}
 use Rattle.bitstream_value.proofs.GrowsLemmas.{own_grown-answer}
@@ -47,7 +48,7 @@ use Rattle.bitstream_value.proofs.WriteSteps.{next_call, next_write, stop_call, 
 use Rattle.bitstream_io.specs.Optional.{optional, optional_size, optional_writes}
 use Rattle.bitstream_io.specs.ReadBack.{IsReadAs}
 use Rattle.bitstream_io.specs.Steps.{bytes_number}
-use Rattle.bitstream_io.proofs.CallsBack.{then-read, mapped-read, value_in-fits, const-read, const-back}
+use Rattle.bitstream_io.proofs.CallsBack.{then-read, mapped-read, value_in-fits, const-read, const-back, signed-read}
 -- words of std
 pub use Rattle.std.proofs.Common.{◌≡◌, ◌∙◌, ℕ, ◌+◌, ◌-◌, ◌^◌, ◌<◌, List, [], ◌∷◌, ◌++◌, Some, Ok, ap, arith, inl, inr, refl, rules, ⊎_elim}
 -- a one that is shifted left: 1 * 2 ^ n % 2 ^ size ≡ 2 ^ n
@@ -68,14 +69,14 @@ pub use Rattle.bitstream_value.proofs.GrowsLemmas.{few_growing_reads, growth-her
 pub use Rattle.bitstream_value.proofs.LengthSteps.{in_both_orders, lengths}
 pub use Rattle.bitstream_value.proofs.OwnLemmas.{is_error, plainly_read, plainly_written, read_plainly, written_plainly}
 pub use Rattle.bitstream_value.proofs.OwnSteps.{few_own_reads, few_own_writes, own_end, if_own, else_own}
-pub use Rattle.bitstream_value.proofs.ReadSteps.{few_reads, reads, Finds, finds, bit-finds, gives-finds, non_zero-finds, option-finds, signed-finds, unsigned-finds, fields_there, fields_short}
+pub use Rattle.bitstream_value.proofs.ReadSteps.{few_reads, reads, Finds, finds, chain-finds, bit-finds, gives-finds, non_zero-finds, option-finds, signed-finds, unsigned-finds, fields_there, fields_short}
 pub use Rattle.bitstream_value.proofs.SureLemmas.{IsWord, items_there, unsigned-word, word_there}
 pub use Rattle.bitstream_value.proofs.WriteSteps.{few_writes, writes, packed_stream}
 pub use Rattle.bitstream_io.proofs.CallsBack.{calls_go_back, unary-back, items-read, path-read, unsigned-read}
 pub use Rattle.bitstream_io.proofs.CallsBack.{any_vbr-back, bytes-back, non_zero-back, option-back, skip-back, vbr-back}
 pub use Rattle.bitstream_io.proofs.NonZeroBack.{non_zero_u8-again, non_zero_u16-again, non_zero_u32-again, non_zero_u64-again, non_zero_u128-again}
 pub use Rattle.bitstream_io.proofs.NonZeroBack.{option_u8-again, option_u16-again, option_u32-again, option_u64-again, option_u128-again}
-pub use Rattle.bitstream_io.proofs.PackLemmas.{IsWritten, Packs, packs, packs-none, packs-more, packs-part, packs-items, packs-is, packs-room, packs-whole, unsigned-written, signed-written, non_zero-written, const-written, zeros-written, bit-written, bytes-written, unary-written, vbr-written}
+pub use Rattle.bitstream_io.proofs.PackLemmas.{IsWritten, Packs, packs, packs-none, packs-more, packs-part, packs-items, packs-signed_items, packs-parts, packs-is, packs-room, packs-whole, unsigned-written, signed-written, non_zero-written, const-written, zeros-written, bit-written, bytes-written, unary-written, vbr-written}
 pub use Rattle.bitstream_io.proofs.RunLemmas.{counted, write_run-append}
 pub use Rattle.bitstream_io.specs.Loop.{ItemsRead, ItemsWritten}
 
@@ -205,6 +206,27 @@ module _ {R A B E : Type 0} {K : BitSource R} {becomes : Error → E → Type 0}
   pub exit_own_read : {x : Error} → IsErrAnd r (becomes x) → Reads K e s (Err x) t
       → ReadsOwn K becomes (chain e f) s r t
   exit_own_read {x = x} k h = record { plain = Err x; called = Reads-chain-err e f h; answer = k }
+
+-- a part with errors of its own, whose answer becomes one of another type: what an error of the reader becomes there
+-- becomes what it is here
+own_made-of : {R A E F : Type 0} {K : BitSource R} (there : Error → E → Type 0) (here : Error → F → Type 0)
+    {e : ReadEntry (Result A E)} (makes : Result A E → Result A F) (r : Result A E) {s t : R}
+    (plain : Result (Result A E) Error) → Reads K e s plain t → OwnAnswer there (λ y. y) plain r
+    → ((x : Error) → IsErrAnd r (there x) → IsErrAnd (makes r) (here x))
+    → ReadsOwn K here (chain e (λ answer. gives (makes answer))) s (makes r) t
+own_made-of there here makes r {t = t} (Ok x) h is errors = record {
+  plain = Ok (makes x);
+  called = Reads-chain-ok _ _ h (Reads-gives (makes x) t);
+  answer = ap makes is;
+}
+own_made-of there here makes r (Err x) h is errors =
+    record { plain = Err x; called = Reads-chain-err _ _ h; answer = errors x is }
+
+pub own_made : {R A E F : Type 0} {K : BitSource R} {there : Error → E → Type 0} {here : Error → F → Type 0}
+    {e : ReadEntry (Result A E)} (makes : Result A E → Result A F) (r : Result A E) {s t : R} → ReadsOwn K there e s r t
+    → ((x : Error) → IsErrAnd r (there x) → IsErrAnd (makes r) (here x))
+    → ReadsOwn K here (chain e (λ answer. gives (makes answer))) s (makes r) t
+own_made {there = there} {here = here} makes r h errors = own_made-of there here makes r h.plain h.called h.answer errors
 
 -- a number of a signed type, which stands behind the read as what its bits say
 pub next_own_signed_read : {R B E : Type 0} {K : BitSource R} {becomes : Error → E → Type 0} (o : Order) (size n : ℕ)
@@ -350,6 +372,25 @@ module _ {S E : Type 0} (K : Sink S) (becomes : Error → E → Type 0) (es : Li
       → WritesOwn K becomes (signed o size n x ∷ es) own s r t
   exit_own_signed o size n w x error k h fits =
       exit_own_write (signed o size n x) error k (signed_value K o size n w x s t (Err error) h fits)
+
+-- the same among reads that ask for memory: a number of a signed type, and a constant
+pub next_grown_signed : {R B E : Type 0} {K : BitSource R} {becomes : Error → E → Type 0} {e : ReadEntry ℤ}
+    (f : ℤ → ReadEntry (Result B E)) (w : Width) {r : Result B E} {s t z : R} {x : ℤ} → Reads K e s (Ok x) t → SFits w x
+    → GrowsOwn K becomes (f (to_z w (of_z w x))) t r z → GrowsOwn K becomes (chain e f) s r z
+next_grown_signed {K = K} {becomes = becomes} f w {r = r} {t = t} {z = z} {x = x} h fits k =
+    go_grown f (grown h) (subst (λ y. GrowsOwn K becomes (f y) t r z) (to_z-of_z w x fits) k)
+
+module _ {R B E : Type 0} {K : BitSource R} {becomes : Error → E → Type 0} {e : ReadEntry Bool}
+    (f : Bool → ReadEntry (Result B E)) (err : E) {r : Result B E} {s t : R} where
+  grown_const_goes : {z : R} (plain : Result Bool Error) → Reads K e s plain t → ConstAnswer becomes err plain (Ok tt)
+      → GrowsOwn K becomes (f true) t r z → GrowsOwn K becomes (chain e f) s r z
+  grown_const_goes (Ok true) h is k = go_grown f (grown h) k
+  grown_const_goes (Ok false) h is k = cc
+  grown_const_goes (Err x) h is k = absurd is
+
+  pub next_grown_const : {z : R} → ReadsConst K becomes e err s (Ok tt) t → GrowsOwn K becomes (f true) t r z
+      → GrowsOwn K becomes (chain e f) s r z
+  next_grown_const h k = grown_const_goes h.plain h.reads h.answer k
 
 -- constants and branches, to be named beside `reads`, `few_reads`, `own_reads` or `few_own_reads`
 pub ruleset constants = (
@@ -513,14 +554,29 @@ module _ {B : Type 0} (b : List Bool) (k n l : ℕ) (r : Result B Error) where
   skip-finds f le found = next-finds b k n l (skip_entry n) f (λ w. tt) r (skip-word n) le found
 
 module _ {B : Type 0} (b : List Bool) (k l : ℕ) (r : Result B Error) where
-  -- numbers of n bits, of which there are `count`
+  -- words of n bits, of which there are `count`
+  each-finds : {A : Type 0} (e : ReadEntry A) (n count : ℕ) (g : List Bool → A) (f : List A → ReadEntry B)
+      → IsWord e n (λ w. Ok (g w)) → nat_le (count * n) l ≡ true
+      → Finds b (k + count * n) (f (map g (words n count (take (count * n) (drop k b))))) (l - count * n) r
+      → Finds b k (chain (items_entry e count) f) l r
+  each-finds e n count g f word le found =
+      next-finds b k (count * n) l (items_entry e count) f (λ w. map g (words n count w)) r (items-word word count) le found
+
+  -- numbers, unsigned and signed
   pub items-finds : (n count : ℕ) (o : Order) (size : ℕ) (f : List ℕ → ReadEntry B) → nat_le n size ≡ true
       → nat_le (count * n) l ≡ true
       → Finds b (k + count * n) (f (map (number o) (words n count (take (count * n) (drop k b))))) (l - count * n) r
       → Finds b k (chain (items_entry (unsigned_entry o size n) count) f) l r
   items-finds n count o size f fits le found =
-      next-finds b k (count * n) l (items_entry (unsigned_entry o size n) count) f (λ w. map (number o) (words n count w)) r
-      (items-word (unsigned-word o size n (within_of n size fits)) count) le found
+      each-finds (unsigned_entry o size n) n count (number o) f (unsigned-word o size n (within_of n size fits)) le found
+
+  pub signed_items-finds : (n count : ℕ) (o : Order) (size : ℕ) (f : List ℤ → ReadEntry B) → nat_le 1 n ≡ true
+      → nat_le n size ≡ true → nat_le (count * n) l ≡ true
+      → Finds b (k + count * n) (f (map (signed_number o) (words n count (take (count * n) (drop k b))))) (l - count * n) r
+      → Finds b k (chain (items_entry (signed_entry o size n) count) f) l r
+  signed_items-finds n count o size f some fits le found =
+      each-finds (signed_entry o size n) n count (signed_number o) f
+      (signed-word o size n (within_of 1 n some) (within_of n size fits)) le found
 
   -- n bytes
   pub bytes-finds : (n : ℕ) (o : Order) (f : List ℕ → ReadEntry B) → nat_le (8 * n) l ≡ true
@@ -668,7 +724,16 @@ made-back es b o size n v make a f le fits is behind =
     subst (IsReadAs (unsigned o size n v ∷ []) e) is (mapped-read make (unsigned o size n v ∷ []) (unsigned_entry o size n) v one) in
     part-back e f (unsigned o size n v ∷ []) es a b made behind
 
--- numbers of n bits, of which there are `count`
+-- items that are written one by one, of which there are `count`
+pub each-back : {A B : Type 0} (es : List WriteEntry) (b : B) (e : ReadEntry A) (writes : A → List WriteEntry) (count : ℕ)
+    (xs : List A) (f : List A → ReadEntry B) → length xs ≡ count → All (λ x. IsReadAs (writes x) e x) xs
+    → GoesBack (f xs) es b → GoesBack (chain (items_entry e count) f) (flat_map writes xs ++ es) b
+each-back es b e writes count xs f is all behind =
+    let ws = flat_map writes xs in
+    subst (λ (k : ℕ). GoesBack (chain (items_entry e k) f) (ws ++ es) b) is
+    (part-back (items_entry e (length xs)) f ws es xs b (items-read e writes xs all) behind)
+
+-- numbers of n bits, unsigned and signed
 pub items-back : {B : Type 0} (es : List WriteEntry) (b : B) (o : Order) (size n count : ℕ) (xs : List ℕ)
     (f : List ℕ → ReadEntry B) → nat_le n size ≡ true → length xs ≡ count → All (λ x. x < 2 ^ n) xs → GoesBack (f xs) es b
     → GoesBack (chain (items_entry (unsigned_entry o size n) count) f) (flat_map (λ x. unsigned o size n x ∷ []) xs ++ es) b
@@ -677,6 +742,16 @@ items-back es b o size n count xs f le is fit behind =
     subst (λ (k : ℕ). GoesBack (chain (items_entry (unsigned_entry o size n) k) f) (ws ++ es) b) is
     (part-back (items_entry (unsigned_entry o size n) (length xs)) f ws es xs b
     (numbers-read o size n xs (within_of n size le) fit) behind)
+
+pub signed_items-back : {B : Type 0} (es : List WriteEntry) (b : B) (o : Order) (size n count : ℕ) (xs : List ℤ)
+    (f : List ℤ → ReadEntry B) → nat_le 1 n ≡ true → nat_le n size ≡ true → length xs ≡ count
+    → All (FitsSignedBits n) xs → GoesBack (f xs) es b
+    → GoesBack (chain (items_entry (signed_entry o size n) count) f) (flat_map (λ x. signed o size n x ∷ []) xs ++ es) b
+signed_items-back es b o size n count xs f some le is fit behind =
+    let one = λ (x : ℤ) (fits : FitsSignedBits n x).
+    signed-read o size n x (within_of 1 n some) (within_of n size le) fits in
+    each-back es b (signed_entry o size n) (λ x. signed o size n x ∷ []) count xs f is
+    (All-weaker (FitsSignedBits n) (λ x. IsReadAs (signed o size n x ∷ []) (signed_entry o size n) x) one xs fit) behind
 
 -- a constant whose width and value are literals
 pub literal-back : {B : Type 0} (es : List WriteEntry) (b : B) (o : Order) (n v : ℕ) (f : Bool → ReadEntry B)

@@ -5,7 +5,7 @@ use Rattle.std.specs.Prelude.{nat_le, nat_lt, replicate}
 use Rattle.std.specs.List.{All, flat_map}
 use Rattle.std.proofs.lemmas.Bool.Decides.{nat_tests}
 use Rattle.std.proofs.lemmas.List.{length-replicate}
-use Rattle.std.proofs.lemmas.List.Elements.{All-head, All-tail}
+use Rattle.std.proofs.lemmas.List.Elements.{All-head, All-tail, All-weaker}
 use Rattle.bitstream_number.specs.Word.{FitsSignedBits, Order, bits, signed_word, word}
 use Rattle.bitstream_number.proofs.WordLemmas.{length-bits, length-word}
 use Rattle.bitstream_count.specs.Entry.{WriteEntry}
@@ -17,6 +17,7 @@ use Rattle.bitstream_stream.specs.Run.{accepted, write_run}
 use Rattle.bitstream_stream.specs.WriteTable.{align, bit, buffer, plain, signed, unary_word, unsigned, vbr, zeros}
 use Rattle.bitstream_stream.proofs.WriteLemmas.{signed-accepts, unsigned-fits}
 use Rattle.bitstream_value.specs.NonZero.{non_zero}
+use Rattle.bitstream_io.specs.Loop.{parts_size}
 use Rattle.bitstream_io.proofs.RunLemmas.{write_run-append}
 
 -- ---- one call
@@ -133,17 +134,38 @@ packs-part {es = es} {fs = fs} part rest = record {
       rw (write_run-append es fs from) (omega (arith, sum, first, more));
 }
 
--- numbers of n bits, of which there are `count`
-pub packs-items : (o : Order) (size n count : ℕ) (xs : List ℕ) → nat_le n size ≡ true → length xs ≡ count
-    → All (λ x. x < 2 ^ n) xs → Packs (flat_map (λ x. unsigned o size n x ∷ []) xs) (count * n)
-packs-items o size n count [] le is fit =
+-- words of n bits each, of which there are `count`
+pub packs-each : {A : Type 0} (write : A → WriteEntry) (n count : ℕ) (xs : List A) → length xs ≡ count
+    → All (λ x. IsWritten (write x) n) xs → Packs (flat_map (λ x. write x ∷ []) xs) (count * n)
+packs-each write n count [] is all =
     let none : 0 ≡ count * n = rw (sym is) (omega arith) in
     subst (Packs []) none packs-none
-packs-items o size n count (x ∷ xs) le is fit =
+packs-each write n count (x ∷ xs) is all =
     let same : n + length xs * n ≡ count * n = rw (sym is) (omega arith) in
-    let first = unsigned-written o size n x le (All-head (λ (s : ℕ). s < 2 ^ n) x xs fit) in
-    let rest = packs-items o size n (length xs) xs le refl (All-tail (λ (s : ℕ). s < 2 ^ n) x xs fit) in
-    subst (Packs (flat_map (λ (y : ℕ). unsigned o size n y ∷ []) (x ∷ xs))) same (packs-more first rest)
+    let first = All-head (λ y. IsWritten (write y) n) x xs all in
+    let rest = packs-each write n (length xs) xs refl (All-tail (λ y. IsWritten (write y) n) x xs all) in
+    subst (Packs (flat_map (λ y. write y ∷ []) (x ∷ xs))) same (packs-more first rest)
+
+-- numbers of n bits, unsigned and signed
+pub packs-items : (o : Order) (size n count : ℕ) (xs : List ℕ) → nat_le n size ≡ true → length xs ≡ count
+    → All (λ x. x < 2 ^ n) xs → Packs (flat_map (λ x. unsigned o size n x ∷ []) xs) (count * n)
+packs-items o size n count xs le is fit =
+    packs-each (unsigned o size n) n count xs is (All-weaker (λ (x : ℕ). x < 2 ^ n)
+    (λ x. IsWritten (unsigned o size n x) n) (λ x fits. unsigned-written o size n x le fits) xs fit)
+
+pub packs-signed_items : (o : Order) (size n count : ℕ) (xs : List ℤ) → nat_le 1 n ≡ true → nat_le n size ≡ true
+    → length xs ≡ count → All (FitsSignedBits n) xs → Packs (flat_map (λ x. signed o size n x ∷ []) xs) (count * n)
+packs-signed_items o size n count xs some le is fit =
+    packs-each (signed o size n) n count xs is (All-weaker (FitsSignedBits n)
+    (λ x. IsWritten (signed o size n x) n) (λ x fits. signed-written o size n x some le fits) xs fit)
+
+-- parts, one behind the other
+pub packs-parts : {A : Type 0} (writes : A → List WriteEntry) (size : A → ℕ) (xs : List A)
+    → All (λ x. Packs (writes x) (size x)) xs → Packs (flat_map writes xs) (parts_size size xs)
+packs-parts writes size [] all = packs-none
+packs-parts writes size (x ∷ xs) all =
+    packs-part (All-head (λ y. Packs (writes y) (size y)) x xs all)
+    (packs-parts writes size xs (All-tail (λ y. Packs (writes y) (size y)) x xs all))
 
 pub ruleset packs = (
   packs-none,

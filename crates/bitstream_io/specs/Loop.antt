@@ -1,5 +1,5 @@
 -- Items that a loop reads or writes: what its invariant says.
-use Rattle.std.specs.Prelude.{ℕ, List, take, flat_map, Ok}
+use Rattle.std.specs.Prelude.{ℕ, ◌+◌, List, [], ◌∷◌, take, flat_map, Ok}
 use Rattle.bitstream_count.specs.Entry.{ReadEntry, WriteEntry}
 use Rattle.bitstream_stream.specs.Reads.{BitSource, Reads}
 use Rattle.bitstream_stream.specs.Sink.{Sink, WritesAll}
@@ -12,3 +12,8 @@ ItemsRead K entry n old items new = Reads K (items_entry entry n) old (Ok items)
 -- of these items the first n were written, each by its calls
 abbrev pub ItemsWritten : {S A : Type 0} → Sink S → (A → List WriteEntry) → List A → ℕ → S → S → Type 0
 ItemsWritten K calls items n old new = WritesAll K (flat_map calls (take n items)) old (Ok tt) new
+
+-- the bits of parts, one behind the other
+abbrev pub parts_size : {A : Type 0} → (A → ℕ) → List A → ℕ
+parts_size size [] = 0
+parts_size size (part ∷ parts) = size part + parts_size size parts

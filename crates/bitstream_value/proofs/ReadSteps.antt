@@ -88,7 +88,8 @@ word-finds b k n e g word = record {
   ) refl;
 }
 
-chain-finds : {A B : Type 0} (b : List Bool) (k n m : ℕ) (e : ReadEntry A) (f : A → ReadEntry B) (a : A)
+-- a call that is found, and what follows it
+pub chain-finds : {A B : Type 0} (b : List Bool) (k n m : ℕ) (e : ReadEntry A) (f : A → ReadEntry B) (a : A)
     (r : Result B Error) → Finds b k e n (Ok a) → Finds b (k + n) (f a) m r → Finds b k (chain e f) (n + m) r
 chain-finds b k n m e f a r h t = record {
   there = λ p enough. chain-ok e f p (drop k b) n a (h.there p (omega arith))
