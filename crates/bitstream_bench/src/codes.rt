@@ -1,6 +1,6 @@
-//! Prefix codes: long chains, and memory that is refused. Worked rows are played by `bitstream_vectors`.
-use crate::asserts::{gives, same};
-use bitstream_io::huffman::HuffmanTree;
+//! Prefix codes: long chains, words that are made once, and memory that is refused. Worked rows are played by `bitstream_vectors`.
+use crate::asserts::{are, gives, same};
+use bitstream_io::huffman::{HuffmanTree, ToBits};
 use bitstream_io::{BE, BitRead, BitReadExt, BitReader, BitWrite, BitWriteExt, BitWriter, Slice};
 use std::alloc::{AllocError, Global};
 use test_streams::RefuseMemory;
@@ -84,5 +84,34 @@ fn each_growth_of_a_tree_may_lack_memory(rt: HostRuntime) {
     for served in 0..6 {
         let made = grown(rt.alloc(), served).is_ok();
         same(&rt, (served, made), (served, served == 5));
+    }
+}
+
+/// The bytes that a code makes of one symbol.
+fn bytes_of<T: ToBits<Symbol = u16>>(alloc: Global, code: &T, symbol: u16) -> Vec<u8> {
+    let mut writer = BitWriter::<_, BE>::new(Vec::new(alloc));
+    let _ = writer.write_huffman(code, symbol);
+    let _ = writer.byte_align();
+    writer.into_writer()
+}
+
+#[test]
+fn words_made_once_are_those_of_the_tree(rt: HostRuntime) {
+    let alloc = rt.alloc();
+    let tree = chain(alloc, 80).expect(&rt, "memory is left");
+    let words = tree.words(alloc).expect(&rt, "memory is left");
+    for symbol in 0..82 {
+        let bytes = bytes_of(alloc, &words, symbol);
+        let ones = usize::from(symbol.min(80));
+        same(
+            &rt,
+            bytes.len(),
+            if symbol > 80 { 0 } else { ones.min(79) / 8 + 1 },
+        );
+        are(
+            &rt,
+            bytes.as_slice(),
+            bytes_of(alloc, &tree, symbol).as_slice(),
+        );
     }
 }

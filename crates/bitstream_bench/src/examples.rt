@@ -461,6 +461,29 @@ fn example_of_huffman_tree(rt: HostRuntime) {
 }
 
 #[test]
+fn example_of_symbol_words(rt: HostRuntime) {
+    use bitstream_io::{BE, BitWrite, BitWriteExt, BitWriter};
+    use bitstream_io::huffman::HuffmanTree;
+
+    let alloc = rt.alloc();
+    let end = HuffmanTree::node(
+        HuffmanTree::leaf(alloc, 'b').expect(&rt, "no error"),
+        HuffmanTree::leaf(alloc, 'c').expect(&rt, "no error"),
+    )
+    .expect(&rt, "no error");
+    let tree = HuffmanTree::node(HuffmanTree::leaf(alloc, 'a').expect(&rt, "no error"), end).expect(
+        &rt, "no error",
+    );
+    let words = tree.words(alloc).expect(&rt, "no error");
+    let mut writer = BitWriter::<_, BE>::new(Vec::new(alloc));
+    writer.write_huffman(&words, 'b').expect(&rt, "no error");
+    writer.write_huffman(&words, 'a').expect(&rt, "no error");
+    writer.write_huffman(&words, 'c').expect(&rt, "no error");
+    writer.byte_align().expect(&rt, "no error");
+    are(&rt, writer.into_writer().as_slice(), [0x98].as_slice());
+}
+
+#[test]
 fn example_of_bit_read_ext(rt: HostRuntime) {
     use bitstream_io::{BitRead, BitReadExt, BitReader, Bits, LE};
     use std::num::NonZero;

@@ -51,7 +51,7 @@ pub mod integer {
 /// Prefix codes: each symbol is a word of bits, and no word is the beginning of another.
 pub mod huffman {
     pub use bitstream_value::huffman::{
-        FromBits, HuffmanTree, LimitedUnary, NextBit, PutBit, ToBits,
+        FromBits, HuffmanTree, LimitedUnary, NextBit, PutBit, SymbolWords, ToBits,
     };
 }
 

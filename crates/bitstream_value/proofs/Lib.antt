@@ -22,3 +22,4 @@ pub mod GrowsLemmas
 pub mod GenericLemmas
 pub mod ByteGrowsLemmas
 pub mod ByteBackLemmas
+pub mod WordsLemmas

@@ -13,3 +13,4 @@ pub mod ByteSteps
 pub mod ByteTypes
 pub mod Grows
 pub mod ByteGrows
+pub mod SymbolWords

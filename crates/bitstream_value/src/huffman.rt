@@ -11,7 +11,7 @@ mod limited_unary;
 mod tree;
 
 pub use crate::huffman::limited_unary::LimitedUnary;
-pub use crate::huffman::tree::HuffmanTree;
+pub use crate::huffman::tree::{HuffmanTree, SymbolWords};
 use bitstream_count::error::Error;
 use bitstream_stream::read::BitRead;
 use bitstream_stream::write::BitWrite;

@@ -4,8 +4,10 @@ ghost use Rattle.bitstream_value.specs.Nodes.{nodes_tree};
 
 mod join;
 mod walk;
+mod words;
 
 use crate::huffman::tree::join::joined;
+pub use crate::huffman::tree::words::SymbolWords;
 use std::alloc::{AllocError, Allocator};
 
 /// One node of a tree: a leaf with its symbol, or a branch with the places of its two sides.

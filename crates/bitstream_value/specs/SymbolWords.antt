@@ -1,0 +1,55 @@
+-- The words of a tree's symbols, made once.
+use Rattle.std.specs.Prelude.{◌≡◌, ℕ, ◌+◌, Bool, false, List, [], ◌∷◌, ◌++◌, length, Option, None, Some, if◌then◌else◌}
+use Rattle.std.proofs.Common.{sym, ap, ◌∙◌, refl, arith, append-nil, append_assoc, length-append}
+use Rattle.bitstream_number.specs.Word.{High, word}
+use Rattle.bitstream_number.proofs.WordLemmas.{length-word}
+use Rattle.bitstream_stream.specs.Sink.{Sink}
+use Rattle.bitstream_value.specs.HuffmanTree.{tree_of}
+use Rattle.bitstream_value.specs.Tree.{symbol_word}
+use Rattle.bitstream_value.specs.declared.huffman.tree.words.ShortWord.{ShortWord}
+use Rattle.bitstream_value.specs.declared.huffman.tree.words.SymbolWord.{SymbolWord}
+use Rattle.bitstream_value.specs.declared.huffman.tree.words.SymbolWords.{SymbolWords}
+
+-- the bits of a word
+abbrev pub short_bits : ShortWord → List Bool
+short_bits w = word High w.bits w.number
+
+-- a word as a sink, which has room for 63 bits and keeps them
+abbrev pub short_sink : Sink ShortWord
+short_sink = record {
+  order = High;
+  appends = λ a x b. short_bits b ≡ short_bits a ++ x;
+  contents = λ _. None;
+  fills = λ _ _ _. ⊥;
+  len = λ a. a.bits;
+  limit = Some 63;
+  failed = λ _. false;
+  refusals = λ _. [];
+  may = λ _. ⊥;
+  references = λ _. [];
+  appends_nil = λ a. sym (append-nil (short_bits a));
+  appends_trans = λ a b c x y p q. q ∙ ap (λ (w : List Bool). w ++ y) p ∙ append_assoc (short_bits a) x y;
+  fills_behind = λ a b x y known p q. q;
+  within = λ a. omega (arith, a.few);
+  appends_len = λ a b x p. sym (length-word High b.bits b.number) ∙ ap (λ (w : List Bool). length w) p
+      ∙ length-append (short_bits a) x ∙ ap (λ (n : ℕ). n + length x) (length-word High a.bits a.number);
+  limit_full = (8, refl);
+}
+
+-- the words that were made, with their symbols
+abbrev pub words_made : {S A : Type 0} → SymbolWords S A → List (SymbolWord S)
+words_made words = words.made.items
+
+-- the word of the first of these symbols that is the same as s
+abbrev pub found_word : {S : Type 0} → (S → S → Bool) → List (SymbolWord S) → S → Option (List Bool)
+found_word same [] s = None
+found_word same (it ∷ others) s = if same it.symbol s then Some (short_bits it.word) else found_word same others s
+
+-- the word that was found, or another one
+abbrev pub or_word : Option (List Bool) → List Bool → List Bool
+or_word None other = other
+or_word (Some w) other = w
+
+-- the word that is written for s: the one that was made, or the tree's own
+abbrev pub made_word : {S A : Type 0} → (S → S → Bool) → SymbolWords S A → S → List Bool
+made_word same words s = or_word (found_word same (words_made words) s) (symbol_word same (tree_of words.tree.now) s)
