@@ -16,7 +16,7 @@ Call = namedtuple("Call", "form fact label step way wide line")
 # The library's calls that a chain can have, by the form of their answers.
 READS = {name: "read" for name in """read read_var read_counted read_bit read_unary read_vbr read_to_bytes skip
     read_unsigned read_unsigned_var read_unsigned_counted read_signed read_signed_var read_signed_counted
-    read_unsigned_vbr read_unsigned_vbr_any byte_align""".split()}
+    read_unsigned_vbr read_unsigned_vbr_any read_signed_vbr read_signed_vbr_any byte_align""".split()}
 READS |= {"read_const": "const", "parse": "part", "parse_with": "part", "parse_using": "part"}
 READS |= {"read_to_vec": "growing"}
 WRITES = {name: "call" for name in """write_bit write_const write_from write_bytes write_unary write_unsigned
@@ -26,6 +26,8 @@ WRITES |= {"write": "value", "write_var": "value", "write_counted": "value", "wr
 WRITES |= {"build": "part", "build_with": "part", "build_using": "part"}
 # Of these the value may be of a signed type.
 OF_EITHER_SIGN = re.compile(r"(read|write)(_signed)?(_var|_counted)?$")
+# Of these too, in groups of bits.
+GROUPS = re.compile(r"(read|write)(_signed)?_vbr(_any)?$")
 # These have no type that decides anything.
 UNTYPED = re.compile(r"(read|write)_(bit|const|unary|unsigned.*|bytes)$|read_to_(bytes|vec)$|skip$|pad$|byte_align$")
 
@@ -64,6 +66,7 @@ NEXT = {
         "value": "next_write 7 FACT",
         "list": "all_append 7 FACT",
         "signed list of": f"all_append 7 (rw (to_z-of_z WIDE {FITS}) at FACT)",
+        "signed value of": f"next_write 7 (rw (to_z-of_z WIDE {FITS}) at FACT)",
         "signed call": f"next_signed_call 7 WIDE 3 FACT {FITS}",
         "signed value": f"next_signed 7 WIDE 3 FACT {FITS}",
     },
@@ -95,6 +98,7 @@ STOP = {
         "value": "stop_write 7 RESIDUAL FACT",
         "list": "all_stop 7 (is_error 2 RESIDUAL) FACT",
         "signed list of": f"all_stop 7 (is_error 2 RESIDUAL) (rw (to_z-of_z WIDE {FITS}) at FACT)",
+        "signed value of": f"stop_write 7 RESIDUAL (rw (to_z-of_z WIDE {FITS}) at FACT)",
         "signed call": f"stop_signed_call 7 WIDE 3 RESIDUAL FACT {FITS}",
         "signed value": f"stop_signed 7 WIDE 3 RESIDUAL FACT {FITS}",
     },
@@ -357,6 +361,8 @@ class Body:
         wide = self.width(word, typed, line)
         if form == "value" and typed[:1] == ["["]:
             form = "list"
+        if wide and GROUPS.match(word):
+            form, wide = f"signed {form} of {wide}{self.written(args, line)}", ""
         return self.add(form, "reads" if self.kind != "WritesAll" else "writes", word, name, wide, line)
 
     def grows(self, typed, line):
@@ -374,9 +380,18 @@ class Body:
         if not typed:
             unknown(line, f"the type of the value of `{word}`: write it at the call")
         signed = [it for it in typed if SIGNED.match(it)]
-        if signed and (not OF_EITHER_SIGN.match(word) or typed[0] != signed[0] or signed[0] == "isize"):
+        known = OF_EITHER_SIGN.match(word) or GROUPS.match(word)
+        if signed and (not known or typed[0] != signed[0] or signed[0] == "isize"):
             unknown(line, f"a value of the type `{''.join(typed)}` in `{word}`")
         return f"w{signed[0][1:]}" if signed else ""
+
+    def written(self, args, line):
+        """Gives the field of `self` that a call writes, as a proof has it; nothing for a read."""
+        if self.kind != "WritesAll":
+            return ""
+        if len(args) != 1 or args[0][:2] != ["self", "."] or len(args[0]) != 3:
+            unknown(line, "a signed number in groups that is no field of `self`")
+        return f" c.args.self.now.{args[0][2]}"
 
     def type_of(self, args):
         """Gives the type of the last value that a call is handed, if it is a field of `self` or a name."""

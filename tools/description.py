@@ -17,9 +17,9 @@ RESERVED = set(
 ORDERS = {"BE": "High", "LE": "Low"}
 
 
-def line_of(words, doc):
-    """Gives what a line describes."""
-    if words[0] in WORDS and words[1:] != ["bool"]:
+def kind_of(words, doc):
+    """Gives what a line describes, by its first words."""
+    if words[0] in WORDS and not KINDS.get("".join(words[1:2])):
         return WORDS[words[0]](words, doc)
     if words[2:3] == ["of"]:
         return Part(words, doc)
@@ -28,7 +28,16 @@ def line_of(words, doc):
     return KINDS[words[1]](words[0], words[1:], doc)
 
 
-def take(said, lines, words, doc):
+def line_of(words, doc, count):
+    """Gives what a line describes, with its number."""
+    found = kind_of(words, doc)
+    if len(words) > found.long:
+        raise Refused(f"`{' '.join(words[found.long :])}` is not understood behind `{' '.join(words[: found.long])}`")
+    found.line = count
+    return found
+
+
+def take(said, lines, words, doc, count):
     """Takes a line of a description."""
     if words[0] == "struct":
         said["name"], said["doc"] = words[1], doc.strip() or f"A {words[1]}."
@@ -37,11 +46,11 @@ def take(said, lines, words, doc):
     elif words[0] == "example":
         said["examples"].append((words[1:], doc))
     else:
-        lines.append(line_of(words, doc.strip()))
+        lines.append(line_of(words, doc.strip(), count))
 
 
-def described(text, path):
-    """Gives what a description says of the whole, and its lines."""
+def described(text, path, find):
+    """Gives what a description says of the whole, and its lines; `find` gives what that of a part's module says."""
     said, lines = {"order": "BE", "error": "", "examples": [], "from": path}, []
     for count, line in enumerate(text.split("\n"), 1):
         head, _, doc = line.strip().partition(":")
@@ -49,17 +58,17 @@ def described(text, path):
         if not words or words[0].startswith("#"):
             continue
         try:
-            take(said, lines, words, doc)
+            take(said, lines, words, doc, count)
         except Refused as it:
             raise Refused(f"line {count}: {it}") from None
         except (IndexError, ValueError, KeyError, StopIteration):
             raise Refused(f"line {count}: not understood: {line.strip()}") from None
-    place(said, lines)
+    place(said, lines, find)
     check(said, lines)
     return said, lines
 
 
-def place(said, lines):
+def place(said, lines, find):
     """Sets the place of each line, and the number of bits if it is a constant."""
     if "name" not in said:
         raise Refused("no line `struct NAME`")
@@ -67,13 +76,17 @@ def place(said, lines):
         raise Refused("the order is BE or LE")
     at = 0
     for index, it in enumerate(lines):
-        it.at, it.index, it.order = at, index, ORDERS[said["order"]]
-        at = None if at is None or it.bits is None else at + it.bits
+        it.at, it.index, it.order, it.find = at, index, ORDERS[said["order"]], find
         if it.type and not it.doc:
             it.doc = f"The field `{it.name}`."
-        it.check(lines[:index])
+        try:
+            it.check(lines[:index])
+            it.settle()
+        except Refused as why:
+            raise Refused(f"line {it.line}: {why}") from None
+        at = None if at is None or it.bits is None else at + it.bits
         it.clause = snake(it.error) + (f"_{it.at}" if it.error in [one.error for one in lines[:index]] else "")
-    said["total"] = at
+    said["total"], said["lines"] = at, lines
 
 
 def check(said, lines):

@@ -13,7 +13,7 @@ def snake(name):
 class Enum(Line):
     """A line NAME enum TYPE BITS: NUMBER CASE, .. [, .. CASE]; DOC. The case behind `..` has all other numbers."""
 
-    unfolds = ("unsigned", "unsigned_entry")
+    unfolds, long = ("unsigned", "unsigned_entry"), 4
 
     def __init__(self, name, words, said):
         cases, _, self.doc = said.partition(";")

@@ -24,6 +24,11 @@ def starts(*words):
     return listed
 
 
+def signed_term(found):
+    """Gives a signed number, as specs have it."""
+    return f"pos {found}" if found >= 0 else f"negsuc {-found - 1}"
+
+
 class Line:
     """What stands at one place of a format: how it is read and written, and what is said and proved of that.
 
@@ -39,7 +44,10 @@ class Line:
     many = False  # whether `word` is a list of writes, and not one
     kind = "ℕ"  # the type of its value in specs
     imports = ()  # paths that the code uses
+    copies = ""  # the module of `bitstream_callers` that the crate needs a copy of
     unfolds = ()  # what a worked row computes through
+    long = 3  # how many words such a line has at most
+    find = None  # gives what the description of a module says
     # of the proofs: `entry` is the read, `word` the write, `written` that it is accepted and how long it is
     entry = word = written = ""
 
@@ -55,6 +63,13 @@ class Line:
     def least(self):
         """Gives how many bytes have all its bits."""
         return -(-(self.at + self.bits) // 8)
+
+    def settle(self):
+        """Takes its place: behind `at` bits, if that is a constant."""
+
+    def stand(self, at, order):
+        """Takes a place and an order."""
+        self.at, self.order = at, order
 
     def check(self, before):
         """Refuses what does not go with the lines before it."""
@@ -77,6 +92,14 @@ class Line:
     def found(self, left, behind):
         """Gives the term that its read finds it, with so many bits left, around that of what follows."""
         raise NotImplementedError
+
+    def place(self, bits):
+        """Gives what its bits say, of a term for these."""
+        raise NotImplementedError
+
+    def place_in(self, bits):
+        """Gives what they say by its place among all bits."""
+        return self.place(f"bits_at {self.at} {self.bits} {bits}")
 
     def lets(self):
         """Gives what the proof of the law says first."""
@@ -187,14 +210,13 @@ class Signed(Number):
         return f"signed-finds _ _ {self.bits} {left} _ {self.order} {self.width} _ refl refl refl ({behind})"
 
     def term(self, said):
-        found = int(said, 0)
-        return f"pos {found}" if found >= 0 else f"negsuc {-found - 1}"
+        return signed_term(int(said, 0))
 
 
 class Items(Unsigned):
     """A line NAME TYPE BITS x COUNT: an array."""
 
-    kind, many, unfolds = "List ℕ", True, ("unsigned", "unsigned_entry", "items_entry")
+    kind, many, unfolds, long = "List ℕ", True, ("unsigned", "unsigned_entry", "items_entry"), 5
 
     def __init__(self, name, words, doc):
         super().__init__(name, words, doc)
@@ -235,7 +257,7 @@ class Items(Unsigned):
 class Bit(Line):
     """A line NAME bool."""
 
-    type, kind, bits, entry = "bool", "Bool", 1, "bit_entry"
+    type, kind, bits, entry, long = "bool", "Bool", 1, "bit_entry", 2
 
     def __init__(self, name, words, doc):
         self.name, self.doc = name, doc
@@ -303,7 +325,7 @@ class Bytes(Line):
 class Named(Number):
     """A number that stands for a value of a type of std: how it is made of the value is said by the kinds."""
 
-    imports = ("std::num::NonZero",)
+    imports, long = ("std::num::NonZero",), 4
 
     def __init__(self, name, words, doc):
         super().__init__(name, words[1:], doc)
@@ -379,7 +401,7 @@ class OptionNonZero(Named):
 class Const(Line):
     """A line const BITS VALUE ERROR."""
 
-    unfolds = ("const_entry",)
+    unfolds, long = ("const_entry",), 4
 
     def __init__(self, words, doc):
         self.bits = number(words[1], 1, 32, "the width of a constant")
@@ -438,7 +460,7 @@ class Const(Line):
 class Any(Line):
     """A line any BITS: written as zeros, and read as any bits."""
 
-    unfolds = ("skip_entry",)
+    unfolds, long = ("skip_entry",), 2
 
     def __init__(self, words, doc):
         self.bits, self.doc = number(words[1], 1, 4096, "the number of zeros"), doc
@@ -460,6 +482,23 @@ class Any(Line):
 
     def found(self, left, behind):
         return f"skip-finds _ _ {self.bits} {left} _ _ refl ({behind})"
+
+
+@starts("align")
+class Align(Any):
+    """A line align: up to a whole byte, as counted from the first bit of the format."""
+
+    long = 1
+
+    def __init__(self, words, doc):
+        self.bits, self.doc = 0, doc
+
+    def settle(self):
+        if self.at is None:
+            raise Refused("`align` behind what has no constant number of bits: how many it has is not known")
+        if self.at % 8 == 0:
+            raise Refused(f"nothing to align: {self.at} bits stand before it")
+        self.bits = -self.at % 8
 
 
 @starts("zeros")

@@ -40,11 +40,19 @@ class Module(Code, Specs, Proofs):
         own = [name for it in self.lines for name in it.functions()]
         return list(dict.fromkeys([f"{self.type}::read", f"{self.type}::write", *own]))
 
+    def copies(self):
+        """Gives the modules that the crate needs a copy of."""
+        return list(dict.fromkeys(it.copies for it in self.lines if it.copies))
+
     def listed(self):
         """Gives the lines that name the files, by the file that has them."""
-        lemmas = [f"pub mod {self.spec}Lemmas"] + [f"mod {self.spec}Rows"] * bool(self.examples)
-        specs = [f"pub mod {self.spec}"]
-        return {"src/lib.rt": [f"pub mod {self.m};"], "specs/Lib.antt": specs, "proofs/Lib.antt": lemmas}
+        modules = [self.m, *self.copies()]
+        specs = [spec_of(it) for it in modules]
+        return {
+            "src/lib.rt": [f"pub mod {it};" for it in modules],
+            "specs/Lib.antt": [f"pub mod {it}" for it in specs],
+            "proofs/Lib.antt": [f"pub mod {it}Lemmas" for it in specs] + [f"mod {self.spec}Rows"] * bool(self.examples),
+        }
 
     # ---- where names come from
 

@@ -13,6 +13,11 @@ def spec_of(module):
     return "".join(it.capitalize() for it in module.split("_"))
 
 
+def article(name):
+    """Gives a type's name behind its article."""
+    return f"{'an' if name[0] in 'AEIOU' else 'a'} `{name}`"
+
+
 def table(text):
     """Gives the names of each module, of lines `MODULE: NAMES`, which go on where they are indented."""
     lines = re.sub(r"\n +", " ", text.strip()).split("\n")
@@ -23,14 +28,16 @@ def table(text):
 SPECS = table(
     """
 Rattle.std.specs.Prelude: ≡ ≢ ^ < ≤ + - * ++ ∷ [] == if ℕ ℤ Bool true false List Result Ok Err Option Some None
-    is_some length take drop map IfOk IsOk
+    is_some length take drop map IfOk IsOk unsigned_abs
 Rattle.std.specs.List: All flat_map
 Rattle.std.specs.Option: ForSome
+Rattle.std.specs.Result: IsErrAnd
 Rattle.std.specs.Int.NonZero: non_zero_u8_get non_zero_u16_get non_zero_u32_get non_zero_u64_get non_zero_u128_get
 Rattle.bitstream_io.specs.Callers: ← ReadEntry WriteEntry Takes gives Error EndOfInput Order High Low bits number chain
     signed_number FitsSignedBits word first_bit bit_entry unsigned_entry signed_entry const_entry unary_entry
-    bytes_entry bytes_of skip_entry vbr_entry any_vbr_entry items_entry option_entry plain bit unsigned signed
-    unary_word buffer zeros align vbr non_zero write_run words Reads ReadsOwn OwnAnswer WritesAll sure_answer
+    bytes_entry bytes_of skip_entry vbr_entry any_vbr_entry signed_vbr_entry any_signed_vbr_entry items_entry
+    option_entry plain bit unsigned signed unary_word buffer zeros align vbr signed_vbr non_zero write_run words
+    Reads ReadsOwn OwnAnswer WritesAll sure_answer
     same_error plain_reads part_then if_any number_or_zero optional optional_writes optional_size
     non_zero_u8 non_zero_u16 non_zero_u32 non_zero_u64 non_zero_u128
     non_zero_u8_entry non_zero_u16_entry non_zero_u32_entry non_zero_u64_entry non_zero_u128_entry
@@ -38,6 +45,7 @@ Rattle.bitstream_io.specs.SliceMut: written_bytes
 Rattle.bitstream_io.specs.ReadBack: IsReadAs
 Rattle.bitstream_io.specs.Unary: unary
 Rattle.bitstream_io.specs.Vbr: vbr_word
+Rattle.bitstream_io.specs.Word: zig
 """
 )
 SPECS |= {f"Rattle.std.specs.declared.num.NonZeroU{n}": f"NonZeroU{n}" for n in (8, 16, 32, 64, 128)}
@@ -51,18 +59,20 @@ Rattle.std.specs.Prelude: is_some if take drop pos negsuc map
 Rattle.std.proofs.lemmas.Bool: eq-eqb ne_eqb cases_lt
 Rattle.std.proofs.lemmas.Bool.Decides: eqb_tells
 Rattle.bitstream_io.proofs.CallerLemmas: GoesBack Finds Packs inl inr is_error own_answered own_fields_there own_fields_short
-    own_front_answered fields_there fields_short front_answered slice_ends packed_stream calls_with_room align_with_room
+    own_front_answered fields_there fields_short front_answered slice_ends packed_stream calls_with_room
+    align_with_room
     next_own_read exit_own_read Reads-chain-ok Reads-gives exit own_end plainly_read plainly_written
     bit-back signed-back unsigned-back any_vbr-back bytes-back non_zero-back option-back skip-back unary-back vbr-back
     gives-back items-back made-back literal-back part-back optional-back
     bit-finds signed-finds unsigned-finds bytes-finds non_zero-finds option-finds skip-finds const-finds const-misses
-    gives-finds items-finds made-finds part-finds part-misses
+    gives-finds chain-finds items-finds made-finds part-finds part-misses
     bit-written signed-written unsigned-written bytes-written non_zero-written const-written zeros-written
     unary-written vbr-written packs-none packs-more packs-part packs-items packs-optional
     packs-is packs-room packs-whole
     non_zero_u8-again non_zero_u16-again non_zero_u32-again non_zero_u64-again non_zero_u128-again
     option_u8-again option_u16-again option_u32-again option_u64-again option_u128-again
 Rattle.bitstream_io.proofs.SliceLemmas: new_answer
+Rattle.bitstream_io.proofs.CallsBack: signed_vbr-back any_signed_vbr-back mapped-read
 Rattle.bitstream_io.proofs.WriteParts: all_none
 """
 )
@@ -72,10 +82,19 @@ PROOFS |= {module: names for module, names in SPECS.items() if module != "Rattle
 TAKEN = {it for names in SPECS.values() for it in names.split()} - {"NonZero"} | {"Reader", "Fits"}
 
 
+# What names no definition: a field behind its holder; what a line binds, declares or sets, or a record names twice; the
+# parameters of the reads behind what may be refused.
+BOUND = re.compile(
+    r"\b[a-z]\w*(?:\.[\w-]+)+|(?<=\))\.[\w-]+|^ +\w+ (?=←)|^ +pub \w+ :|(?:^|[{;]) +\w+ =(?= )"
+    r"|\b(\w+) = \1(?= ?[;}])|(?<=_entry_)\d+ o( \w+)+",
+    re.MULTILINE,
+)
+
+
 def words_of(text):
-    """Gives the words of a text, but for those that stand before a dot, as a parameter or a field's holder does."""
+    """Gives the words of a text that may name a definition."""
     lines = [it for it in text.split("\n") if not it.startswith(("use ", "--"))]
-    return set(TOKEN.findall(re.sub(r"\b[a-z]\w*\.", " ", "\n".join(lines))))
+    return set(TOKEN.findall(BOUND.sub(" ", "\n".join(lines))))
 
 
 def short(name):

@@ -8,13 +8,31 @@ from source import Refused, number
 class Part(Line):
     """A line NAME TYPE of MODULE: a part that has a description of its own."""
 
-    many = True
+    many, long = True, 4
+    counts = True  # whether its bits are those of its lines
 
     def __init__(self, words, doc):
         if words[2:3] != ["of"]:
             raise Refused("`NAME TYPE of MODULE`")
         self.name, self.part, self.module, self.doc = words[0], words[1], words[3], doc
         self.type = self.kind = self.part
+        self.function = self.module
+
+    def settle(self):
+        said = self.find(self.module)
+        if said["name"] != self.part:
+            raise Refused(f"`{self.module}` describes `{said['name']}`, and not `{self.part}`")
+        if said["error"]:
+            raise Refused(f"`{self.part}` has errors of its own: read it by hand")
+        if self.counts:
+            self.inner, self.bits = said["lines"], said["total"]
+            self.stand(self.at or 0, self.order)
+
+    def stand(self, at, order):
+        """Takes a place and an order, also for the lines of the part."""
+        self.at, self.order = at, order
+        for it in self.inner if self.bits else []:
+            it.stand(at + it.at, order)
 
     imports = property(lambda self: (f"crate::{self.module}::{self.part}",))
     entry = property(lambda self: f"{self.module}_entry o")
@@ -38,15 +56,28 @@ class Part(Line):
         goes = f"({self.module}_goes o {self.value} fits.{self.name}).back"
         return f"part-back ({self.entry}) _ ({self.word}) _ {self.value} _ {goes} ({behind})"
 
+    def place_in(self, bits):
+        return f"record {{ {'; '.join(f'{it.name} = {it.place_in(bits)}' for it in self.inner if it.type)} }}"
+
+    def found(self, left, behind):
+        term = "gives-finds _ _ _"
+        for it in reversed(self.inner):
+            term = it.found(self.at + self.bits - it.at, term)
+        return f"chain-finds _ _ {self.bits} {left - self.bits} _ _ _ _ ({term}) ({behind})"
+
     def term(self, said):
         raise Refused("an example has no value for a part")
 
+    def is_first(self, module):
+        """Whether no line before it is read by the same function."""
+        return next(it for it in module.lines if isinstance(it, Part) and it.function == self.function) is self
+
     def names(self, module):
+        base = f"Rattle.{module.crate}.specs.declared.{self.module}"
         words = " ".join(f"{self.module}_{it}" for it in ("entry", "writes", "size"))
         return {
-            f"Rattle.{module.crate}.specs.declared.{self.module}.{self.part}": self.part,
-            f"Rattle.{module.crate}.specs.{spec_of(self.module)}": f"{words} Fits={self.part}Fits",
-        }
+            f"{base}.{self.part}": self.part,
+            f"Rattle.{module.crate}.specs.{spec_of(self.module)}": f"{words} Fits={self.part}Fits"}
 
     def lemma_names(self, module):
         path = f"Rattle.{module.crate}.proofs.{spec_of(self.module)}Lemmas"
@@ -58,6 +89,7 @@ class Optional(Part):
 
     def __init__(self, words, doc):
         super().__init__(words, doc)
+        self.counts = False
         self.type, self.kind, self.function = f"Option<{self.part}>", f"Option {self.part}", f"{snake(self.part)}_if"
 
     entry = property(lambda self: f"optional {self.when} ({self.module}_entry o)")
@@ -94,10 +126,6 @@ class Optional(Part):
         if said != "None":
             raise Refused("of an optional part an example says None")
         return said
-
-    def is_first(self, module):
-        """Whether no line before it has a part of this type that is there or not."""
-        return next(it for it in module.lines if isinstance(it, Optional) and it.part == self.part) is self
 
     def declares(self, module):
         if not self.is_first(module):
@@ -142,7 +170,7 @@ class Optional(Part):
 class Flag(Line):
     """A line flag NAME: a bit that says whether the optional part of that name is there."""
 
-    bits, kind, entry = 1, "Bool", "bit_entry"
+    bits, kind, entry, long = 1, "Bool", "bit_entry", 2
 
     def __init__(self, words, doc):
         self.part, self.name, self.doc = words[1], f"has_{words[1]}", doc
@@ -164,6 +192,8 @@ class Flag(Line):
 class Option(Optional):
     """A line option NAME TYPE of MODULE: a part that is there if its flag is set."""
 
+    long = 5
+
     def __init__(self, words, doc):
         super().__init__(words[1:], doc)
         self.there = self.when = f"has_{self.name}"
@@ -183,6 +213,8 @@ class If(Optional):
 
     The field is a number, or an enum, of which the value is a case.
     """
+
+    long = 8
 
     def __init__(self, words, doc):
         if words[2] != "==":
@@ -216,3 +248,9 @@ class If(Optional):
         read = f"IsReadAs ({self.word}) (optional there ({self.module}_entry o)) {self.value}"
         moved = f"subst (λ (there : Bool). {read}) fits.{self.name}_there ({self.goes()})"
         return [f"let {self.name} = {moved} in"]
+
+
+@starts("count", "list")
+def counted(words, doc):
+    """A line count NAME BITS, or list NAME TYPE of MODULE."""
+    raise Refused("a list whose number of items was read is not printed: write its loop by hand")

@@ -1,4 +1,5 @@
 """Makes the files of a format, laid out as `rt fmt` wants them."""
+import glob
 import os
 import shutil
 import subprocess
@@ -7,8 +8,10 @@ import tempfile
 from chains import answers_of
 from description import described
 from module import Module
-from names import TAKEN
+from names import TAKEN, spec_of
 from source import Refused, Unknown
+
+CALLERS = os.path.join(os.path.dirname(os.path.dirname(os.path.abspath(__file__))), "crates", "bitstream_callers")
 
 
 def put(folder, place, text):
@@ -23,13 +26,39 @@ def text_of(*path):
         return file.read()
 
 
+def beside(description, within):
+    """Gives the function that finds the description of a part's module, beside the one that names it."""
+
+    def find(name):
+        path = os.path.join(os.path.dirname(description), f"{name}.fields")
+        if name in within:
+            raise Refused(f"`{name}` is a part of itself")
+        if not os.path.exists(path):
+            raise Refused(f"no description `{name}.fields` stands beside this one")
+        return described(text_of(path), path, beside(path, [*within, name]))[0]
+
+    return find
+
+
 def module_of(description, folder, name):
     """Gives what a description says, as a module of the crate."""
-    if {f"{name}_{it}" for it in ("entry", "writes", "bits", "size")} & TAKEN:
-        raise Refused(f"the library has a `{name}_entry`: take another name for the module")
+    taken = {f"{name}_{it}" for it in ("entry", "writes", "bits", "size", "at")} & (TAKEN | {"groups_at"})
+    if taken:
+        raise Refused(f"the library has a `{min(taken)}`: take another name for the module")
     inside = os.path.relpath(description, folder)
-    said = described(text_of(description), os.path.basename(description) if inside.startswith("..") else inside)
+    path = os.path.basename(description) if inside.startswith("..") else inside
+    said = described(text_of(description), path, beside(description, [name]))
     return Module(os.path.basename(os.path.abspath(folder)), name, *said)
+
+
+def copied(name, crate):
+    """Gives the texts of a module of `bitstream_callers`, as another crate has them."""
+    spec, found = spec_of(name), {}
+    places = [f"src/{name}.rt", f"specs/{spec}.antt", f"proofs/{spec}Lemmas.antt"]
+    places += glob.glob(f"proofs/{name}/**/*.antt", root_dir=CALLERS, recursive=True)
+    for place in [] if crate == os.path.basename(CALLERS) else places:
+        found[place] = text_of(CALLERS, place).replace(os.path.basename(CALLERS), crate)
+    return found
 
 
 def lay_out(crate):
@@ -39,8 +68,10 @@ def lay_out(crate):
 
 
 def print_into(crate, made):
-    """Puts the files of a format into a crate; gives their places."""
+    """Puts the files of a format, and of what it needs a copy of, into a crate; gives their places."""
     files = made.files()
+    for name in made.copies():
+        files |= copied(name, made.crate)
     for place, text in files.items():
         put(crate, place, text)
     for function in made.functions():
@@ -62,7 +93,8 @@ def printed(descriptions, folder):
             shutil.copytree(os.path.join(folder, "src"), os.path.join(crate, "src"))
         places = [print_into(crate, it) for it in found]
         put(room, "crates.txt", f"{os.path.basename(crate)}:\n")
-        put(crate, "src/lib.rt", "".join(f"pub mod {it.m};\n" for it in found))
+        mods = dict.fromkeys(name for it in found for name in [it.m, *it.copies()])
+        put(crate, "src/lib.rt", "".join(f"pub mod {it};\n" for it in mods))
         lay_out(crate)
         return [(it, {place: text_of(crate, place) for place in named}) for it, named in zip(found, places)]
 

@@ -5,7 +5,8 @@ UNFOLDS = {
     "chain": "Entry",
     "digits digits_number bytes_of": "Word",
     "unsigned signed": "WriteTable",
-    "unsigned_entry signed_entry const_entry skip_entry unary_entry bytes_entry groups_entry": "ReadTable",
+    "unsigned_entry signed_entry const_entry skip_entry unary_entry bytes_entry "
+    "groups_entry signed_groups_entry": "ReadTable",
     "items_entry": "Array",
     "non_zero non_zero_entry option_entry": "NonZero",
     "groups groups_at": "Vbr",
@@ -26,14 +27,34 @@ def values_of(lines, said):
     return out
 
 
+def refused(module, said):
+    """Gives what bytes answer of which an example names the error."""
+    if said == "EndOfInput":
+        return "Err EndOfInput"
+    if said not in [it.error for it in module.tests]:
+        raise Refused(f"an example answers `{said}`, which is no case of the error")
+    return f"Ok (Err {said})"
+
+
 def row(module, k, digits, said, unfolds):
-    """Gives the bytes of an example, its fields, and that each says the other."""
+    """Gives the bytes of an example, its fields, and that each says the other; or the error that they answer."""
     m, o = module.m, module.o
     ok = f"(Ok (Ok value_{k}))" if module.own else f"(Ok value_{k})"
-    return [
+    known = [
         f"row_{k} : List ℕ",
         f"row_{k} = {''.join(f'{it} ∷ ' for it in bytes.fromhex(''.join(digits)))}[]",
         "",
+    ]
+    if "=" not in said:
+        return [
+            *known,
+            f"refused_{k} : sure_answer (({m}_entry {o}).reads 0 (bits {o} row_{k})) ≡ {refused(module, said.strip())}",
+            f"unfolding row_{k} {' '.join(unfolds)}",
+            f"refused_{k} = refl",
+            "",
+        ]
+    return [
+        *known,
         f"value_{k} : {module.type}",
         f"value_{k} = record {{",
         *values_of(module.lines, said),
@@ -56,6 +77,6 @@ def rows(module):
         named = [it for it in names.split() if it in wanted]
         if named:
             found[f"Rattle.bitstream_io.specs.{place}"] = " ".join(named)
-    unfolds = [it for names in found.values() for it in names.split()]
+    unfolds = [it for names in found.values() for it in names.split()] + sorted(it for it in wanted if it[:4] == "lib.")
     out = [line for k, it in enumerate(module.examples) for line in row(module, k, *it, unfolds)]
     return out, found

@@ -1,6 +1,8 @@
-"""Numbers of no constant width: unary, and in groups of bits."""
-from lines import Line, kind
+"""Numbers of no constant width: unary, in groups of bits, and Exp-Golomb."""
+from lines import Line, kind, signed_term
 from source import Refused, number
+
+WHOLE = [f"{sign}{width}" for sign in "ui" for width in (8, 16, 32, 64, 128)]
 
 
 @kind("unary")
@@ -42,43 +44,111 @@ class Unary(Line):
 class Vbr(Line):
     """A line NAME vbr FIELD TYPE [any]: groups of FIELD bits; with `any` also such as end in a group of 0."""
 
-    unfolds = ("groups", "groups_at", "groups_entry")
+    unfolds, long = ("groups", "groups_at", "groups_entry", "signed_groups_entry"), 5
 
     def __init__(self, name, words, doc):
         self.name, self.doc, self.type, self.any = name, doc, words[2], words[3:] == ["any"]
-        if self.type not in ("u8", "u16", "u32", "u64", "u128"):
-            raise Refused(f"`{self.type}` in groups: take an unsigned type")
-        self.width = int(self.type[1:])
+        if words[3:] and not self.any:
+            raise Refused(f"`any` or nothing, and not `{words[3]}`")
+        if self.type not in WHOLE:
+            raise Refused(f"`{self.type}` in groups: take u8 to u128, or i8 to i128")
+        self.signed, self.width = self.type[0] == "i", int(self.type[1:])
         self.field = number(words[1], 2, self.width - 1, "the bits of a group")
 
-    entry = property(lambda self: f"{'any_' * self.any}vbr_entry o {self.field} {self.width} (2 ^ {self.width})")
-    word = property(lambda self: f"vbr o {self.field} {self.value}")
-    size = property(lambda self: f"length (vbr_word o {self.field} {self.value})")
-    written = property(lambda self: f"vbr-written o {self.field} {self.value}")
+    kind = property(lambda self: "ℤ" if self.signed else "ℕ")
+    call = property(lambda self: f"{'any_' * self.any}{'signed_' * self.signed}vbr")
+    limit = property(lambda self: "" if self.signed else f" (2 ^ {self.width})")
+    number = property(lambda self: f"(zig {self.value})" if self.signed else self.value)
+    entry = property(lambda self: f"{self.call}_entry o {self.field} {self.width}{self.limit}")
+    word = property(lambda self: f"{'signed_' * self.signed}vbr o {self.field} {self.value}")
+    size = property(lambda self: f"length (vbr_word o {self.field} {self.number})")
+    written = property(lambda self: f"vbr-written o {self.field} {self.number}")
 
     def said(self):
         return f"groups of {self.field} bits"
 
     def read(self, error):
-        return f"reader.read_{'unsigned_vbr_any' if self.any else 'vbr'}::<Bits<{self.field}>, {self.type}>()"
+        sign = "signed" if self.signed else "unsigned"
+        call = f"read_{sign}_vbr_any" if self.any else "read_vbr"
+        return f"reader.{call}::<Bits<{self.field}>, {self.type}>()"
 
     def write(self):
         return f"writer.write_vbr::<Bits<{self.field}>, {self.type}>(self.{self.name})"
 
     def fits(self):
-        return [(self.name, f"{self.value} < 2 ^ {self.width}")]
+        fits = f"FitsSignedBits {self.width} {self.value}" if self.signed else f"{self.value} < 2 ^ {self.width}"
+        return [(self.name, fits)]
 
     def back(self, behind):
-        lemma = f"{'any_' * self.any}vbr-back"
-        return f"{lemma} _ _ o {self.field} {self.width} {self.value} _ refl refl fits.{self.name} ({behind})"
+        shape = f"_ _ o {self.field} {self.width} {self.value}"
+        return f"{self.call}-back {shape} _ refl refl fits.{self.name} ({behind})"
 
     def term(self, said):
-        return str(int(said, 0))
+        return (signed_term if self.signed else str)(int(said, 0))
 
 
 @kind("leb128")
 class Leb128(Vbr):
     """A line NAME leb128 TYPE: groups of 8 bits, also such as end in a group of 0."""
 
+    long = 3
+
     def __init__(self, name, words, doc):
         super().__init__(name, ["vbr", "8", words[1], "any"], doc)
+
+
+@kind("ue")
+class Golomb(Line):
+    """A line NAME ue: an Exp-Golomb number. The module `golomb` of `bitstream_callers` is copied for it."""
+
+    many, type, long, short, copies = True, "u32", 2, "ue", "golomb"
+    more = "Below 2^32 - 1."
+    unfolds = ("unary_entry", "unsigned", "unsigned_entry", "lib.Count.count_leading_zeros")
+
+    def __init__(self, name, words, doc):
+        self.name, self.doc = name, doc
+
+    imports = property(lambda self: (f"crate::golomb::{{read_{self.short}, write_{self.short}}}",))
+    entry = property(lambda self: f"{self.short}_entry o")
+    word = property(lambda self: f"{self.short}_writes o {self.value}")
+    size = property(lambda self: f"{self.short}_size {self.value}")
+    written = property(lambda self: f"{self.short}-packs o {self.value} fits.{self.name}")
+
+    def said(self):
+        return f"Exp-Golomb, {self.short}"
+
+    def read(self, error):
+        return f"read_{self.short}(reader)"
+
+    def write(self):
+        return f"write_{self.short}(writer, self.{self.name})"
+
+    def fits(self):
+        return [(self.name, f"{self.value} < 2 ^ 32 - 1")]
+
+    def back(self, behind):
+        goes = f"({self.short}-back o {self.value} fits.{self.name}).back"
+        return f"part-back ({self.entry}) _ ({self.word}) _ {self.value} _ {goes} ({behind})"
+
+    def term(self, said):
+        return str(int(said, 0))
+
+    def names(self, module):
+        words = " ".join(f"{self.short}_{it}" for it in ("entry", "writes", "size"))
+        return {f"Rattle.{module.crate}.specs.Golomb": words}
+
+    def lemma_names(self, module):
+        return {f"Rattle.{module.crate}.proofs.GolombLemmas": f"{self.short}-back {self.short}-packs"}
+
+
+@kind("se")
+class SignedGolomb(Golomb):
+    """A line NAME se: a signed one."""
+
+    type, kind, short, more = "i32", "ℤ", "se", "From -2^31 + 1 on."
+
+    def fits(self):
+        return [(self.name, f"unsigned_abs {self.value} < 2 ^ 31")]
+
+    def term(self, said):
+        return signed_term(int(said, 0))

@@ -1,7 +1,7 @@
 """The code of a format's module."""
 import re
 
-from names import SPECS, uses
+from names import SPECS, article, uses
 from picture import picture
 
 LIBRARY = """BE LE BitRead BitReadExt BitReader BitWrite BitWriteExt BitWriter Bits Error FromBitStream SliceMut
@@ -41,7 +41,9 @@ class Code:
         return "\n".join([f"//! {self.doc}", "//!", f"//! {self.made}", *self.imported(text), "", text]) + "\n"
 
     def imported(self, text):
-        ghosts = uses(clauses(text), self.own_specs(), self.types(), SPECS, begins="ghost use ", ends=";")
+        # but before an order `number` is a parameter there
+        said = re.sub(r"\bnumber\b(?! (?:High|Low))", "", clauses(text))
+        ghosts = uses(said, self.own_specs(), self.types(), SPECS, begins="ghost use ", ends=";")
         traits = "BitReadExt " * ("reader.read" in text) + "BitWriteExt " * ("writer.write" in text)
         code = "\n".join(it for it in text.split("\n") if not it.strip().startswith("///"))
         words = set(re.findall(r"\w+", code + traits))
@@ -65,7 +67,7 @@ class Code:
         errors = dict.fromkeys(it.error for it in self.tests)
         cases = [line for it in errors for line in (f"    /// {whys[it]}", f"    {it},")]
         return [
-            f"/// Why a `{self.type}` is not read.",
+            f"/// Why {article(self.type)} is not read.",
             "#[derive(Debug, Drop)]",
             f"pub enum {e} {{",
             "    /// An error of the reader.",
@@ -89,13 +91,14 @@ class Code:
 
     def read_code(self):
         reads = f"ReadsOwn R.source becomes_{self.m}" if self.own else "Reads R.source"
-        own = f"{self.refusals()}behind the bits that say so. Else those" if self.own else "Those"
+        own = [f"    /// {self.refusals()}behind the bits that say so."] * self.own
         return [
             "    /// Reads the fields in order.",
             "    ///",
             "    /// # Errors",
             "    ///",
-            f"    /// {own} of the reader: after each of them it has failed.",
+            *own,
+            f"    /// {'Else those' if self.own else 'Those'} of the reader: after each of them it has failed.",
             f"    pub fn read<R: BitRead>(reader: &mut R) -> Result<{self.type}, {self.e}>",
             f"        ensures {{ {reads} ({self.m}_entry R.source.order) reader.old result reader.new }}",
             "    {",
@@ -240,13 +243,19 @@ class Code:
         ]
 
     def law_code(self):
-        ok = "Ok (Ok value)" if self.own else "Ok value"
+        m, ok = self.m, "Ok (Ok value)" if self.own else "Ok value"
+        size = self.total if self.sized else f"{m}_size o value"
         return [
             "/// What fits its bits is read back as it was written, in either order of bits, wherever it stands.",
-            "/// The read takes the bits that were written, and no more.",
-            f"pub fn {self.m}_goes_back()",
-            f"    ensures {{ (o : Order) (value : {self.type}) (at from : ℕ) (more : List Bool) → Fits value",
-            f"        → let written = write_run ({self.m}_writes o value) at in",
-            f"        ({self.m}_entry o).reads from (written ++ more) ≡ Takes (length written) ({ok}) }}",
+            f"/// The read takes the bits that were written, and no more: {self.how_many()}.",
+            f"pub fn {m}_goes_back()",
+            f"    ensures back {{ (o : Order) (value : {self.type}) (at from : ℕ) (more : List Bool) → Fits value",
+            f"        → let written = write_run ({m}_writes o value) at in",
+            f"        ({m}_entry o).reads from (written ++ more) ≡ Takes (length written) ({ok}) }}",
+            f"    ensures size {{ (o : Order) (value : {self.type}) (at : ℕ) → Fits value",
+            f"        → length (write_run ({m}_writes o value) at) ≡ {size} }}",
             "{}",
         ]
+
+    def how_many(self):
+        return f"{self.total} bits" if self.sized else f"as many as `{self.m}_size` says"

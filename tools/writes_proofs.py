@@ -1,5 +1,5 @@
 """The lemmas and the answers of a format."""
-from names import PROOFS, uses, wrapped
+from names import PROOFS, article, uses, wrapped
 from rows import rows
 
 
@@ -24,7 +24,7 @@ class Proofs:
         """Gives the text of the file of lemmas."""
         out = [line for it in self.lines for line in it.lemmas(self)]
         out += [*self.goes(), *self.packs(), *self.told()]
-        head = [f"-- What was written of a `{self.type}` is read back, and how many bits it takes.", f"-- {self.made}"]
+        head = [f"-- What was written of {article(self.type)} is read back, and how many bits it takes.", f"-- {self.made}"]
         return self.text(head, out, self.parts_lemmas())
 
     def goes(self):
@@ -69,7 +69,9 @@ class Proofs:
 
     def law(self):
         term = f"λ o value at from more fits. ({self.m}_goes o value fits).back at from more"
-        return self.answer(f"{self.m}_goes_back", ("returns", "c", term))
+        size = f"λ o value at fits. ({self.m}_packs o value fits).size at"
+        clauses = ("returns-clause-back", "c", term), ("returns-clause-size", "c", size)
+        return self.answer(f"{self.m}_goes_back", *clauses)
 
     def parse_answers(self):
         m, o, own = self.m, self.o, "own_" * self.own
@@ -79,7 +81,7 @@ class Proofs:
         answer = f"own_answered {over}" if self.own else "new_answer slice_ends _ _ c.over.ensures.state c.read.ensures"
         answers = [("answer", "c", answer)]
         answers += self.there(over) if self.sized else []
-        back, is_ = f"c.{m}_goes_back.ensures {o} value 0 0 more fits", "is"
+        back, is_ = f"c.{m}_goes_back.ensures.back {o} value 0 0 more fits", "is"
         if self.sized:
             is_ = f"(is ∙ ap (λ w. w ++ more) (sym (told value) ∙ packs-whole ({m}_packs {o} value fits) refl))"
         term = f"λ value more fits is.\n    {own}front_answered {over} (ap (({m}_entry {o}).reads 0) {is_} ∙ {back})"
@@ -121,7 +123,7 @@ class Proofs:
             name, clause = (f"other_{it.index}", it.clause) if it else ("found", "there")
             facts = facts + (["differs"] if it else [])
             found = f"({' '.join([name, '_', *kinds, *facts])}) (omega arith)"
-            out.append((clause, "c", f"λ {' '.join([*kinds, 'enough', *facts])}. {own}fields_there {over} {found}"))
+            out.append((clause, "c", f"λ {' '.join(['enough', *kinds, *facts])}. {own}fields_there {over} {found}"))
         few = f"{own}fields_short {over} {found}"
         if self.tests and self.by_cases():
             return [*out, ("short", "c", self.short(over))]
@@ -185,4 +187,4 @@ class Proofs:
     def rows(self):
         """Gives the text of the file of worked rows."""
         out, unfolded = rows(self)
-        return self.text([f"-- Worked rows of a `{self.type}`.", f"-- {self.made}"], out, unfolded)
+        return self.text([f"-- Worked rows of {article(self.type)}.", f"-- {self.made}"], out, unfolded)

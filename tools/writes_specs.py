@@ -1,4 +1,6 @@
 """The definitions that a format's contracts cite."""
+import re
+
 from names import SPECS, uses, wrapped
 
 
@@ -10,7 +12,8 @@ class Specs:
         out += [*self.entries(), *self.writes(), *self.fits(), *self.sizes(), *self.all_bits()]
         out += self.at_places() if self.sized else []
         text = "\n".join(out)
-        imports = uses(text, self.types(), self.parts_specs(), SPECS)
+        # here `bits` is bound in each definition that names it
+        imports = uses(re.sub(r"\bbits\b", "", text), self.types(), self.parts_specs(), SPECS)
         return wrapped("\n".join([f"-- {self.doc}", *imports, "", f"-- {self.made}", "", text.rstrip()])) + "\n"
 
     def becomes(self):
@@ -56,12 +59,18 @@ class Specs:
         return f"  gives (Ok ({record}))" if self.own else f"  gives ({record})"
 
     def writes(self):
-        joins = ["", *("++ " if it.many else "∷ " for it in self.lines)]
+        # `++` goes to the left: what stands behind one that others follow is in brackets
+        manys = [k for k, it in enumerate(self.lines) if it.many]
+        opened, out, join = manys[:-1], [], ""
+        for k, it in enumerate(self.lines):
+            out.append(f"    {join}{it.word}")
+            join = f"++ {'(' * (k in opened)}" if it.many else "∷ "
         return [
             "-- the writes, in order",
             f"abbrev pub {self.m}_writes : Order → {self.type} → List WriteEntry",
             f"{self.m}_writes o value =",
-            *[f"    {join}{word}" for join, word in zip(joins, [*(it.word for it in self.lines), "[]"])],
+            *out,
+            f"    {join}[]{')' * len(opened)}",
             "",
         ]
 
@@ -87,7 +96,7 @@ class Specs:
     def at_places(self):
         kinds = [it for it in self.tests if it.type]
         arrows, args = "".join(f"{it.type} → " for it in kinds), "".join(f" {it.name}" for it in kinds)
-        fields = [f"  {it.name} = {it.place(f'bits_at {it.at} {it.bits} bits')};" for it in self.fields]
+        fields = [f"  {it.name} = {it.place_in('bits')};" for it in self.fields]
         return [
             "-- the fields that bits say, each by its place",
             f"abbrev pub {self.m}_at : {arrows}List Bool → {self.type}",

@@ -2,7 +2,7 @@
 -- Made by `./format` from formats/header.fields: edit that file and make this one anew.
 use Rattle.bitstream_callers.specs.Header.{header_entry, header_writes, header_size, header_bits, Fits}
 use Rattle.bitstream_callers.specs.declared.header.Header.{Header}
-use Rattle.std.proofs.Common.{◌≡◌, ◌++◌, ◌∷◌, [], length, refl}
+use Rattle.std.proofs.Common.{◌≡◌, ◌++◌, ◌∷◌, [], refl}
 use Rattle.bitstream_io.proofs.CallerLemmas.{GoesBack, Packs, bit-back, signed-back, unsigned-back, gives-back, bit-written, signed-written, unsigned-written, packs-none, packs-more}
 use Rattle.bitstream_io.specs.Callers.{Order, High, align, write_run}
 

@@ -2,7 +2,7 @@
 -- Made by `./format` from formats/primary_header.fields: edit that file and make this one anew.
 use Rattle.bitstream_callers.specs.PrimaryHeader.{primary_header_entry, primary_header_writes, primary_header_size, primary_header_bits, Fits}
 use Rattle.bitstream_callers.specs.declared.primary_header.PrimaryHeader.{PrimaryHeader}
-use Rattle.std.proofs.Common.{◌≡◌, ◌++◌, ◌∷◌, [], Ok, length, refl}
+use Rattle.std.proofs.Common.{◌≡◌, ◌++◌, ◌∷◌, [], Ok, refl}
 use Rattle.bitstream_io.proofs.CallerLemmas.{GoesBack, Packs, bit-back, unsigned-back, gives-back, literal-back, bit-written, unsigned-written, const-written, packs-none, packs-more}
 use Rattle.bitstream_io.specs.Callers.{Order, High, align, write_run}
 

@@ -4,8 +4,8 @@ use Rattle.bitstream_callers.specs.StreamInfoBlock.{stream_info_block_entry, str
 use Rattle.bitstream_callers.specs.StreamInfo.{stream_info_entry, stream_info_writes}
 use Rattle.bitstream_callers.proofs.StreamInfoLemmas.{stream_info_goes, stream_info_packs}
 use Rattle.bitstream_callers.specs.declared.stream_info_block.StreamInfoBlock.{StreamInfoBlock}
-use Rattle.std.proofs.Common.{◌≡◌, ◌++◌, ◌∷◌, [], refl, arith}
-use Rattle.bitstream_io.proofs.CallerLemmas.{GoesBack, Packs, bytes-back, gives-back, part-back, bytes-written, packs-none, packs-more, packs-part, packs-is}
+use Rattle.std.proofs.Common.{◌≡◌, ◌++◌, ◌∷◌, [], refl}
+use Rattle.bitstream_io.proofs.CallerLemmas.{GoesBack, Packs, bytes-back, gives-back, part-back, bytes-written, packs-none, packs-more, packs-part}
 use Rattle.bitstream_io.specs.Callers.{Order, High, align, write_run}
 
 -- what was written is read back
@@ -19,8 +19,8 @@ stream_info_block_goes o value fits =
 pub stream_info_block_packs : (o : Order) (value : StreamInfoBlock) → Fits value
     → Packs (stream_info_block_writes o value) (stream_info_block_size o value)
 stream_info_block_packs o value fits =
-    packs-is (packs-part (stream_info_packs o value.info fits.info) (packs-more (bytes-written o 16 value.md5
-    fits.md5_count) (packs-none))) (omega arith)
+    packs-part (stream_info_packs o value.info fits.info) (packs-more (bytes-written o 16 value.md5 fits.md5_count)
+    (packs-none))
 
 -- the bits, of which a search is to see no part
 pub told : (value : StreamInfoBlock)

@@ -1,7 +1,7 @@
 -- What stands before a packet's bytes.
 use Rattle.bitstream_callers.specs.declared.header.Header.{Header}
 use Rattle.std.specs.Prelude.{◌^◌, ◌<◌, ◌++◌, ◌∷◌, [], ℕ, Bool, List, length, take, drop}
-use Rattle.bitstream_io.specs.Callers.{◌>>=◌, ReadEntry, WriteEntry, gives, Order, High, bits, number, signed_number, FitsSignedBits, first_bit, bit_entry, unsigned_entry, signed_entry, bit, unsigned, signed, align, write_run}
+use Rattle.bitstream_io.specs.Callers.{◌>>=◌, ReadEntry, WriteEntry, gives, Order, High, number, signed_number, FitsSignedBits, first_bit, bit_entry, unsigned_entry, signed_entry, bit, unsigned, signed, align, write_run}
 
 -- Made by `./format` from formats/header.fields: edit that file and make this one anew.
 

@@ -3,7 +3,7 @@ use Rattle.bitstream_callers.specs.declared.primary_header.PrimaryHeader.{Primar
 use Rattle.bitstream_callers.specs.declared.primary_header.PrimaryHeaderError.{PrimaryHeaderError}
 use Rattle.bitstream_callers.specs.declared.primary_header.PrimaryHeaderError.TheVariants.{Reader, WrongVersion}
 use Rattle.std.specs.Prelude.{◌≡◌, ◌^◌, ◌<◌, ◌++◌, ◌∷◌, [], if◌then◌else◌, ℕ, Bool, List, Result, Ok, Err, length, take, drop}
-use Rattle.bitstream_io.specs.Callers.{◌>>=◌, ReadEntry, WriteEntry, gives, Error, Order, High, bits, number, word, first_bit, bit_entry, unsigned_entry, const_entry, plain, bit, unsigned, align, write_run}
+use Rattle.bitstream_io.specs.Callers.{◌>>=◌, ReadEntry, WriteEntry, gives, Error, Order, High, number, word, first_bit, bit_entry, unsigned_entry, const_entry, plain, bit, unsigned, align, write_run}
 
 -- Made by `./format` from formats/primary_header.fields: edit that file and make this one anew.
 

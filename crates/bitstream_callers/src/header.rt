@@ -129,9 +129,11 @@ impl ToBitStream for Header {
 }
 
 /// What fits its bits is read back as it was written, in either order of bits, wherever it stands.
-/// The read takes the bits that were written, and no more.
+/// The read takes the bits that were written, and no more: 24 bits.
 pub fn header_goes_back()
-    ensures { (o : Order) (value : Header) (at from : ℕ) (more : List Bool) → Fits value
+    ensures back { (o : Order) (value : Header) (at from : ℕ) (more : List Bool) → Fits value
         → let written = write_run (header_writes o value) at in
         (header_entry o).reads from (written ++ more) ≡ Takes (length written) (Ok value) }
+    ensures size { (o : Order) (value : Header) (at : ℕ) → Fits value
+        → length (write_run (header_writes o value) at) ≡ 24 }
 {}

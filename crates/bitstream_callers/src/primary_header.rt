@@ -63,7 +63,8 @@ impl PrimaryHeader {
     ///
     /// # Errors
     ///
-    /// `WrongVersion`, behind the bits that say so. Else those of the reader: after each of them it has failed.
+    /// `WrongVersion`, behind the bits that say so.
+    /// Else those of the reader: after each of them it has failed.
     pub fn read<R: BitRead>(reader: &mut R) -> Result<PrimaryHeader, PrimaryHeaderError>
         ensures { ReadsOwn R.source becomes_primary_header (primary_header_entry R.source.order) reader.old result reader.new }
     {
@@ -170,9 +171,11 @@ impl ToBitStream for PrimaryHeader {
 }
 
 /// What fits its bits is read back as it was written, in either order of bits, wherever it stands.
-/// The read takes the bits that were written, and no more.
+/// The read takes the bits that were written, and no more: 48 bits.
 pub fn primary_header_goes_back()
-    ensures { (o : Order) (value : PrimaryHeader) (at from : ℕ) (more : List Bool) → Fits value
+    ensures back { (o : Order) (value : PrimaryHeader) (at from : ℕ) (more : List Bool) → Fits value
         → let written = write_run (primary_header_writes o value) at in
         (primary_header_entry o).reads from (written ++ more) ≡ Takes (length written) (Ok (Ok value)) }
+    ensures size { (o : Order) (value : PrimaryHeader) (at : ℕ) → Fits value
+        → length (write_run (primary_header_writes o value) at) ≡ 48 }
 {}

@@ -1,10 +1,10 @@
 //! A whole STREAMINFO block of a FLAC file, of 34 bytes.
 //!
 //! Made by `./format` from formats/stream_info_block.fields: edit that file and make this one anew.
-ghost use Rattle.bitstream_callers.specs.StreamInfoBlock.{stream_info_block_entry, stream_info_block_writes, stream_info_block_size, stream_info_block_bits, Fits};
+ghost use Rattle.bitstream_callers.specs.StreamInfoBlock.{stream_info_block_entry, stream_info_block_writes, stream_info_block_bits, stream_info_block_at, Fits};
 ghost use Rattle.bitstream_callers.specs.declared.stream_info_block.StreamInfoBlock.{StreamInfoBlock};
-ghost use Rattle.std.specs.Prelude.{◌≡◌, ◌≤◌, ◌*◌, ◌++◌, ℕ, Bool, List, Ok, length, IfOk, IsOk};
-ghost use Rattle.bitstream_io.specs.Callers.{Takes, Order, High, bits, write_run, Reads, WritesAll, sure_answer, same_error, plain_reads};
+ghost use Rattle.std.specs.Prelude.{◌≡◌, ◌<◌, ◌≤◌, ◌++◌, ℕ, Bool, List, Ok, Err, length, IfOk, IsOk};
+ghost use Rattle.bitstream_io.specs.Callers.{Takes, EndOfInput, Order, High, bits, write_run, Reads, WritesAll, sure_answer, same_error, plain_reads};
 ghost use Rattle.bitstream_io.specs.SliceMut.{written_bytes};
 
 use crate::stream_info::StreamInfo;
@@ -19,10 +19,14 @@ use bitstream_io::{
 ///  0                   1                   2                   3
 ///  0 1 2 3 4 5 6 7 8 9 0 1 2 3 4 5 6 7 8 9 0 1 2 3 4 5 6 7 8 9 0 1
 /// +-+-+-+-+-+-+-+-+-+-+-+-+-+-+-+-+-+-+-+-+-+-+-+-+-+-+-+-+-+-+-+-+
-/// /                       info (StreamInfo)                       /
+/// |                         info (4 rows)                         |
 /// +-+-+-+-+-+-+-+-+-+-+-+-+-+-+-+-+-+-+-+-+-+-+-+-+-+-+-+-+-+-+-+-+
-/// |                          md5 (4 rows)                         |
+/// |                               |                               |
 /// +-+-+-+-+-+-+-+-+-+-+-+-+-+-+-+-+-+-+-+-+-+-+-+-+-+-+-+-+-+-+-+-+
+/// |                          md5 (3 rows)                         |
+/// +-+-+-+-+-+-+-+-+-+-+-+-+-+-+-+-+-+-+-+-+-+-+-+-+-+-+-+-+-+-+-+-+
+/// |                               |
+/// +-+-+-+-+-+-+-+-+-+-+-+-+-+-+-+-+
 /// ```
 #[derive(Clone, Copy, Debug, PartialEq)]
 pub struct StreamInfoBlock {
@@ -50,11 +54,14 @@ impl StreamInfoBlock {
     ///
     /// # Errors
     ///
-    /// `EndOfInput` if the bytes end before the fields do.
+    /// `EndOfInput` for fewer than 34 bytes.
     pub fn parse(packet: &[u8]) -> Result<StreamInfoBlock, Error>
         ensures answer { result ≡ sure_answer ((stream_info_block_entry High).reads 0 (bits High packet.now)) }
+        ensures there { 34 ≤ length packet.now
+            → result ≡ Ok (stream_info_block_at (bits High packet.now)) }
+        ensures short { length packet.now < 34 → result ≡ Err EndOfInput }
         ensures back { (value : StreamInfoBlock) (more : List Bool) → Fits value
-            → bits High packet.now ≡ write_run (stream_info_block_writes High value) 0 ++ more → result ≡ Ok value }
+            → bits High packet.now ≡ stream_info_block_bits value ++ more → result ≡ Ok value }
     {
         stream_info_block_goes_back();
         StreamInfoBlock::read(&mut BitReader::<_, BE>::over(packet))
@@ -75,7 +82,7 @@ impl StreamInfoBlock {
     }
 
     /// Writes the fields to the first bytes of a buffer, and returns what was written. No write
-    /// fails if each field fits its bits and the buffer has room for their bits. No memory is asked for.
+    /// fails if each field fits its bits and the buffer has 34 bytes. No memory is asked for.
     ///
     /// # Errors
     ///
@@ -83,7 +90,7 @@ impl StreamInfoBlock {
     /// short.
     pub fn pack_into<'a>(&self, buffer: &'a mut [u8]) -> Result<SliceMut<'a>, Error>
         ensures packed { IfOk result (λ packed. bits High (written_bytes packed) ≡ stream_info_block_bits self.now) }
-        ensures room { Fits self.now → stream_info_block_size High self.now ≤ 8 * length buffer.old → IsOk result }
+        ensures room { Fits self.now → 34 ≤ length buffer.old → IsOk result }
     {
         let mut writer = BitWriter::<_, BE>::over(buffer);
         self.write(&mut writer)?;
@@ -117,9 +124,11 @@ impl ToBitStream for StreamInfoBlock {
 }
 
 /// What fits its bits is read back as it was written, in either order of bits, wherever it stands.
-/// The read takes the bits that were written, and no more.
+/// The read takes the bits that were written, and no more: 272 bits.
 pub fn stream_info_block_goes_back()
-    ensures { (o : Order) (value : StreamInfoBlock) (at from : ℕ) (more : List Bool) → Fits value
+    ensures back { (o : Order) (value : StreamInfoBlock) (at from : ℕ) (more : List Bool) → Fits value
         → let written = write_run (stream_info_block_writes o value) at in
         (stream_info_block_entry o).reads from (written ++ more) ≡ Takes (length written) (Ok value) }
+    ensures size { (o : Order) (value : StreamInfoBlock) (at : ℕ) → Fits value
+        → length (write_run (stream_info_block_writes o value) at) ≡ 272 }
 {}

@@ -1,5 +1,8 @@
-use Rattle.bitstream_callers.proofs.PrimaryHeaderLemmas.{primary_header_goes}
+use Rattle.bitstream_callers.proofs.PrimaryHeaderLemmas.{primary_header_goes, primary_header_packs}
 use Rattle.bitstream_callers.proofs.primary_header.primary_header_goes_back.Goals as goal
 
-pub returns : goal.returns
-returns c = λ o value at from more fits. (primary_header_goes o value fits).back at from more
+pub returns-clause-back : goal.returns-clause-back
+returns-clause-back c = λ o value at from more fits. (primary_header_goes o value fits).back at from more
+
+pub returns-clause-size : goal.returns-clause-size
+returns-clause-size c = λ o value at fits. (primary_header_packs o value fits).size at

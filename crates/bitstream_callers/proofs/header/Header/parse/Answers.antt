@@ -24,5 +24,5 @@ returns-clause-short c = λ few. fields_short slice_ends c.over.ensures.state re
 pub returns-clause-back : goal.returns-clause-back
 returns-clause-back c = λ value more fits is.
     front_answered slice_ends c.over.ensures.state refl c.read.ensures (ap ((header_entry High).reads 0) (is ∙ ap (λ w.
-    w ++ more) (sym (told value) ∙ packs-whole (header_packs High value fits) refl)) ∙ c.header_goes_back.ensures
-    High value 0 0 more fits)
+    w ++ more) (sym (told value) ∙ packs-whole (header_packs High value fits) refl)) ∙
+    c.header_goes_back.ensures.back High value 0 0 more fits)

@@ -49,4 +49,4 @@ pub returns-clause-back : goal.returns-clause-back
 returns-clause-back c = λ value more fits is.
     own_front_answered slice_ends c.over.ensures.state refl c.read.ensures (ap ((primary_header_entry High).reads 0) (is
     ∙ ap (λ w. w ++ more) (sym (told value) ∙ packs-whole (primary_header_packs High value fits) refl)) ∙
-    c.primary_header_goes_back.ensures High value 0 0 more fits)
+    c.primary_header_goes_back.ensures.back High value 0 0 more fits)

@@ -27,4 +27,4 @@ pub returns-clause-back : goal.returns-clause-back
 returns-clause-back c = λ value more fits is.
     front_answered slice_ends c.over.ensures.state refl c.read.ensures (ap ((stream_info_entry High).reads 0) (is ∙ ap
     (λ w. w ++ more) (sym (told value) ∙ packs-whole (stream_info_packs High value fits) refl)) ∙
-    c.stream_info_goes_back.ensures High value 0 0 more fits)
+    c.stream_info_goes_back.ensures.back High value 0 0 more fits)

@@ -1,6 +1,6 @@
 use Rattle.bitstream_callers.specs.StreamInfoBlock.{stream_info_block_writes}
 use Rattle.bitstream_callers.proofs.StreamInfoBlockLemmas.{stream_info_block_packs, told}
-use Rattle.std.proofs.Common.{◌-◌, ◌∙◌, refl, rules}
+use Rattle.std.proofs.Common.{◌∙◌, refl, arith, rules}
 use Rattle.bitstream_io.proofs.CallerLemmas.{packed_stream, calls_with_room, align_with_room, packs-room}
 use Rattle.bitstream_io.specs.Callers.{High}
 use Rattle.bitstream_callers.proofs.stream_info_block.StreamInfoBlock.pack_into.Goals as goal
@@ -14,12 +14,12 @@ returns-clause-packed c = let whole = (packed_stream _ _ (stream_info_block_writ
 pub returns-in_err-write-clause-room : goal.returns-in_err-write-clause-room
 returns-in_err-write-clause-room c = λ fits enough. let all = stream_info_block_packs High _ fits in
     let done = calls_with_room High (stream_info_block_writes High c.args.self.now) c.over-writer.result
-    c.over-writer.ensures (all.accepted 0) (packs-room all _ enough) _ _ c.in_err-write.ensures in
+    c.over-writer.ensures (all.accepted 0) (packs-room all _ (omega arith)) _ _ c.in_err-write.ensures in
     cc
 
 pub returns-in_err-byte_align-clause-room : goal.returns-in_err-byte_align-clause-room
 returns-in_err-byte_align-clause-room c = λ fits enough. let all = stream_info_block_packs High _ fits in
     let done = align_with_room High (stream_info_block_writes High c.args.self.now) c.over-writer.result
-    c.over-writer.ensures (all.accepted 0) (packs-room all _ enough) _ _ _ c.in_ok-write.ensures
+    c.over-writer.ensures (all.accepted 0) (packs-room all _ (omega arith)) _ _ _ c.in_ok-write.ensures
     c.in_err-byte_align.ensures.writes in
     cc
