@@ -2,18 +2,20 @@
 //! that memory is not called refused while it is left, and the kind of a write with no room. What the others
 //! say of the formats' bytes is proved: the worked rows of `bitstream_callers`.
 use crate::asserts::{are, each_holds, ended, failed, gives, holds, same};
-use bitstream_callers::block_header::{BlockHeader, append};
+use bitstream_callers::appending::append;
+use bitstream_callers::block_header::BlockHeader;
 use bitstream_callers::packet_header::{PacketError, PacketHeader};
 use bitstream_callers::padded_port::PaddedPort;
 use bitstream_callers::plain::{
     chunk, direction, drift, first_block, parse_turn, picture_size, sample_rate, version,
 };
 use bitstream_callers::reading::{Reading, ReadingError};
+use bitstream_callers::sample::Sample;
 use bitstream_callers::samples::parse_samples;
 use bitstream_callers::sensor::state_code;
 use bitstream_callers::stream_info::StreamInfo;
 use bitstream_callers::stream_info_block::StreamInfoBlock;
-use bitstream_callers::telemetry::{Sample, heartbeat};
+use bitstream_callers::telemetry::heartbeat;
 use bitstream_io::{
     BE, BitRead, BitReadExt, BitReader, BitWrite, BitWriteExt, BitWriter, BitsWritten, ByteRead,
     ByteReadExt, ByteReader, ByteWrite, ByteWriteExt, ByteWriter, Error, LE, Slice, SliceMut,

@@ -8,20 +8,15 @@ use Rattle.bitstream_io.specs.Tree.{path_entry}
 use Rattle.bitstream_io.specs.Array.{items_entry}
 use Rattle.bitstream_io.specs.Vbr.{groups, groups_at}
 use Rattle.bitstream_io.specs.Word.{digits, digits_number}
-use Rattle.bitstream_io.specs.WriteTable.{signed, unsigned}
-use Rattle.bitstream_callers.specs.Adts.{adts_entry, adts_header, adts_writes}
+use Rattle.bitstream_io.specs.WriteTable.{unsigned}
 use Rattle.bitstream_callers.specs.Golomb.{se_entry, se_writes, ue_entry, ue_writes}
 use Rattle.bitstream_callers.specs.Samples.{samples_entry, samples_writes}
 use Rattle.bitstream_callers.specs.Sensor.{measurement_entry, measurement_writes}
 use Rattle.bitstream_callers.specs.Sps.{sps_entry}
-use Rattle.bitstream_callers.specs.Telemetry.{packed_bits}
-use Rattle.bitstream_callers.specs.declared.adts.AdtsError.TheVariants.{NoSync, UnknownLayer}
-use Rattle.bitstream_callers.specs.declared.adts.AdtsHeader.{AdtsHeader}
 use Rattle.bitstream_callers.specs.declared.sensor.Measurement.{Measurement}
 use Rattle.bitstream_callers.specs.declared.sensor.State.TheVariants.{Backward}
 use Rattle.bitstream_callers.specs.declared.sps.Sps.{Sps}
 use Rattle.bitstream_callers.specs.declared.sps.SpsError.TheVariants.{OtherUnit}
-use Rattle.bitstream_callers.specs.declared.telemetry.Sample.{Sample}
 
 -- ---- Exp-Golomb numbers
 
@@ -38,39 +33,6 @@ golomb_numbers :
     × ((se_entry High).reads 25 (drop 25 (bits High golomb)) ≡ Takes 5 (Ok (pos 2)))
 unfolding golomb chain unary_entry unsigned unsigned_entry digits digits_number lib.Count.count_leading_zeros
 golomb_numbers = (refl, refl, refl, refl, refl)
-
--- ---- the header of an ADTS frame of 16 bytes, stereo at 44.1 kHz
-
-frame : List ℕ
-frame = 255 ∷ 241 ∷ 80 ∷ 128 ∷ 2 ∷ 31 ∷ 252 ∷ []
-
-frame_header : AdtsHeader
-frame_header = record {
-  mpeg_2 = false;
-  protection_absent = true;
-  profile = 1;
-  frequency = 4;
-  private = false;
-  channels = 2;
-  original = false;
-  home = false;
-  copyright_id = false;
-  copyright_start = false;
-  frame_length = 16;
-  fullness = 2047;
-  blocks = 0;
-}
-
-frames :
-    (write_run (adts_writes High frame_header) 0 ≡ bits High frame)
-    × (adts_header (bits High frame) ≡ frame_header)
-    × ((adts_entry High).reads 0 (bits High frame) ≡ Takes 56 (Ok (Ok frame_header)))
-    -- another syncword, another layer, and a byte less
-    × ((adts_entry High).reads 0 (bits High (255 ∷ 1 ∷ 80 ∷ [])) ≡ Takes 12 (Ok (Err NoSync)))
-    × ((adts_entry High).reads 0 (bits High (255 ∷ 247 ∷ [])) ≡ Takes 15 (Ok (Err UnknownLayer)))
-    × ((adts_entry High).reads 0 (bits High (take 6 frame)) ≡ TooFew)
-unfolding frame frame_header chain const_entry unsigned unsigned_entry digits digits_number
-frames = (refl, refl, refl, refl, refl, refl)
 
 -- ---- samples of 12 bits
 
@@ -116,13 +78,3 @@ parameter_sets :
     × ((sps_entry High).reads 0 (bits High (take 5 parameter_set)) ≡ TooFew)
 unfolding parameter_set small_picture chain const_entry unary_entry unsigned_entry digits digits_number
 parameter_sets = (refl, refl, refl)
-
--- ---- telemetry
-
-packed :
-    (packed_bits (record { seconds = 74565; running = true; temperature = negsuc 19; pressure = 101325 })
-    ≡ bits High (18 ∷ 52 ∷ 95 ∷ 177 ∷ 139 ∷ 205 ∷ []))
-    × (packed_bits (record { seconds = 703710; running = true; temperature = negsuc 1; pressure = 1 })
-    ≡ bits High (171 ∷ 205 ∷ 239 ∷ 248 ∷ 0 ∷ 1 ∷ []))
-unfolding signed unsigned digits
-packed = (refl, refl)

@@ -1,21 +1,31 @@
--- The header of an ADTS frame.
-use Rattle.std.specs.Prelude.{◌≡◌, ◌^◌, ◌<◌, ℕ, Bool, List, [], ◌∷◌, Result, Ok, Err, if◌then◌else◌, take, drop}
-use Rattle.bitstream_io.specs.Callers.{ReadEntry, WriteEntry, gives, Error, bit_entry, const_entry, first_bit, unsigned_entry, ◌>>=◌, Order, High, number, word, bit, plain, unsigned}
+-- The header of an ADTS frame of AAC.
+use Rattle.bitstream_callers.specs.declared.adts.AdtsHeader.{AdtsHeader}
 use Rattle.bitstream_callers.specs.declared.adts.AdtsError.{AdtsError}
 use Rattle.bitstream_callers.specs.declared.adts.AdtsError.TheVariants.{Reader, NoSync, UnknownLayer}
-use Rattle.bitstream_callers.specs.declared.adts.AdtsHeader.{AdtsHeader}
+use Rattle.std.specs.Prelude.{◌≡◌, ◌^◌, ◌<◌, ◌++◌, ◌∷◌, [], if◌then◌else◌, ℕ, Bool, List, Result, Ok, Err, take, drop}
+use Rattle.bitstream_io.specs.Callers.{◌>>=◌, ReadEntry, WriteEntry, gives, Error, Order, High, number, word, first_bit, bit_entry, unsigned_entry, const_entry, plain, bit, unsigned, align, write_run}
 
--- the number of the n bits behind the first k
-abbrev pub number_at : ℕ → ℕ → List Bool → ℕ
-number_at k n bits = number High (take n (drop k bits))
+-- Made by `./format` from formats/adts.fields: edit that file and make this one anew.
 
 -- an error of the reader is one of the type's
 abbrev pub becomes_adts : Error → AdtsError → Type 0
 becomes_adts error own = own ≡ Reader error
 
--- the fields behind the layer, in order
-abbrev pub fields_entry : Order → Bool → ReadEntry (Result AdtsHeader AdtsError)
-fields_entry o mpeg_2 = do
+-- n bits behind the first k
+abbrev pub bits_at : ℕ → ℕ → List Bool → List Bool
+bits_at k n bits = take n (drop k bits)
+
+-- the 12 bits at 0, which are 4095
+abbrev pub const_at_0 : List Bool → ℕ
+const_at_0 bits = number High (bits_at 0 12 bits)
+
+-- the 2 bits at 13, which are 0
+abbrev pub const_at_13 : List Bool → ℕ
+const_at_13 bits = number High (bits_at 13 2 bits)
+
+-- the reads, in order, behind 2 that may be refused
+abbrev pub adts_entry_2 : Order → Bool → ReadEntry (Result AdtsHeader AdtsError)
+adts_entry_2 o mpeg_2 = do
   protection_absent ← bit_entry
   profile ← unsigned_entry o 8 2
   frequency ← unsigned_entry o 8 4
@@ -44,74 +54,70 @@ fields_entry o mpeg_2 = do
     blocks = blocks;
   }))
 
--- what stands behind the syncword
-abbrev pub synced_entry : Order → ReadEntry (Result AdtsHeader AdtsError)
-synced_entry o = do
+-- the reads, in order, behind 1 that may be refused
+abbrev pub adts_entry_1 : Order → ReadEntry (Result AdtsHeader AdtsError)
+adts_entry_1 o = do
   mpeg_2 ← bit_entry
-  layer_is_0 ← const_entry o 2 0
-  if layer_is_0 then fields_entry o mpeg_2 else gives (Err UnknownLayer)
+  is_2 ← const_entry o 2 0
+  if is_2 then adts_entry_2 o mpeg_2 else gives (Err UnknownLayer)
 
--- the reads of a header, in order
+-- the reads, in order
 abbrev pub adts_entry : Order → ReadEntry (Result AdtsHeader AdtsError)
 adts_entry o = do
-  synced ← const_entry o 12 0xFFF
-  if synced then synced_entry o else gives (Err NoSync)
+  is_0 ← const_entry o 12 4095
+  if is_0 then adts_entry_1 o else gives (Err NoSync)
 
--- the bit behind the first k
-abbrev pub bit_at : ℕ → List Bool → Bool
-bit_at k bits = first_bit (take 1 (drop k bits))
-
--- the first 12 bits
-abbrev pub syncword : List Bool → ℕ
-syncword bits = number_at 0 12 bits
-
--- the 2 bits of the layer
-abbrev pub layer : List Bool → ℕ
-layer bits = number_at 13 2 bits
-
--- the fields that bits say
-abbrev pub adts_header : List Bool → AdtsHeader
-adts_header bits = record {
-  mpeg_2 = bit_at 12 bits;
-  protection_absent = bit_at 15 bits;
-  profile = number_at 16 2 bits;
-  frequency = number_at 18 4 bits;
-  private = bit_at 22 bits;
-  channels = number_at 23 3 bits;
-  original = bit_at 26 bits;
-  home = bit_at 27 bits;
-  copyright_id = bit_at 28 bits;
-  copyright_start = bit_at 29 bits;
-  frame_length = number_at 30 13 bits;
-  fullness = number_at 43 11 bits;
-  blocks = number_at 54 2 bits;
-}
-
--- the writes of a header, in order
+-- the writes, in order
 abbrev pub adts_writes : Order → AdtsHeader → List WriteEntry
-adts_writes o header =
-    plain (word o 12 0xFFF)
-    ∷ bit header.mpeg_2
+adts_writes o value =
+    plain (word o 12 4095)
+    ∷ bit value.mpeg_2
     ∷ plain (word o 2 0)
-    ∷ bit header.protection_absent
-    ∷ unsigned o 8 2 header.profile
-    ∷ unsigned o 8 4 header.frequency
-    ∷ bit header.private
-    ∷ unsigned o 8 3 header.channels
-    ∷ bit header.original
-    ∷ bit header.home
-    ∷ bit header.copyright_id
-    ∷ bit header.copyright_start
-    ∷ unsigned o 16 13 header.frame_length
-    ∷ unsigned o 16 11 header.fullness
-    ∷ unsigned o 8 2 header.blocks
+    ∷ bit value.protection_absent
+    ∷ unsigned o 8 2 value.profile
+    ∷ unsigned o 8 4 value.frequency
+    ∷ bit value.private
+    ∷ unsigned o 8 3 value.channels
+    ∷ bit value.original
+    ∷ bit value.home
+    ∷ bit value.copyright_id
+    ∷ bit value.copyright_start
+    ∷ unsigned o 16 13 value.frame_length
+    ∷ unsigned o 16 11 value.fullness
+    ∷ unsigned o 8 2 value.blocks
     ∷ []
 
 -- each field fits its bits
-pub record Fits (header : AdtsHeader) : Type 0 where
-  pub profile : header.profile < 2 ^ 2
-  pub frequency : header.frequency < 2 ^ 4
-  pub channels : header.channels < 2 ^ 3
-  pub frame_length : header.frame_length < 2 ^ 13
-  pub fullness : header.fullness < 2 ^ 11
-  pub blocks : header.blocks < 2 ^ 2
+pub record Fits (value : AdtsHeader) : Type 0 where
+  pub profile : value.profile < 2 ^ 2
+  pub frequency : value.frequency < 2 ^ 4
+  pub channels : value.channels < 2 ^ 3
+  pub frame_length : value.frame_length < 2 ^ 13
+  pub fullness : value.fullness < 2 ^ 11
+  pub blocks : value.blocks < 2 ^ 2
+
+-- the number of bits
+abbrev pub adts_size : Order → AdtsHeader → ℕ
+adts_size o value = 56
+
+-- the bits of all fields, up to a whole byte
+unfoldable pub adts_bits : AdtsHeader → List Bool
+adts_bits value = write_run (adts_writes High value ++ align ∷ []) 0
+
+-- the fields that bits say, each by its place
+abbrev pub adts_at : List Bool → AdtsHeader
+adts_at bits = record {
+  mpeg_2 = first_bit (bits_at 12 1 bits);
+  protection_absent = first_bit (bits_at 15 1 bits);
+  profile = number High (bits_at 16 2 bits);
+  frequency = number High (bits_at 18 4 bits);
+  private = first_bit (bits_at 22 1 bits);
+  channels = number High (bits_at 23 3 bits);
+  original = first_bit (bits_at 26 1 bits);
+  home = first_bit (bits_at 27 1 bits);
+  copyright_id = first_bit (bits_at 28 1 bits);
+  copyright_start = first_bit (bits_at 29 1 bits);
+  frame_length = number High (bits_at 30 13 bits);
+  fullness = number High (bits_at 43 11 bits);
+  blocks = number High (bits_at 54 2 bits);
+}

@@ -1,9 +1,15 @@
--- The header of a FLAC file's block.
-use Rattle.std.specs.Prelude.{List, [], ◌∷◌}
-use Rattle.bitstream_io.specs.Callers.{ReadEntry, WriteEntry, gives, bit_entry, unsigned_entry, ◌>>=◌, Order, bit, unsigned}
+-- The header of a block of a FLAC file.
 use Rattle.bitstream_callers.specs.declared.block_header.BlockHeader.{BlockHeader}
+use Rattle.std.specs.Prelude.{◌^◌, ◌<◌, ◌++◌, ◌∷◌, [], ℕ, Bool, List, take, drop}
+use Rattle.bitstream_io.specs.Callers.{◌>>=◌, ReadEntry, WriteEntry, gives, Order, High, number, first_bit, bit_entry, unsigned_entry, bit, unsigned, align, write_run}
 
--- the reads of a header, in order
+-- Made by `./format` from formats/block_header.fields: edit that file and make this one anew.
+
+-- n bits behind the first k
+abbrev pub bits_at : ℕ → ℕ → List Bool → List Bool
+bits_at k n bits = take n (drop k bits)
+
+-- the reads, in order
 abbrev pub block_header_entry : Order → ReadEntry BlockHeader
 block_header_entry o = do
   last ← bit_entry
@@ -11,6 +17,31 @@ block_header_entry o = do
   size ← unsigned_entry o 32 24
   gives (record { last = last; kind = kind; size = size })
 
--- the writes of a header, in order
+-- the writes, in order
 abbrev pub block_header_writes : Order → BlockHeader → List WriteEntry
-block_header_writes o header = bit header.last ∷ unsigned o 8 7 header.kind ∷ unsigned o 32 24 header.size ∷ []
+block_header_writes o value =
+    bit value.last
+    ∷ unsigned o 8 7 value.kind
+    ∷ unsigned o 32 24 value.size
+    ∷ []
+
+-- each field fits its bits
+pub record Fits (value : BlockHeader) : Type 0 where
+  pub kind : value.kind < 2 ^ 7
+  pub size : value.size < 2 ^ 24
+
+-- the number of bits
+abbrev pub block_header_size : Order → BlockHeader → ℕ
+block_header_size o value = 32
+
+-- the bits of all fields, up to a whole byte
+unfoldable pub block_header_bits : BlockHeader → List Bool
+block_header_bits value = write_run (block_header_writes High value ++ align ∷ []) 0
+
+-- the fields that bits say, each by its place
+abbrev pub block_header_at : List Bool → BlockHeader
+block_header_at bits = record {
+  last = first_bit (bits_at 0 1 bits);
+  kind = number High (bits_at 1 7 bits);
+  size = number High (bits_at 8 24 bits);
+}

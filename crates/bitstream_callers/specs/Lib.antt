@@ -10,6 +10,7 @@ pub mod PrimaryHeader
 pub mod ParameterSet
 pub mod Parameters
 pub mod Reading
+pub mod Sample
 pub mod Samples
 pub mod Sensor
 pub mod Sps

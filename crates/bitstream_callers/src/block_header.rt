@@ -1,21 +1,99 @@
-//! The header of a FLAC file's block, as a type that says how it is read and written.
-ghost use Rattle.std.specs.Prelude.{◌≡◌, ◌+◌, ◌%◌, IfOk};
-ghost use Rattle.bitstream_io.specs.Callers.{plain_reads, same_error};
-ghost use Rattle.bitstream_callers.specs.BlockHeader.{block_header_entry, block_header_writes};
+//! The header of a block of a FLAC file.
+//!
+//! Made by `./format` from formats/block_header.fields: edit that file and make this one anew.
+ghost use Rattle.bitstream_callers.specs.BlockHeader.{block_header_entry, block_header_writes, block_header_bits, block_header_at, Fits};
+ghost use Rattle.bitstream_callers.specs.declared.block_header.BlockHeader.{BlockHeader};
+ghost use Rattle.std.specs.Prelude.{◌≡◌, ◌<◌, ◌≤◌, ◌++◌, ℕ, Bool, List, Ok, Err, length, IfOk, IsOk};
+ghost use Rattle.bitstream_io.specs.Callers.{Takes, EndOfInput, Order, High, bits, write_run, Reads, WritesAll, sure_answer, same_error, plain_reads};
+ghost use Rattle.bitstream_io.specs.SliceMut.{written_bytes};
 
 use bitstream_io::{
-    BitRead, BitReadExt, BitWrite, BitWriteExt, Bits, Error, FromBitStream, ToBitStream,
+    BE, BitRead, BitReadExt, BitReader, BitWrite, BitWriteExt, BitWriter, Bits, Error,
+    FromBitStream, SliceMut, ToBitStream,
 };
 
-/// What stands before a block's bytes.
+/// The header of a block of a FLAC file.
+///
+/// ```text
+///  0                   1                   2                   3
+///  0 1 2 3 4 5 6 7 8 9 0 1 2 3 4 5 6 7 8 9 0 1 2 3 4 5 6 7 8 9 0 1
+/// +-+-+-+-+-+-+-+-+-+-+-+-+-+-+-+-+-+-+-+-+-+-+-+-+-+-+-+-+-+-+-+-+
+/// |l|     kind    |                      size                     |
+/// +-+-+-+-+-+-+-+-+-+-+-+-+-+-+-+-+-+-+-+-+-+-+-+-+-+-+-+-+-+-+-+-+
+/// ```
 #[derive(Clone, Copy, Debug, PartialEq)]
 pub struct BlockHeader {
     /// Whether the block is the last one.
     pub last: bool,
-    /// The kind of the block, below 128.
+    /// The kind of the block. Below 2^7.
     pub kind: u8,
-    /// The bytes of the block, below 2^24.
+    /// The bytes of the block. Below 2^24.
     pub size: u32,
+}
+
+impl BlockHeader {
+    /// Reads the fields in order.
+    ///
+    /// # Errors
+    ///
+    /// Those of the reader: after each of them it has failed.
+    pub fn read<R: BitRead>(reader: &mut R) -> Result<BlockHeader, Error>
+        ensures { Reads R.source (block_header_entry R.source.order) reader.old result reader.new }
+    {
+        let last = reader.read_bit()?;
+        let kind = reader.read::<Bits<7>, u8>()?;
+        let size = reader.read::<Bits<24>, u32>()?;
+        Ok(BlockHeader { last, kind, size })
+    }
+
+    /// Returns what bytes begin with.
+    ///
+    /// # Errors
+    ///
+    /// `EndOfInput` for fewer than 4 bytes.
+    pub fn parse(packet: &[u8]) -> Result<BlockHeader, Error>
+        ensures answer { result ≡ sure_answer ((block_header_entry High).reads 0 (bits High packet.now)) }
+        ensures there { 4 ≤ length packet.now
+            → result ≡ Ok (block_header_at (bits High packet.now)) }
+        ensures short { length packet.now < 4 → result ≡ Err EndOfInput }
+        ensures back { (value : BlockHeader) (more : List Bool) → Fits value
+            → bits High packet.now ≡ block_header_bits value ++ more → result ≡ Ok value }
+    {
+        block_header_goes_back();
+        BlockHeader::read(&mut BitReader::<_, BE>::over(packet))
+    }
+
+    /// Writes the fields in order.
+    ///
+    /// # Errors
+    ///
+    /// `Checked` for a field that does not fit its bits. The fields before it are written then.
+    /// Else those of the sink.
+    pub fn write<W: BitWrite>(&self, writer: &mut W) -> Result<(), Error>
+        ensures { WritesAll W.sink (block_header_writes W.sink.order self.now) writer.old result writer.new }
+    {
+        writer.write_bit(self.last)?;
+        writer.write::<Bits<7>, u8>(self.kind)?;
+        writer.write::<Bits<24>, u32>(self.size)?;
+        Ok(())
+    }
+
+    /// Writes the fields to the first bytes of a buffer, and returns what was written. No write
+    /// fails if each field fits its bits and the buffer has 4 bytes. No memory is asked for.
+    ///
+    /// # Errors
+    ///
+    /// `Checked` for a field that does not fit its bits, or `Stream(WriteZero)` if the buffer is too
+    /// short.
+    pub fn pack_into<'a>(&self, buffer: &'a mut [u8]) -> Result<SliceMut<'a>, Error>
+        ensures packed { IfOk result (λ packed. bits High (written_bytes packed) ≡ block_header_bits self.now) }
+        ensures room { Fits self.now → 4 ≤ length buffer.old → IsOk result }
+    {
+        let mut writer = BitWriter::<_, BE>::over(buffer);
+        self.write(&mut writer)?;
+        writer.byte_align()?;
+        Ok(writer.into_writer())
+    }
 }
 
 impl FromBitStream for BlockHeader {
@@ -26,11 +104,7 @@ impl FromBitStream for BlockHeader {
     ghost reads = { λ o. plain_reads (block_header_entry o) };
 
     fn from_reader<R: BitRead>(reader: &mut R) -> Result<BlockHeader, Error> {
-        Ok(BlockHeader {
-            last: reader.read_bit()?,
-            kind: reader.read::<Bits<7>, u8>()?,
-            size: reader.read::<Bits<24>, u32>()?,
-        })
+        BlockHeader::read(reader)
     }
 }
 
@@ -42,24 +116,16 @@ impl ToBitStream for BlockHeader {
     ghost writes = { block_header_writes };
 
     fn to_writer<W: BitWrite>(&self, writer: &mut W) -> Result<(), Error> {
-        writer.write_bit(self.last)?;
-        writer.write::<Bits<7>, u8>(self.kind)?;
-        writer.write::<Bits<24>, u32>(self.size)
+        self.write(writer)
     }
 }
 
-/// Writes a header, and returns the number of bits of which it is made: those that were written, if
-/// the sink was at the end of a byte.
-///
-/// # Errors
-///
-/// `Checked` for a field that does not fit its bits. Nothing is written then. Else those of the sink.
-/// The fields before the one that is refused stay written.
-pub fn append<W: BitWrite>(writer: &mut W, header: &BlockHeader) -> Result<u32, Error>
-    ensures { W.sink.len writer.old % 8 ≡ 0
-        → IfOk result (λ bits. W.sink.len writer.new ≡ W.sink.len writer.old + bits) }
-{
-    let bits = header.bits::<u32>()?;
-    writer.build(header)?;
-    Ok(bits)
-}
+/// What fits its bits is read back as it was written, in either order of bits, wherever it stands.
+/// The read takes the bits that were written, and no more: 32 bits.
+pub fn block_header_goes_back()
+    ensures back { (o : Order) (value : BlockHeader) (at from : ℕ) (more : List Bool) → Fits value
+        → let written = write_run (block_header_writes o value) at in
+        (block_header_entry o).reads from (written ++ more) ≡ Takes (length written) (Ok value) }
+    ensures size { (o : Order) (value : BlockHeader) (at : ℕ) → Fits value
+        → length (write_run (block_header_writes o value) at) ≡ 32 }
+{}

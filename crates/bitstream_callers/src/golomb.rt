@@ -36,30 +36,36 @@ pub fn read_se<R: BitRead>(reader: &mut R) -> Result<i32, Error>
     Ok(if place % 2 == 1 { half + 1 } else { -half })
 }
 
-/// Writes an unsigned number, `ue(v)`. The greatest number of 32 bits has no word.
+/// Writes an unsigned number, `ue(v)`.
 ///
 /// # Errors
 ///
-/// Those of the sink.
+/// `Checked` for the greatest number of 32 bits, which has no word. Nothing is written then. Else those
+/// of the sink.
 pub fn write_ue<W: BitWrite>(writer: &mut W, value: u32) -> Result<(), Error>
-    requires { value < 2 ^ 32 - 1 }
     ensures { WritesAll W.sink (ue_writes W.sink.order value) writer.old result writer.new }
 {
+    if value == u32::MAX {
+        return writer.write::<Bits<31>, u32>(value);
+    }
     let more = value + 1;
     let zeros = 31 - more.leading_zeros();
     writer.write_unary::<Bits<1>>(zeros)?;
     writer.write_var(zeros, more - (1 << zeros))
 }
 
-/// Writes a signed number, `se(v)`. The least number of 32 bits has no word.
+/// Writes a signed number, `se(v)`.
 ///
 /// # Errors
 ///
-/// Those of the sink.
+/// `Checked` for the least number of 32 bits, which has no word. Nothing is written then. Else those of
+/// the sink.
 pub fn write_se<W: BitWrite>(writer: &mut W, value: i32) -> Result<(), Error>
-    requires { unsigned_abs value < 2 ^ 31 }
     ensures { WritesAll W.sink (se_writes W.sink.order value) writer.old result writer.new }
 {
+    if value == i32::MIN {
+        return write_ue(writer, u32::MAX);
+    }
     let twice = 2 * value.unsigned_abs();
     write_ue(writer, if value > 0 { twice - 1 } else { twice })
 }

@@ -5,6 +5,7 @@
 #![tactic(auto)]
 
 pub mod adts;
+pub mod appending;
 pub mod block_header;
 pub mod flac_comment;
 pub mod golomb;
@@ -16,6 +17,7 @@ pub mod picture;
 pub mod plain;
 pub mod primary_header;
 pub mod reading;
+pub mod sample;
 pub mod samples;
 pub mod sensor;
 pub mod sps;

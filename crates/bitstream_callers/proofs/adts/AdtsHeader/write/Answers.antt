@@ -1,3 +1,4 @@
+use Rattle.bitstream_io.proofs.WriteParts.{all_none}
 use Rattle.bitstream_io.proofs.WriteSteps.{next_call, next_write, stop_call, stop_write}
 use Rattle.bitstream_callers.proofs.adts.AdtsHeader.write.Goals as goal
 
@@ -98,6 +99,17 @@ returns-in_err-write-5 g c = next_call _ _ _ _ _ _ _ c.in_ok-write_const.ensures
     _ _ _ _ c.in_ok-write_bit-7.ensures.writes (next_write _ _ _ _ _ _ _ c.in_ok-write-4.ensures.writes (stop_write _ _
     _ _ _ _ _ c.from_residual-in_err-write-5.ensures.1 c.in_err-write-5.ensures.writes)))))))))))))
 
+pub returns-in_err-write-6 : goal.returns-in_err-write-6
+returns-in_err-write-6 g c = next_call _ _ _ _ _ _ _ c.in_ok-write_const.ensures.writes (next_call _ _ _ _ _ _ _
+    c.in_ok-write_bit.ensures.writes (next_call _ _ _ _ _ _ _ c.in_ok-write_const-2.ensures.writes (next_call _ _ _ _ _
+    _ _ c.in_ok-write_bit-2.ensures.writes (next_write _ _ _ _ _ _ _ c.in_ok-write.ensures.writes (next_write _ _ _ _ _
+    _ _ c.in_ok-write-2.ensures.writes (next_call _ _ _ _ _ _ _ c.in_ok-write_bit-3.ensures.writes (next_write _ _ _ _ _
+    _ _ c.in_ok-write-3.ensures.writes (next_call _ _ _ _ _ _ _ c.in_ok-write_bit-4.ensures.writes (next_call _ _ _ _ _
+    _ _ c.in_ok-write_bit-5.ensures.writes (next_call _ _ _ _ _ _ _ c.in_ok-write_bit-6.ensures.writes (next_call _ _ _
+    _ _ _ _ c.in_ok-write_bit-7.ensures.writes (next_write _ _ _ _ _ _ _ c.in_ok-write-4.ensures.writes (next_write _ _
+    _ _ _ _ _ c.in_ok-write-5.ensures.writes (stop_write _ _ _ _ _ _ _ c.from_residual-in_err-write-6.ensures.1
+    c.in_err-write-6.ensures.writes))))))))))))))
+
 pub returns : goal.returns
 returns g c = next_call _ _ _ _ _ _ _ c.in_ok-write_const.ensures.writes (next_call _ _ _ _ _ _ _
     c.in_ok-write_bit.ensures.writes (next_call _ _ _ _ _ _ _ c.in_ok-write_const-2.ensures.writes (next_call _ _ _ _ _
@@ -106,4 +118,5 @@ returns g c = next_call _ _ _ _ _ _ _ c.in_ok-write_const.ensures.writes (next_c
     _ _ c.in_ok-write-3.ensures.writes (next_call _ _ _ _ _ _ _ c.in_ok-write_bit-4.ensures.writes (next_call _ _ _ _ _
     _ _ c.in_ok-write_bit-5.ensures.writes (next_call _ _ _ _ _ _ _ c.in_ok-write_bit-6.ensures.writes (next_call _ _ _
     _ _ _ _ c.in_ok-write_bit-7.ensures.writes (next_write _ _ _ _ _ _ _ c.in_ok-write-4.ensures.writes (next_write _ _
-    _ _ _ _ _ c.in_ok-write-5.ensures.writes c.write-6.ensures.writes)))))))))))))
+    _ _ _ _ _ c.in_ok-write-5.ensures.writes (next_write _ _ _ _ _ _ _ c.in_ok-write-6.ensures.writes (all_none _
+    _)))))))))))))))

@@ -1,12 +1,5 @@
-use Rattle.bitstream_io.proofs.OwnLemmas.{plainly_written}
-use Rattle.bitstream_io.proofs.WriteSteps.{few_writes}
+use Rattle.bitstream_io.proofs.CallerLemmas.{plainly_written}
 use Rattle.bitstream_callers.proofs.block_header.BlockHeaderToBitStream.to_writer.Goals as goal
 
-pub returns-in_err-write_bit : goal.returns-in_err-write_bit
-returns-in_err-write_bit g c = search (plainly_written, few_writes) depth 12
-
-pub returns-in_err-write : goal.returns-in_err-write
-returns-in_err-write g c = search (plainly_written, few_writes) depth 12
-
 pub returns : goal.returns
-returns g c = search (plainly_written, few_writes) depth 12
+returns g c = record { writes = plainly_written _ _ _ _ _ c.write.ensures }

@@ -5,7 +5,7 @@ use Rattle.bitstream_io.proofs.LengthSteps.{OneLength, lengths, in_both_orders}
 use Rattle.bitstream_io.proofs.OwnLemmas.{written_plainly}
 use Rattle.bitstream_callers.specs.BlockHeader.{block_header_writes}
 use Rattle.bitstream_callers.specs.declared.block_header.BlockHeader.{BlockHeader}
-use Rattle.bitstream_callers.proofs.block_header.append.Goals as goal
+use Rattle.bitstream_callers.proofs.appending.append.Goals as goal
 
 same_length : (header : BlockHeader) (o p : Order) → OneLength (block_header_writes o header)
     (block_header_writes p header)

@@ -3,8 +3,8 @@ use Rattle.bitstream_io.specs.Word.{High}
 use Rattle.bitstream_io.specs.WriteTable.{unsigned}
 use Rattle.bitstream_io.proofs.WriteParts.{all_append}
 use Rattle.bitstream_io.proofs.WriteSteps.{packed_stream, first_name}
-use Rattle.bitstream_callers.specs.Telemetry.{sample_writes}
-use Rattle.bitstream_callers.proofs.telemetry.Sample.frame.Goals as goal
+use Rattle.bitstream_callers.specs.Sample.{sample_writes}
+use Rattle.bitstream_callers.proofs.sample.Sample.frame.Goals as goal
 
 pub returns : goal.returns
 returns c =

@@ -1,0 +1,27 @@
+-- What was written of a `BlockHeader` is read back, and how many bits it takes.
+-- Made by `./format` from formats/block_header.fields: edit that file and make this one anew.
+use Rattle.bitstream_callers.specs.BlockHeader.{block_header_entry, block_header_writes, block_header_size, block_header_bits, Fits}
+use Rattle.bitstream_callers.specs.declared.block_header.BlockHeader.{BlockHeader}
+use Rattle.std.proofs.Common.{◌≡◌, ◌++◌, ◌∷◌, [], refl}
+use Rattle.bitstream_io.proofs.CallerLemmas.{GoesBack, Packs, bit-back, unsigned-back, gives-back, bit-written, unsigned-written, packs-none, packs-more}
+use Rattle.bitstream_io.specs.Callers.{Order, High, align, write_run}
+
+-- what was written is read back
+pub block_header_goes : (o : Order) (value : BlockHeader) → Fits value
+    → GoesBack (block_header_entry o) (block_header_writes o value) value
+block_header_goes o value fits =
+    bit-back value.last _ _ _ (unsigned-back o 7 _ _ 8 value.kind _ refl fits.kind (unsigned-back o 24 _ _ 32 value.size
+    _ refl fits.size (gives-back _)))
+
+-- each write is accepted, and so many bits are written
+pub block_header_packs : (o : Order) (value : BlockHeader) → Fits value
+    → Packs (block_header_writes o value) (block_header_size o value)
+block_header_packs o value fits =
+    packs-more (bit-written value.last) (packs-more (unsigned-written o 8 7 value.kind refl fits.kind) (packs-more
+    (unsigned-written o 32 24 value.size refl fits.size) (packs-none)))
+
+-- the bits, of which a search is to see no part
+pub told : (value : BlockHeader)
+    → write_run (block_header_writes High value ++ align ∷ []) 0 ≡ block_header_bits value
+unfolding block_header_bits
+told value = refl

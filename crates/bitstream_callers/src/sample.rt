@@ -1,0 +1,141 @@
+//! What a vehicle's telemetry measured at one time.
+//!
+//! Made by `./format` from formats/sample.fields: edit that file and make this one anew.
+ghost use Rattle.bitstream_callers.specs.Sample.{sample_entry, sample_writes, sample_bits, sample_at, Fits};
+ghost use Rattle.bitstream_callers.specs.declared.sample.Sample.{Sample};
+ghost use Rattle.std.specs.Prelude.{◌≡◌, ◌<◌, ◌≤◌, ◌++◌, ℕ, Bool, List, Ok, Err, length, IfOk, IsOk};
+ghost use Rattle.bitstream_io.specs.Callers.{Takes, EndOfInput, Order, High, bits, write_run, Reads, WritesAll, sure_answer, same_error, plain_reads};
+ghost use Rattle.bitstream_io.specs.SliceMut.{written_bytes};
+
+use bitstream_io::{
+    BE, BitRead, BitReadExt, BitReader, BitWrite, BitWriteExt, BitWriter, Bits, Error,
+    FromBitStream, SliceMut, ToBitStream,
+};
+
+/// What a vehicle's telemetry measured at one time.
+///
+/// ```text
+///  0                   1                   2                   3
+///  0 1 2 3 4 5 6 7 8 9 0 1 2 3 4 5 6 7 8 9 0 1 2 3 4 5 6 7 8 9 0 1
+/// +-+-+-+-+-+-+-+-+-+-+-+-+-+-+-+-+-+-+-+-+-+-+-+-+-+-+-+-+-+-+-+-+
+/// |                seconds                |r|   temperature   |   |
+/// +-+-+-+-+-+-+-+-+-+-+-+-+-+-+-+-+-+-+-+-+-+-+-+-+-+-+-+-+-+-+-+-+
+/// |            pressure           |
+/// +-+-+-+-+-+-+-+-+-+-+-+-+-+-+-+-+
+/// ```
+#[derive(Clone, Copy, Debug, PartialEq)]
+pub struct Sample {
+    /// Seconds since the start. Below 2^20.
+    pub seconds: u32,
+    /// Whether the engine runs.
+    pub running: bool,
+    /// Degrees Celsius. From -256 to 255.
+    pub temperature: i16,
+    /// Thousandths of a bar. Below 2^18.
+    pub pressure: u32,
+}
+
+impl Sample {
+    /// Reads the fields in order.
+    ///
+    /// # Errors
+    ///
+    /// Those of the reader: after each of them it has failed.
+    pub fn read<R: BitRead>(reader: &mut R) -> Result<Sample, Error>
+        ensures { Reads R.source (sample_entry R.source.order) reader.old result reader.new }
+    {
+        let seconds = reader.read::<Bits<20>, u32>()?;
+        let running = reader.read_bit()?;
+        let temperature = reader.read::<Bits<9>, i16>()?;
+        let pressure = reader.read::<Bits<18>, u32>()?;
+        Ok(Sample {
+            seconds,
+            running,
+            temperature,
+            pressure,
+        })
+    }
+
+    /// Returns what bytes begin with.
+    ///
+    /// # Errors
+    ///
+    /// `EndOfInput` for fewer than 6 bytes.
+    pub fn parse(packet: &[u8]) -> Result<Sample, Error>
+        ensures answer { result ≡ sure_answer ((sample_entry High).reads 0 (bits High packet.now)) }
+        ensures there { 6 ≤ length packet.now → result ≡ Ok (sample_at (bits High packet.now)) }
+        ensures short { length packet.now < 6 → result ≡ Err EndOfInput }
+        ensures back { (value : Sample) (more : List Bool) → Fits value
+            → bits High packet.now ≡ sample_bits value ++ more → result ≡ Ok value }
+    {
+        sample_goes_back();
+        Sample::read(&mut BitReader::<_, BE>::over(packet))
+    }
+
+    /// Writes the fields in order.
+    ///
+    /// # Errors
+    ///
+    /// `Checked` for a field that does not fit its bits. The fields before it are written then.
+    /// Else those of the sink.
+    pub fn write<W: BitWrite>(&self, writer: &mut W) -> Result<(), Error>
+        ensures { WritesAll W.sink (sample_writes W.sink.order self.now) writer.old result writer.new }
+    {
+        writer.write::<Bits<20>, u32>(self.seconds)?;
+        writer.write_bit(self.running)?;
+        writer.write::<Bits<9>, i16>(self.temperature)?;
+        writer.write::<Bits<18>, u32>(self.pressure)?;
+        Ok(())
+    }
+
+    /// Writes the fields to the first bytes of a buffer, and returns what was written. No write
+    /// fails if each field fits its bits and the buffer has 6 bytes. No memory is asked for.
+    ///
+    /// # Errors
+    ///
+    /// `Checked` for a field that does not fit its bits, or `Stream(WriteZero)` if the buffer is too
+    /// short.
+    pub fn pack_into<'a>(&self, buffer: &'a mut [u8]) -> Result<SliceMut<'a>, Error>
+        ensures packed { IfOk result (λ packed. bits High (written_bytes packed) ≡ sample_bits self.now) }
+        ensures room { Fits self.now → 6 ≤ length buffer.old → IsOk result }
+    {
+        let mut writer = BitWriter::<_, BE>::over(buffer);
+        self.write(&mut writer)?;
+        writer.byte_align()?;
+        Ok(writer.into_writer())
+    }
+}
+
+impl FromBitStream for Sample {
+    type Error = Error;
+
+    ghost becomes = { same_error };
+
+    ghost reads = { λ o. plain_reads (sample_entry o) };
+
+    fn from_reader<R: BitRead>(reader: &mut R) -> Result<Sample, Error> {
+        Sample::read(reader)
+    }
+}
+
+impl ToBitStream for Sample {
+    type Error = Error;
+
+    ghost becomes = { same_error };
+
+    ghost writes = { sample_writes };
+
+    fn to_writer<W: BitWrite>(&self, writer: &mut W) -> Result<(), Error> {
+        self.write(writer)
+    }
+}
+
+/// What fits its bits is read back as it was written, in either order of bits, wherever it stands.
+/// The read takes the bits that were written, and no more: 48 bits.
+pub fn sample_goes_back()
+    ensures back { (o : Order) (value : Sample) (at from : ℕ) (more : List Bool) → Fits value
+        → let written = write_run (sample_writes o value) at in
+        (sample_entry o).reads from (written ++ more) ≡ Takes (length written) (Ok value) }
+    ensures size { (o : Order) (value : Sample) (at : ℕ) → Fits value
+        → length (write_run (sample_writes o value) at) ≡ 48 }
+{}
