@@ -1,6 +1,6 @@
 -- The signed numbers that are computed, what goes back, and how long it is.
 use Rattle.std.proofs.Common.{◌+ℤ◌, ◌-ℤ◌, to_z, of_z, w32, ℤ, zero, suc, pos, negsuc, ◌*◌, ◌/◌, ◌%◌, true, false, length, length-append, subst, sym}
-use Rattle.std.specs.Prelude.{unsigned_abs, neg_ℤ, replicate, if◌then◌else◌}
+use Rattle.std.specs.Prelude.{unsigned_abs, neg_ℤ, replicate}
 use Rattle.std.proofs.lemmas.Bool.{eq-eqb, le-leb, lt-leb, ne_eqb}
 use Rattle.std.proofs.lemmas.Int.{ints, to_z-of_z}
 use Rattle.std.proofs.lemmas.List.{length-replicate}

@@ -1,5 +1,5 @@
 -- Worked rows: bytes of the formats' own documents, or made by hand, against the callers' definitions.
-use Rattle.std.specs.Prelude.{◌≡◌, ℕ, pos, negsuc, true, false, List, [], ◌∷◌, ◌++◌, drop, take, Ok, Err, refl}
+use Rattle.std.specs.Prelude.{◌≡◌, ℕ, pos, negsuc, false, List, [], ◌∷◌, ◌++◌, drop, take, Ok, Err, refl}
 use Rattle.std.specs.List.{flat_map}
 use Rattle.bitstream_io.specs.Callers.{High, bits, align, write_run}
 use Rattle.bitstream_io.specs.Entry.{Takes, TooFew, chain}
