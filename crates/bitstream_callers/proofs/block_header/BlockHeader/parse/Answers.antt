@@ -2,6 +2,7 @@ use Rattle.bitstream_callers.specs.BlockHeader.{block_header_entry, block_header
 use Rattle.bitstream_callers.proofs.BlockHeaderLemmas.{block_header_packs, told}
 use Rattle.std.proofs.Common.{◌++◌, ◌∙◌, ℕ, List, Ok, refl, ap, sym, arith}
 use Rattle.bitstream_io.proofs.CallerLemmas.{Finds, fields_there, fields_short, front_answered, slice_ends, bit-finds, unsigned-finds, gives-finds, packs-whole}
+use Rattle.bitstream_io.proofs.SliceLemmas.{new_answer}
 use Rattle.bitstream_io.specs.Callers.{High, bits}
 use Rattle.bitstream_callers.proofs.block_header.BlockHeader.parse.Goals as goal
 
@@ -9,6 +10,9 @@ found : (packet : List ℕ)
     → Finds (bits High packet) 0 (block_header_entry High) 32 (Ok (block_header_at (bits High packet)))
 found packet = bit-finds _ _ 32 _ _ refl (unsigned-finds _ _ 7 31 _ High 8 _ refl refl (unsigned-finds _ _ 24 24 _ High
     32 _ refl refl (gives-finds _ _ _)))
+
+pub returns-clause-answer : goal.returns-clause-answer
+returns-clause-answer c = new_answer slice_ends _ _ c.over.ensures.state c.read.ensures
 
 pub returns-clause-there : goal.returns-clause-there
 returns-clause-there c = λ enough. fields_there slice_ends c.over.ensures.state refl c.read.ensures (found _) (omega

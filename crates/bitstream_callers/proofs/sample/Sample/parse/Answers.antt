@@ -2,6 +2,7 @@ use Rattle.bitstream_callers.specs.Sample.{sample_entry, sample_at}
 use Rattle.bitstream_callers.proofs.SampleLemmas.{sample_packs, told}
 use Rattle.std.proofs.Common.{◌++◌, ◌∙◌, ℕ, List, Ok, refl, ap, sym, arith}
 use Rattle.bitstream_io.proofs.CallerLemmas.{Finds, fields_there, fields_short, front_answered, slice_ends, bit-finds, signed-finds, unsigned-finds, gives-finds, packs-whole}
+use Rattle.bitstream_io.proofs.SliceLemmas.{new_answer}
 use Rattle.bitstream_io.specs.Callers.{High, bits}
 use Rattle.bitstream_callers.proofs.sample.Sample.parse.Goals as goal
 
@@ -9,6 +10,9 @@ found : (packet : List ℕ)
     → Finds (bits High packet) 0 (sample_entry High) 48 (Ok (sample_at (bits High packet)))
 found packet = unsigned-finds _ _ 20 48 _ High 32 _ refl refl (bit-finds _ _ 28 _ _ refl (signed-finds _ _ 9 27 _ High
     16 _ refl refl refl (unsigned-finds _ _ 18 18 _ High 32 _ refl refl (gives-finds _ _ _))))
+
+pub returns-clause-answer : goal.returns-clause-answer
+returns-clause-answer c = new_answer slice_ends _ _ c.over.ensures.state c.read.ensures
 
 pub returns-clause-there : goal.returns-clause-there
 returns-clause-there c = λ enough. fields_there slice_ends c.over.ensures.state refl c.read.ensures (found _) (omega

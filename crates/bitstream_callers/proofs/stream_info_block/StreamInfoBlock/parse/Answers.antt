@@ -2,6 +2,7 @@ use Rattle.bitstream_callers.specs.StreamInfoBlock.{stream_info_block_entry, str
 use Rattle.bitstream_callers.proofs.StreamInfoBlockLemmas.{stream_info_block_packs, told}
 use Rattle.std.proofs.Common.{◌++◌, ◌∙◌, ℕ, List, Ok, refl, ap, sym, arith}
 use Rattle.bitstream_io.proofs.CallerLemmas.{Finds, fields_there, fields_short, front_answered, slice_ends, unsigned-finds, bytes-finds, non_zero-finds, gives-finds, chain-finds, packs-whole}
+use Rattle.bitstream_io.proofs.SliceLemmas.{new_answer}
 use Rattle.bitstream_io.specs.Callers.{High, bits, non_zero_u8}
 use Rattle.bitstream_callers.proofs.stream_info_block.StreamInfoBlock.parse.Goals as goal
 
@@ -12,6 +13,9 @@ found packet = chain-finds _ _ 144 128 _ _ _ _ (unsigned-finds _ _ 16 144 _ High
     refl refl (unsigned-finds _ _ 20 64 _ High 32 _ refl refl (non_zero-finds _ _ 3 44 _ non_zero_u8 High 8 _ refl refl
     (non_zero-finds _ _ 5 41 _ non_zero_u8 High 8 _ refl refl (unsigned-finds _ _ 36 36 _ High 64 _ refl refl
     (gives-finds _ _ _))))))))) (bytes-finds _ _ 128 _ 16 High _ refl (gives-finds _ _ _))
+
+pub returns-clause-answer : goal.returns-clause-answer
+returns-clause-answer c = new_answer slice_ends _ _ c.over.ensures.state c.read.ensures
 
 pub returns-clause-there : goal.returns-clause-there
 returns-clause-there c = λ enough. fields_there slice_ends c.over.ensures.state refl c.read.ensures (found _) (omega
