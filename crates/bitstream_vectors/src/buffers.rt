@@ -12,7 +12,7 @@ const LENGTHS: usize = 2051;
 
 /// The byte of each buffer at an index. Neighbours differ, and so do the first and the last bit of a
 /// byte, so that none is itself with its bits turned round.
-fn byte_at(index: usize) -> u8 {
+pub fn byte_at(index: usize) -> u8 {
     let low = ((index % 127).wrapping_mul(37) % 127) as u8;
     if low % 2 == 0 { low | 0x80 } else { low }
 }

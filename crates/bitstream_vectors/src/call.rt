@@ -124,6 +124,16 @@ impl<'a> Call<'a> {
         matches!(self.form, Form::Seek(Whence::Start | Whence::End))
     }
 
+    /// Whether it does not seek, or a reader of bytes in memory of so many bits goes on as one over a stream
+    /// does: to a place that it has, or it stays where it is.
+    pub fn stays_within(&self, bits: u64) -> bool {
+        match (self.form, self.answer) {
+            (Form::Seek(Whence::Current), "Place" | "Failed") => true,
+            (Form::Seek(_), answer) => matches!(number::<u64>(answer), Ok(place) if place <= bits),
+            _ => true,
+        }
+    }
+
     /// How many of the requests that it makes first are seeks.
     pub fn seeks(&self) -> u64 {
         match self.form {

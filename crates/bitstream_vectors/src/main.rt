@@ -2,9 +2,10 @@
 //!
 //! Each file says in its head what its rows and columns mean, and where the answers come from. Each row
 //! is played over a slice or a vector, over a stream that gives or takes a byte a request, and over
-//! streams that refuse from each of its requests on. Reads of bits that seek nowhere are played on a
-//! `SliceReader` too, over all bytes and over those cut off at each length. What is written is written to a
-//! counter and to a recorder too. Buffers of each length are written and read at each place in a byte.
+//! streams that refuse from each of its requests on. Reads of bits that go to no place behind the end are
+//! played on a `SliceReader` too: over all bytes, and if they go to no place, over those cut off at each
+//! length. What is written is written to a counter and to a recorder too. Buffers of each length are written
+//! and read at each place in a byte, and so are words, runs and parts of bytes in memory read.
 //!
 //! The program fails if a row or a buffer differs, or if a row has a form, a width or a constant that the
 //! player does not know.
@@ -43,6 +44,7 @@ mod checked;
 mod counts;
 mod fixed;
 mod form;
+mod in_memory;
 mod memory;
 mod objection;
 mod play;
@@ -57,6 +59,7 @@ mod whole;
 mod writes;
 
 use buffers::play_buffers;
+use in_memory::play_memory_parts;
 use objection::Objection;
 use replay::replay;
 use std::alloc::Global;
@@ -122,7 +125,8 @@ fn play_files(rt: &(impl Files + Print + Alloc), alloc: Global, names: &[&str]) 
 fn main(rt: HostRuntime) -> io::Result<ExitCode> {
     let of_rows = play_files(&rt, rt.alloc(), &FILES)?;
     let of_buffers = play_buffers(&rt, rt.alloc())?;
-    Ok(if (of_rows == 0) & (of_buffers == 0) {
+    let of_memory = play_memory_parts(&rt)?;
+    Ok(if (of_rows == 0) & (of_buffers == 0) & (of_memory == 0) {
         ExitCode::SUCCESS
     } else {
         ExitCode::FAILURE

@@ -115,18 +115,25 @@ trait Stage {
     fn call(&mut self, alloc: Global, call: &Call<'_>, want: &str) -> Result<bool, Objection>;
 }
 
+/// Makes calls of places, and all others as a reader does.
+macro_rules! stage_with_places {
+    ($self:ident, $alloc:ident, $call:ident, $want:ident) => {
+        match $call.form {
+            Form::Cursor => Ok($want == "ok"),
+            Form::Place => Ok(is_number($want, $self.position_in_bits())),
+            Form::PlaceIs(place) => Ok(matches!($self.position_in_bits(), Ok(at) if at == place)),
+            Form::Seek(whence) => {
+                let to = target(whence, $call.value)?;
+                Ok(is_number($want, $self.seek_bits(to)))
+            }
+            _ => read_call($alloc, $self, $call, $want),
+        }
+    };
+}
+
 impl<R: SeekSource, E: Endianness> Stage for BitReader<R, E> {
     fn call(&mut self, alloc: Global, call: &Call<'_>, want: &str) -> Result<bool, Objection> {
-        match call.form {
-            Form::Cursor => Ok(want == "ok"),
-            Form::Place => Ok(is_number(want, self.position_in_bits())),
-            Form::PlaceIs(place) => Ok(matches!(self.position_in_bits(), Ok(at) if at == place)),
-            Form::Seek(whence) => {
-                let to = target(whence, call.value)?;
-                Ok(is_number(want, self.seek_bits(to)))
-            }
-            _ => read_call(alloc, self, call, want),
-        }
+        stage_with_places!(self, alloc, call, want)
     }
 }
 
@@ -141,7 +148,7 @@ fn target(whence: Whence, value: &str) -> Result<SeekFrom, Objection> {
 
 impl<E: Endianness> Stage for SliceReader<'_, E> {
     fn call(&mut self, alloc: Global, call: &Call<'_>, want: &str) -> Result<bool, Objection> {
-        read_call(alloc, self, call, want)
+        stage_with_places!(self, alloc, call, want)
     }
 }
 

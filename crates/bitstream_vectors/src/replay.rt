@@ -4,7 +4,7 @@ use crate::counts::play_count;
 use crate::objection::{Difference, Objection, agrees};
 use crate::play::{Fault, Moved, Way, play, play_memory};
 use crate::records::play_record;
-use crate::row::{Kind, Layer, Order, Row};
+use crate::row::{Kind, Layer, Row};
 use std::alloc::Global;
 use std::io::ErrorKind;
 
@@ -63,8 +63,11 @@ fn play_stream(alloc: Global, row: &Row<'_>) -> Result<(), Objection> {
     if row.kind == Kind::Read && !row.begins_elsewhere() {
         play_whole(alloc, row, Way::Slice)?;
     }
-    if row.kind == Kind::Read && row.layer == Layer::Bits && !row.has_places() {
-        cut_each(alloc, row, &steps)?;
+    if row.kind == Kind::Read && row.layer == Layer::Bits && row.stays_within() {
+        if !row.has_places() {
+            cut_each(alloc, row, &steps)?;
+        }
+        read_all(alloc, row)?;
     }
     play_whole(alloc, row, Way::Dripped)?;
     refuse_each(alloc, row, &steps)
@@ -143,20 +146,14 @@ fn with_rest<'a>(alloc: Global, row: &Row<'a>, place: usize) -> Result<Vec<Call<
 
 /// A bit of a row's bytes, in its order.
 fn bit_at(row: &Row<'_>, at: usize) -> &'static str {
-    let byte = row.bytes.get(at / 8).copied().unwrap_or(0);
-    let bits = match row.order {
-        Order::Big => byte.reverse_bits(),
-        Order::Little => byte,
-    };
-    if (bits >> (at % 8)) & 1 == 1 {
+    if row.order.bit(row.bytes.as_slice(), at) == 1 {
         "1"
     } else {
         "0"
     }
 }
 
-/// Plays a row on the reader of bytes in memory, over bytes that are cut off at each length, and then over
-/// all of them.
+/// Plays a row on the reader of bytes in memory, over bytes that are cut off at each length.
 fn cut_each(alloc: Global, row: &Row<'_>, steps: &[Moved]) -> Result<(), Objection> {
     for len in 0..row.bytes.len() {
         let last = steps
@@ -166,6 +163,11 @@ fn cut_each(alloc: Global, row: &Row<'_>, steps: &[Moved]) -> Result<(), Objecti
             .count();
         play_memory(alloc, row, &row.bytes[..len], last)?;
     }
+    Ok(())
+}
+
+/// Plays a row on the reader of bytes in memory, over all of them.
+fn read_all(alloc: Global, row: &Row<'_>) -> Result<(), Objection> {
     let read = play_memory(alloc, row, &row.bytes, row.calls.len())?;
     match row.after.place {
         Some(place) => agrees(read == place as u64, Difference::InMemory),

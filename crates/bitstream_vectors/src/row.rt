@@ -26,6 +26,18 @@ pub enum Order {
     Little,
 }
 
+impl Order {
+    /// A bit of bytes in this order, or 0 behind their end.
+    pub fn bit(self, bytes: &[u8], at: usize) -> u8 {
+        let byte = bytes.get(at / 8).copied().unwrap_or(0);
+        let bits = match self {
+            Order::Big => byte.reverse_bits(),
+            Order::Little => byte,
+        };
+        (bits >> (at % 8)) & 1
+    }
+}
+
 /// A row: calls with their answers, on a stream of these bytes.
 #[derive(Drop)]
 pub struct Row<'a> {
@@ -100,6 +112,13 @@ impl<'a> Row<'a> {
     /// Whether a call of it asks for its place, or goes to one.
     pub fn has_places(&self) -> bool {
         self.calls.iter().any(|call| call.seeks() > 0 || matches!(call.form, Form::Cursor))
+    }
+
+    /// Whether it begins at its first byte, and each seek of it goes to a place among its bytes, or to their
+    /// end.
+    pub fn stays_within(&self) -> bool {
+        let bits = (self.bytes.len() as u64).saturating_mul(8);
+        !self.begins_elsewhere() && self.calls.iter().all(|call| call.stays_within(bits))
     }
 
     /// Whether a call of it seeks, or its stream begins elsewhere than at its first byte.

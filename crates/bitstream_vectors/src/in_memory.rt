@@ -1,0 +1,242 @@
+//! Words, runs and parts of bytes in memory, at each place in a byte, in both orders.
+//!
+//! What is to be read is computed from single bits, and not by the library.
+use crate::buffers::byte_at;
+use crate::row::Order;
+use bitstream_io::{BE, BitRead, Bits, Endianness, Error, LE, SliceReader};
+use std::io;
+use std::io::SeekFrom;
+
+/// How many widths of words there are, from 0 on.
+const WIDTHS: u32 = 129;
+
+/// How many lengths of runs there are, from 0 on: the longest is of three words of 64 bits, and 8 bits.
+const RUNS: u32 = 201;
+
+/// The bits before the byte in which a word begins.
+const BEFORE: u32 = 24;
+
+/// The bytes behind a word or a run, where there are any.
+const BEHIND: usize = 16;
+
+/// The bytes of which parts are taken.
+const WHOLE: usize = 5;
+
+/// The number of some bits.
+fn number_of(order: Order, bytes: &[u8], at: u32, width: u32) -> u128 {
+    let mut number = 0u128;
+    for index in 0..width {
+        let bit = u128::from(order.bit(bytes, at.wrapping_add(index) as usize));
+        number = match order {
+            Order::Big => (number << 1) | bit,
+            Order::Little => number | bit.wrapping_shl(index),
+        };
+    }
+    number
+}
+
+/// Whether a word is read so at a place, and its bits are taken. Of 64 bits or fewer it is read as a number
+/// of 64 bits too.
+fn reads_word<E: Endianness>(bytes: &[u8], at: u64, width: u32, want: u128) -> bool {
+    let mut reader = SliceReader::<E>::over(bytes);
+    let there = reader.seek_bits(SeekFrom::Start(at)).is_ok();
+    let same = matches!(reader.read_unsigned_var::<u128>(width), Ok(word) if word == want);
+    let taken = reader.bits_read() == at.wrapping_add(u64::from(width));
+    let back = reader.seek_bits(SeekFrom::Start(at)).is_ok();
+    let short = width > 64
+        || matches!(reader.read_unsigned_var::<u64>(width), Ok(word) if u128::from(word) == want);
+    there & same & taken & back & short
+}
+
+/// Whether bytes end before a word does, so that none of its bits is taken, or before its place.
+fn word_ends<E: Endianness>(bytes: &[u8], at: u64, width: u32) -> bool {
+    let mut reader = SliceReader::<E>::over(bytes);
+    if at > reader.bits_left() {
+        return matches!(reader.seek_bits(SeekFrom::Start(at)), Err(Error::Place));
+    }
+    let there = reader.seek_bits(SeekFrom::Start(at)).is_ok();
+    let ended = matches!(
+        reader.read_unsigned_var::<u128>(width),
+        Err(Error::EndOfInput)
+    );
+    there & ended & (reader.bits_read() == at)
+}
+
+/// Whether a word at a bit behind some bytes is read as it is to be: where the bytes end with it, where more
+/// stand behind, and where one is missing.
+fn word_agrees<E: Endianness>(order: Order, bytes: &[u8], bit: u32, width: u32) -> bool {
+    let at = BEFORE.wrapping_add(bit);
+    let end = at.wrapping_add(width).div_ceil(8) as usize;
+    let want = number_of(order, bytes, at, width);
+    let place = u64::from(at);
+    let last = bytes.get(..end).unwrap_or(&[]);
+    let more = bytes.get(..end.wrapping_add(BEHIND)).unwrap_or(&[]);
+    let short = bytes.get(..end.wrapping_sub(1)).unwrap_or(&[]);
+    reads_word::<E>(last, place, width, want)
+        & reads_word::<E>(more, place, width, want)
+        & word_ends::<E>(short, place, width)
+}
+
+/// How many words at a bit differ.
+fn differing_words<E: Endianness>(order: Order, bit: u32) -> u32 {
+    let mut bytes = [0u8; 48];
+    for (index, byte) in bytes.iter_mut().enumerate() {
+        *byte = byte_at(index);
+    }
+    let mut differing = 0u32;
+    for width in 0..WIDTHS {
+        if !word_agrees::<E>(order, bytes.as_slice(), bit, width) {
+            differing = differing.saturating_add(1);
+        }
+    }
+    differing
+}
+
+/// What a run of bits behind some bits answers.
+fn run_behind<E: Endianness>(
+    reader: &mut SliceReader<E>,
+    bits: u32,
+    stop: bool,
+) -> Result<u32, Error> {
+    reader.skip(bits)?;
+    if stop {
+        reader.read_unary::<Bits<1>>()
+    } else {
+        reader.read_unary::<Bits<0>>()
+    }
+}
+
+/// Whether a run is read so behind some bits, and is taken with its stop bit.
+fn reads_run<E: Endianness>(bytes: &[u8], bits: u32, stop: bool, want: u32) -> bool {
+    let mut reader = SliceReader::<E>::over(bytes);
+    let same = matches!(run_behind(&mut reader, bits, stop), Ok(run) if run == want);
+    same & (reader.bits_read()
+        == u64::from(bits)
+            .wrapping_add(u64::from(want))
+            .wrapping_add(1))
+}
+
+/// Whether a run behind some bits has no end, so that none of its bits is taken.
+fn run_ends<E: Endianness>(bytes: &[u8], bits: u32, stop: bool) -> bool {
+    let mut reader = SliceReader::<E>::over(bytes);
+    let ended = matches!(run_behind(&mut reader, bits, stop), Err(Error::EndOfInput));
+    ended & (reader.bits_read() == u64::from(bits))
+}
+
+/// Turns a bit.
+fn turn(order: Order, bytes: &mut [u8], at: u32) {
+    let mask = match order {
+        Order::Big => 0x80u8.wrapping_shr(at % 8),
+        Order::Little => 1u8.wrapping_shl(at % 8),
+    };
+    if let Some(byte) = bytes.get_mut((at / 8) as usize) {
+        *byte ^= mask;
+    }
+}
+
+/// Whether a run behind some bits, which are stop bits, is read as it is to be: where the bytes end with it,
+/// where more stand behind, and where its stop bit is missing.
+fn run_agrees<E: Endianness>(order: Order, bits: u32, run: u32, stop: bool) -> bool {
+    let mut bytes = [if stop { 0x00u8 } else { 0xff }; 48];
+    for at in 0..bits {
+        turn(order, bytes.as_mut_slice(), at);
+    }
+    let last = bits.wrapping_add(run);
+    let end = (last / 8).wrapping_add(1) as usize;
+    let endless = run_ends::<E>(bytes.get(..end).unwrap_or(&[]), bits, stop);
+    turn(order, bytes.as_mut_slice(), last);
+    let ended = reads_run::<E>(bytes.get(..end).unwrap_or(&[]), bits, stop, run);
+    let behind = end.wrapping_add(BEHIND);
+    let more = reads_run::<E>(bytes.get(..behind).unwrap_or(&[]), bits, stop, run);
+    endless & ended & more
+}
+
+/// How many runs of either stop bit differ behind some bits.
+fn differing_runs<E: Endianness>(order: Order, bits: u32) -> u32 {
+    let mut differing = 0u32;
+    for run in 0..RUNS {
+        let both = run_agrees::<E>(order, bits, run, true)
+            & run_agrees::<E>(order, bits, run, false);
+        if !both {
+            differing = differing.saturating_add(1);
+        }
+    }
+    differing
+}
+
+/// Whether a reader has left these bytes, of which no bit is taken.
+fn leaves<E: Endianness>(reader: &SliceReader<E>, bytes: &[u8]) -> bool {
+    let bits = (bytes.len() as u64).wrapping_mul(8);
+    (reader.rest() == bytes)
+        & (reader.bits_left() == bits)
+        & (reader.is_at_end() == bytes.is_empty())
+}
+
+/// Whether a reader gives these bytes, and then ends.
+fn gives<E: Endianness>(reader: &mut SliceReader<E>, bytes: &[u8]) -> bool {
+    let mut read = [0u8; WHOLE];
+    let same = match read.get_mut(..bytes.len()) {
+        Some(read) => reader.read_bytes(read).is_ok() && *read == *bytes,
+        None => false,
+    };
+    same & leaves(reader, &[]) & matches!(reader.read_bit(), Err(Error::EndOfInput))
+}
+
+/// Whether a part is given that has these bytes.
+fn has_part<E: Endianness>(part: Result<SliceReader<'_, E>, Error>, bytes: &[u8]) -> bool {
+    match part {
+        Ok(mut part) => gives(&mut part, bytes),
+        Err(_) => false,
+    }
+}
+
+/// Whether so many bytes behind some bits are taken, lent or as a part, or refused where there are too few.
+fn part_agrees<E: Endianness>(bytes: &[u8], bits: u32, count: usize) -> bool {
+    let (mut lends, mut parts) = (SliceReader::<E>::over(bytes), SliceReader::<E>::over(bytes));
+    let skipped = lends.skip(bits).is_ok() & parts.skip(bits).is_ok();
+    let behind = bytes.get(bits.div_ceil(8) as usize..).unwrap_or(&[]);
+    let (taken, left) = match behind.get(..count) {
+        Some(taken) => (taken, behind.get(count..).unwrap_or(&[])),
+        None => (behind, behind),
+    };
+    let same = if count <= behind.len() {
+        matches!(lends.take_bytes(count), Ok(lent) if lent == taken)
+            & has_part(parts.part(count), taken)
+    } else {
+        matches!(lends.take_bytes(count), Err(Error::EndOfInput))
+            & matches!(parts.part(count), Err(Error::EndOfInput))
+    };
+    skipped & same & leaves(&lends, left) & leaves(&parts, left)
+}
+
+/// How many lengths of parts differ behind some bits.
+fn differing_parts<E: Endianness>(bits: u32) -> u32 {
+    let bytes: [u8; WHOLE] = [0xb1, 0xed, 0x3b, 0xc1, 0x57];
+    let mut differing = 0u32;
+    for count in 0..=WHOLE {
+        if !part_agrees::<E>(bytes.as_slice(), bits, count) {
+            differing = differing.saturating_add(1);
+        }
+    }
+    differing
+}
+
+/// Reads all words, runs and parts. Prints how many differ, and gives it.
+pub fn play_memory_parts(rt: &impl Print) -> io::Result<u32> {
+    let (mut words, mut runs, mut parts) = (0u32, 0u32, 0u32);
+    for bits in 0..8 {
+        words = words
+            .saturating_add(differing_words::<BE>(Order::Big, bits))
+            .saturating_add(differing_words::<LE>(Order::Little, bits));
+        runs = runs
+            .saturating_add(differing_runs::<BE>(Order::Big, bits))
+            .saturating_add(differing_runs::<LE>(Order::Little, bits));
+        parts = parts
+            .saturating_add(differing_parts::<BE>(bits))
+            .saturating_add(differing_parts::<LE>(bits));
+    }
+    println!(rt;
+        "r16_memory: {WIDTHS} widths, {RUNS} runs, 6 parts, 8 places, 2 orders: {words}, {runs} and {parts} differ"
+    )?;
+    Ok(words.saturating_add(runs).saturating_add(parts))
+}
