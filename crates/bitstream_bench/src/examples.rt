@@ -368,6 +368,40 @@ fn example_of_slice_reader(rt: HostRuntime) {
 }
 
 #[test]
+fn example_of_slice_reader_seek_bits(rt: HostRuntime) {
+    use bitstream_io::{BE, BitRead, Error, SliceReader};
+    use std::io::SeekFrom;
+
+    let mut reader = SliceReader::<BE>::over(&[0xb1, 0xed, 0x3b, 0xc1]);
+    same(
+        &rt,
+        reader.seek_bits(SeekFrom::End(7)).expect(&rt, "no error"),
+        25,
+    );
+    same(
+        &rt,
+        reader.read_unsigned_var::<u8>(7).expect(&rt, "no error"),
+        0x41,
+    );
+    holds(&rt, matches!(reader.read_bit(), Err(Error::EndOfInput)));
+    same(
+        &rt,
+        reader.seek_bits(SeekFrom::Start(8)).expect(&rt, "no error"),
+        8,
+    );
+    same(
+        &rt,
+        reader.read_unsigned_var::<u8>(8).expect(&rt, "no error"),
+        0xed,
+    );
+    holds(
+        &rt,
+        matches!(reader.seek_bits(SeekFrom::Current(17)), Err(Error::Place)),
+    );
+    same(&rt, reader.position_in_bits().expect(&rt, "no error"), 16);
+}
+
+#[test]
 fn example_of_bit_write(rt: HostRuntime) {
     use bitstream_io::{BE, BitCount, BitWrite, BitWriter, Bits};
 
