@@ -64,7 +64,7 @@ fn goes_back<R: SeekSource>(reader: &mut BitReader<R, BE>, bits: u32) -> [bool; 
 /// The width of the words is known only as the program runs.
 #[test]
 fn seeks_in_memory(rt: HostRuntime) {
-    each_holds(&rt, &goes_back(&mut BitReader::over(&D), 12));
+    each_holds(&rt, &goes_back(&mut BitReader::new(Slice::new(&D)), 12));
 }
 
 /// Takes a writer by value.

@@ -15,6 +15,7 @@ use bitstream_callers::samples::parse_samples;
 use bitstream_callers::sensor::state_code;
 use bitstream_callers::stream_info::StreamInfo;
 use bitstream_callers::stream_info_block::StreamInfoBlock;
+use bitstream_callers::tcp_options::{TcpOptions, parse_options};
 use bitstream_callers::telemetry::heartbeat;
 use bitstream_io::{
     BE, BitRead, BitReadExt, BitReader, BitWrite, BitWriteExt, BitWriter, BitsWritten, ByteRead,
@@ -167,6 +168,58 @@ fn parses_plain_packets(rt: HostRuntime) {
         matches!(first_block(file.as_slice()), Ok(34)),
         gives(picture_size(&[0x2f, 0x91, 0x01, 0x4b, 0x00]), (402, 301)),
         gives(drift(&[0xf2, 0x9e, 0xc0]), (-215, -15)),
+    ];
+    each_holds(&rt, &parsed);
+}
+
+/// The options of a segment that opens a connection, as Linux sends it: a maximum segment, selective
+/// acknowledgements, time stamps, a byte to fill up, and the scale of the window.
+const OPTIONS: [u8; 20] = [
+    2, 4, 5, 0xb4, 4, 2, 8, 10, 0, 1, 2, 3, 0, 0, 0, 0, 1, 3, 3, 7,
+];
+
+/// Whether options leave these bytes, and say this.
+fn options_say(
+    bytes: &[u8],
+    left: &[u8],
+    segment: Option<u16>,
+    scale: Option<u8>,
+    selective: bool,
+) -> bool {
+    let mut options = TcpOptions {
+        maximum_segment: None,
+        window_scale: None,
+        selective: false,
+    };
+    let parsed = matches!(parse_options(bytes, &mut options), Ok(rest) if rest == left);
+    parsed
+        & (options.maximum_segment == segment)
+        & (options.window_scale == scale)
+        & (options.selective == selective)
+}
+
+/// Whether options end before the last of them does.
+fn options_end(bytes: &[u8]) -> bool {
+    let mut options = TcpOptions {
+        maximum_segment: None,
+        window_scale: None,
+        selective: false,
+    };
+    ended(parse_options(bytes, &mut options))
+}
+
+#[test]
+fn parses_tcp_options(rt: HostRuntime) {
+    let parsed = [
+        options_say(&OPTIONS, &[], Some(1460), Some(7), true),
+        options_say(&OPTIONS[..6], &[], Some(1460), None, true),
+        // an option that is too short says nothing, and does not read into the next one
+        options_say(&[2, 3, 5, 3, 3, 9, 0, 0], &[0], None, Some(9), false),
+        // a length of 0 is the end
+        options_say(&[3, 0, 7, 7], &[7, 7], None, None, false),
+        options_end(&OPTIONS[..19]),
+        options_end(&OPTIONS[..18]),
+        options_end(&OPTIONS[..5]),
     ];
     each_holds(&rt, &parsed);
 }
