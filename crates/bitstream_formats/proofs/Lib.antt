@@ -1,0 +1,7 @@
+mod Rows
+pub mod AdtsHeaderLemmas
+pub mod StreamInfoLemmas
+pub mod CodedLemmas
+pub mod EmulationLemmas
+pub mod Leb128Lemmas
+pub mod RiceLemmas

@@ -1,0 +1,4 @@
+use Rattle.bitstream_formats.proofs.adts_header.AdtsHeaderFromBitStream.from_reader.Goals as goal
+
+pub returns : goal.returns
+returns g c = record { reads = c.read.ensures }

@@ -1,0 +1,5 @@
+use Rattle.bitstream_io.proofs.CallerLemmas.{plainly_read}
+use Rattle.bitstream_formats.proofs.stream_info.StreamInfoFromBitStream.from_reader.Goals as goal
+
+pub returns : goal.returns
+returns g c = record { reads = plainly_read c.read.ensures }

@@ -1,0 +1,147 @@
+//! ADTS, the frames of AAC in a stream (ISO/IEC 14496-3, section 1.A).
+
+use crate::adts_header::{AdtsHeader, AdtsHeaderError};
+use crate::at::At;
+use crate::element::{Element, Syntax};
+use bitstream_io::{BE, BitRead, Error, SliceReader};
+
+/// Why a frame is not read.
+#[derive(Debug, Drop, thiserror::Error)]
+pub enum AdtsError {
+    /// The bits were not read.
+    #[error("{0}")]
+    Reader(Error),
+    /// There is no syncword.
+    #[error("no syncword of ADTS")]
+    NoSync,
+    /// The layer is not 0.
+    #[error("the layer is not 0")]
+    UnknownLayer,
+    /// The length of the frame is less than that of its header.
+    #[error("the frame is shorter than its header")]
+    FrameTooShort,
+}
+
+impl From<Error> for AdtsError {
+    fn from(error: Error) -> AdtsError {
+        AdtsError::Reader(error)
+    }
+}
+
+impl From<AdtsHeaderError> for AdtsError {
+    fn from(error: AdtsHeaderError) -> AdtsError {
+        match error {
+            AdtsHeaderError::Reader(error) => AdtsError::Reader(error),
+            AdtsHeaderError::NoSync => AdtsError::NoSync,
+            AdtsHeaderError::UnknownLayer => AdtsError::UnknownLayer,
+        }
+    }
+}
+
+/// The frames of a stream.
+#[derive(Drop)]
+pub struct Frames<'a> {
+    reader: SliceReader<'a, BE>,
+}
+
+impl<'a> Frames<'a> {
+    /// Returns the frames of these bytes.
+    pub fn over(bytes: &'a [u8]) -> Frames<'a> {
+        Frames {
+            reader: SliceReader::over(bytes),
+        }
+    }
+
+    /// Returns the bytes of the frames that were not read yet.
+    pub fn rest(&self) -> &'a [u8] {
+        self.reader.rest()
+    }
+
+    /// Reads a frame, and appends the elements of its header. Answers its header, or `None` at the end.
+    ///
+    /// # Errors
+    ///
+    /// Those of [`AdtsError`]. The elements that were read before are appended.
+    pub fn next_frame(
+        &mut self,
+        elements: &mut Vec<Element>,
+    ) -> Result<Option<AdtsHeader>, At<AdtsError>> {
+        if self.reader.is_at_end() {
+            return Ok(None);
+        }
+        match read_frame(&mut self.reader, elements) {
+            Ok(header) => Ok(Some(header)),
+            Err(error) => Err(At {
+                bit: self.reader.bits_read(),
+                error,
+            }),
+        }
+    }
+}
+
+/// Reads a frame.
+fn read_frame(
+    reader: &mut SliceReader<'_, BE>,
+    elements: &mut Vec<Element>,
+) -> Result<AdtsHeader, AdtsError> {
+    let start = reader.bits_read();
+    let header = AdtsHeader::read(reader)?;
+    let mut syntax = Syntax {
+        reader,
+        elements,
+        index: None,
+        start: 0,
+    };
+    note_header(&mut syntax, start, &header)?;
+    let mut bytes = 7;
+    if !header.protection_absent {
+        syntax.number("crc_check", 16)?;
+        bytes = 9;
+    }
+    let left = (header.frame_length as usize)
+        .checked_sub(bytes)
+        .ok_or(AdtsError::FrameTooShort)?;
+    let _frame = syntax.reader.take_bytes(left)?;
+    Ok(header)
+}
+
+/// Notes the elements of a header that begins at some bit.
+fn note_header(
+    syntax: &mut Syntax<'_, '_, '_, BE>,
+    start: u64,
+    header: &AdtsHeader,
+) -> Result<(), Error> {
+    let elements = [
+        (0, "syncword", 0xfff),
+        (12, "ID", header.mpeg_2 as i64),
+        (13, "layer", 0),
+        (15, "protection_absent", header.protection_absent as i64),
+        (16, "profile_ObjectType", header.profile as i64),
+        (18, "sampling_frequency_index", header.frequency as i64),
+        (22, "private_bit", header.private as i64),
+        (23, "channel_configuration", header.channels as i64),
+        (26, "original_copy", header.original as i64),
+        (27, "home", header.home as i64),
+        (
+            28,
+            "copyright_identification_bit",
+            header.copyright_id as i64,
+        ),
+        (
+            29,
+            "copyright_identification_start",
+            header.copyright_start as i64,
+        ),
+        (30, "aac_frame_length", header.frame_length as i64),
+        (43, "adts_buffer_fullness", header.fullness as i64),
+        (
+            54,
+            "number_of_raw_data_blocks_in_frame",
+            header.blocks as i64,
+        ),
+    ];
+    for (at, name, value) in elements {
+        syntax.note(start.saturating_add(at), name, value)?;
+    }
+    Ok(())
+}

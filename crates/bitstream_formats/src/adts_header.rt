@@ -1,0 +1,219 @@
+//! What stands before a frame of AAC (ISO/IEC 14496-3, section 1.A.2.2), without its checksum.
+//!
+//! Made by `./format` from formats/adts_header.fields: edit that file and make this one anew.
+ghost use Rattle.bitstream_formats.specs.AdtsHeader.{adts_header_entry, adts_header_writes, adts_header_bits, adts_header_at, Fits, becomes_adts_header, const_at_0, const_at_13};
+ghost use Rattle.bitstream_formats.specs.declared.adts_header.AdtsHeader.{AdtsHeader};
+ghost use Rattle.bitstream_formats.specs.declared.adts_header.AdtsHeaderError.{AdtsHeaderError};
+ghost use Rattle.bitstream_formats.specs.declared.adts_header.AdtsHeaderError.TheVariants.{Reader, NoSync, UnknownLayer};
+ghost use Rattle.std.specs.Prelude.{◌≡◌, ◌≢◌, ◌<◌, ◌≤◌, ◌++◌, ℕ, Bool, List, Ok, Err, length, IfOk, IsOk};
+ghost use Rattle.bitstream_io.specs.Callers.{Takes, EndOfInput, Order, High, bits, write_run, ReadsOwn, OwnAnswer, WritesAll, sure_answer, same_error};
+ghost use Rattle.bitstream_io.specs.SliceMut.{written_bytes};
+
+use bitstream_io::{
+    BE, BitRead, BitReadExt, BitReader, BitWrite, BitWriteExt, BitWriter, Bits, Error,
+    FromBitStream, SliceMut, ToBitStream,
+};
+
+/// What stands before a frame of AAC (ISO/IEC 14496-3, section 1.A.2.2), without its checksum.
+///
+/// ```text
+///  0                   1                   2                   3
+///  0 1 2 3 4 5 6 7 8 9 0 1 2 3 4 5 6 7 8 9 0 1 2 3 4 5 6 7 8 9 0 1
+/// +-+-+-+-+-+-+-+-+-+-+-+-+-+-+-+-+-+-+-+-+-+-+-+-+-+-+-+-+-+-+-+-+
+/// |         =4095         |m| =0|p|pro|frequen|p|chann|o|h|c|c|   |
+/// +-+-+-+-+-+-+-+-+-+-+-+-+-+-+-+-+-+-+-+-+-+-+-+-+-+-+-+-+-+-+-+-+
+/// |     frame_length    |       fullness      |blo|
+/// +-+-+-+-+-+-+-+-+-+-+-+-+-+-+-+-+-+-+-+-+-+-+-+-+
+/// ```
+#[derive(Clone, Copy, Debug, PartialEq)]
+pub struct AdtsHeader {
+    /// Whether the frame is of MPEG-2, and not of MPEG-4.
+    pub mpeg_2: bool,
+    /// Whether no checksum follows.
+    pub protection_absent: bool,
+    /// The profile. Below 2^2.
+    pub profile: u8,
+    /// The index of the sampling frequency. Below 2^4.
+    pub frequency: u8,
+    /// A bit of private use.
+    pub private: bool,
+    /// The channel configuration. Below 2^3.
+    pub channels: u8,
+    /// Whether the work is an original.
+    pub original: bool,
+    /// Whether the work is for the home.
+    pub home: bool,
+    /// A bit of the number that is registered for the work.
+    pub copyright_id: bool,
+    /// Whether that number starts here.
+    pub copyright_start: bool,
+    /// The bytes of the frame with this header. Below 2^13.
+    pub frame_length: u16,
+    /// How full the buffer is. Below 2^11.
+    pub fullness: u16,
+    /// The blocks of the frame but one. Below 2^2.
+    pub blocks: u8,
+}
+
+/// Why a `AdtsHeader` is not read.
+#[derive(Debug, Drop)]
+pub enum AdtsHeaderError {
+    /// An error of the reader.
+    Reader(Error),
+    /// The bits do not begin with the syncword.
+    NoSync,
+    /// The layer is not 0.
+    UnknownLayer,
+}
+
+impl From<Error> for AdtsHeaderError {
+    ghost from_gives = { becomes_adts_header };
+
+    fn from(error: Error) -> AdtsHeaderError {
+        AdtsHeaderError::Reader(error)
+    }
+}
+
+impl AdtsHeader {
+    /// Reads the fields in order.
+    ///
+    /// # Errors
+    ///
+    /// `NoSync`, `UnknownLayer`, behind the bits that say so. Else those of the reader: after each of them it has failed.
+    pub fn read<R: BitRead>(reader: &mut R) -> Result<AdtsHeader, AdtsHeaderError>
+        ensures { ReadsOwn R.source becomes_adts_header (adts_header_entry R.source.order) reader.old result reader.new }
+    {
+        reader.read_const::<Bits<12>, Bits<4095>, AdtsHeaderError>(AdtsHeaderError::NoSync)?;
+        let mpeg_2 = reader.read_bit()?;
+        reader.read_const::<Bits<2>, Bits<0>, AdtsHeaderError>(AdtsHeaderError::UnknownLayer)?;
+        let protection_absent = reader.read_bit()?;
+        let profile = reader.read::<Bits<2>, u8>()?;
+        let frequency = reader.read::<Bits<4>, u8>()?;
+        let private = reader.read_bit()?;
+        let channels = reader.read::<Bits<3>, u8>()?;
+        let original = reader.read_bit()?;
+        let home = reader.read_bit()?;
+        let copyright_id = reader.read_bit()?;
+        let copyright_start = reader.read_bit()?;
+        let frame_length = reader.read::<Bits<13>, u16>()?;
+        let fullness = reader.read::<Bits<11>, u16>()?;
+        let blocks = reader.read::<Bits<2>, u8>()?;
+        Ok(AdtsHeader {
+            mpeg_2,
+            protection_absent,
+            profile,
+            frequency,
+            private,
+            channels,
+            original,
+            home,
+            copyright_id,
+            copyright_start,
+            frame_length,
+            fullness,
+            blocks,
+        })
+    }
+
+    /// Returns what bytes begin with.
+    ///
+    /// # Errors
+    ///
+    /// `NoSync`, `UnknownLayer`, `Reader(EndOfInput)` for fewer than 7 bytes.
+    pub fn parse(packet: &[u8]) -> Result<AdtsHeader, AdtsHeaderError>
+        ensures answer { OwnAnswer becomes_adts_header (λ answer. answer)
+            (sure_answer ((adts_header_entry High).reads 0 (bits High packet.now))) result }
+        ensures there { 7 ≤ length packet.now → const_at_0 (bits High packet.now) ≡ 4095
+            → const_at_13 (bits High packet.now) ≡ 0
+            → result ≡ Ok (adts_header_at (bits High packet.now)) }
+        ensures short { length packet.now < 7
+            → (2 ≤ length packet.now → const_at_0 (bits High packet.now) ≡ 4095)
+            → (2 ≤ length packet.now → const_at_13 (bits High packet.now) ≡ 0)
+            → result ≡ Err (AdtsHeaderError.Reader EndOfInput) }
+        ensures no_sync { 2 ≤ length packet.now → const_at_0 (bits High packet.now) ≢ 4095
+            → result ≡ Err (AdtsHeaderError.NoSync) }
+        ensures unknown_layer { 2 ≤ length packet.now → const_at_0 (bits High packet.now) ≡ 4095
+            → const_at_13 (bits High packet.now) ≢ 0 → result ≡ Err (AdtsHeaderError.UnknownLayer) }
+        ensures back { (value : AdtsHeader) (more : List Bool) → Fits value
+            → bits High packet.now ≡ adts_header_bits value ++ more → result ≡ Ok value }
+    {
+        adts_header_goes_back();
+        AdtsHeader::read(&mut BitReader::<_, BE>::over(packet))
+    }
+
+    /// Writes the fields in order.
+    ///
+    /// # Errors
+    ///
+    /// `Checked` for a field that does not fit its bits. The fields before it are written then.
+    /// Else those of the sink.
+    pub fn write<W: BitWrite>(&self, writer: &mut W) -> Result<(), Error>
+        ensures { WritesAll W.sink (adts_header_writes W.sink.order self.now) writer.old result writer.new }
+    {
+        writer.write_const::<Bits<12>, Bits<4095>>()?;
+        writer.write_bit(self.mpeg_2)?;
+        writer.write_const::<Bits<2>, Bits<0>>()?;
+        writer.write_bit(self.protection_absent)?;
+        writer.write::<Bits<2>, u8>(self.profile)?;
+        writer.write::<Bits<4>, u8>(self.frequency)?;
+        writer.write_bit(self.private)?;
+        writer.write::<Bits<3>, u8>(self.channels)?;
+        writer.write_bit(self.original)?;
+        writer.write_bit(self.home)?;
+        writer.write_bit(self.copyright_id)?;
+        writer.write_bit(self.copyright_start)?;
+        writer.write::<Bits<13>, u16>(self.frame_length)?;
+        writer.write::<Bits<11>, u16>(self.fullness)?;
+        writer.write::<Bits<2>, u8>(self.blocks)?;
+        Ok(())
+    }
+
+    /// Writes the fields to the first bytes of a buffer, and returns what was written. No write
+    /// fails if each field fits its bits and the buffer has 7 bytes. No memory is asked for.
+    ///
+    /// # Errors
+    ///
+    /// `Checked` for a field that does not fit its bits, or `Stream(WriteZero)` if the buffer is too
+    /// short.
+    pub fn pack_into<'a>(&self, buffer: &'a mut [u8]) -> Result<SliceMut<'a>, Error>
+        ensures packed { IfOk result (λ packed. bits High (written_bytes packed) ≡ adts_header_bits self.now) }
+        ensures room { Fits self.now → 7 ≤ length buffer.old → IsOk result }
+    {
+        let mut writer = BitWriter::<_, BE>::over(buffer);
+        self.write(&mut writer)?;
+        writer.byte_align()?;
+        Ok(writer.into_writer())
+    }
+}
+
+impl FromBitStream for AdtsHeader {
+    type Error = AdtsHeaderError;
+
+    ghost becomes = { becomes_adts_header };
+
+    ghost reads = { adts_header_entry };
+
+    fn from_reader<R: BitRead>(reader: &mut R) -> Result<AdtsHeader, AdtsHeaderError> {
+        AdtsHeader::read(reader)
+    }
+}
+
+impl ToBitStream for AdtsHeader {
+    type Error = Error;
+
+    ghost becomes = { same_error };
+
+    ghost writes = { adts_header_writes };
+
+    fn to_writer<W: BitWrite>(&self, writer: &mut W) -> Result<(), Error> {
+        self.write(writer)
+    }
+}
+
+/// What fits its bits is read back as it was written, in either order of bits, wherever it stands.
+/// The read takes the bits that were written, and no more.
+pub fn adts_header_goes_back()
+    ensures { (o : Order) (value : AdtsHeader) (at from : ℕ) (more : List Bool) → Fits value
+        → let written = write_run (adts_header_writes o value) at in
+        (adts_header_entry o).reads from (written ++ more) ≡ Takes (length written) (Ok (Ok value)) }
+{}

@@ -1,0 +1,134 @@
+//! AV1 (AV1 Bitstream and Decoding Process Specification, 2019): the headers of the OBUs of a stream,
+//! each with its size, and the sequence headers.
+
+use crate::at::At;
+use crate::element::{Element, Syntax};
+use bitstream_io::{BE, BitRead, BitReadExt, Bits, Error, SliceReader};
+
+mod leb128;
+mod sequence;
+
+pub use leb128::{leb128_numbers_go_back, read_leb128};
+use sequence::read_sequence;
+
+/// Why an OBU is not read.
+#[derive(Debug, Drop, thiserror::Error)]
+pub enum Av1Error {
+    /// The bits were not read.
+    #[error("{0}")]
+    Reader(Error),
+    /// The first bit of an OBU is not 0.
+    #[error("the forbidden bit is set")]
+    Forbidden,
+    /// An OBU does not say its size.
+    #[error("an OBU has no size field")]
+    NoSize,
+    /// The size is 2^32 or more, or has more than eight bytes.
+    #[error("the size of an OBU is too large")]
+    TooLarge,
+}
+
+impl From<Error> for Av1Error {
+    ghost use Rattle.bitstream_formats.specs.Leb128.{becomes_av1};
+
+    ghost from_gives = { becomes_av1 };
+
+    fn from(error: Error) -> Av1Error {
+        Av1Error::Reader(error)
+    }
+}
+
+/// The elements of an OBU that are read.
+type Obu<'r, 'a, 'b> = Syntax<'r, 'a, 'b, BE>;
+
+/// The OBUs of a stream in the low-overhead format.
+#[derive(Drop)]
+pub struct Obus<'a> {
+    reader: SliceReader<'a, BE>,
+}
+
+impl<'a> Obus<'a> {
+    /// Returns the OBUs of these bytes.
+    pub fn over(bytes: &'a [u8]) -> Obus<'a> {
+        Obus {
+            reader: SliceReader::over(bytes),
+        }
+    }
+
+    /// Returns the bytes of the OBUs that were not read yet.
+    pub fn rest(&self) -> &'a [u8] {
+        self.reader.rest()
+    }
+
+    /// Reads an OBU, and appends the elements of its header, and if it is a sequence header its elements.
+    /// Answers whether there was one.
+    ///
+    /// # Errors
+    ///
+    /// Those of [`Av1Error`]. The elements that were read before are appended.
+    pub fn next_obu(&mut self, elements: &mut Vec<Element>) -> Result<bool, At<Av1Error>> {
+        if self.reader.is_at_end() {
+            return Ok(false);
+        }
+        let mut syntax = Syntax {
+            reader: &mut self.reader,
+            elements,
+            index: None,
+            start: 0,
+        };
+        let (kind, size) = match read_header(&mut syntax) {
+            Ok(header) => header,
+            Err(error) => return Err(At {
+                bit: self.reader.bits_read(),
+                error,
+            }),
+        };
+        let start = self.reader.bits_read();
+        let mut part = match self.reader.part(size) {
+            Ok(part) => part,
+            Err(error) => return Err(At {
+                bit: start,
+                error: Av1Error::Reader(error),
+            }),
+        };
+        if kind != 1 {
+            return Ok(true);
+        }
+        let mut syntax = Syntax {
+            reader: &mut part,
+            elements,
+            index: None,
+            start,
+        };
+        match read_sequence(&mut syntax) {
+            Ok(()) => Ok(true),
+            Err(error) => Err(At {
+                bit: start.saturating_add(part.bits_read()),
+                error: Av1Error::Reader(error),
+            }),
+        }
+    }
+}
+
+/// Reads the header of an OBU: its type, and the bytes behind it.
+fn read_header(syntax: &mut Obu<'_, '_, '_>) -> Result<(u32, usize), Av1Error> {
+    if syntax.flag("obu_forbidden_bit")? {
+        return Err(Av1Error::Forbidden);
+    }
+    let kind = syntax.number("obu_type", 4)?;
+    let extension = syntax.flag("obu_extension_flag")?;
+    let has_size = syntax.flag("obu_has_size_field")?;
+    syntax.flag("obu_reserved_1bit")?;
+    if extension {
+        syntax.number("temporal_id", 3)?;
+        syntax.number("spatial_id", 2)?;
+        syntax.number("extension_header_reserved_3bits", 3)?;
+    }
+    if !has_size {
+        return Err(Av1Error::NoSize);
+    }
+    let place = syntax.place();
+    let size = read_leb128(syntax.reader)?;
+    syntax.note(place, "obu_size", size as i64)?;
+    Ok((kind, size as usize))
+}

@@ -1,0 +1,91 @@
+//! Elements of a format, as they are read one by one.
+ghost use Rattle.std.specs.Prelude.{◌<◌, ◌^◌, IfOk};
+
+use bitstream_io::{BitRead, BitReadExt, Endianness, Error, SliceReader};
+use std::fmt;
+
+/// An element that was read. It is displayed as its place, its name and its value.
+#[derive(Clone, Copy, Debug, PartialEq)]
+pub struct Element {
+    /// The place of its first bit.
+    pub place: u64,
+    /// Its name in the format's document.
+    pub name: &'static str,
+    /// Its number, of several of one name.
+    pub index: Option<u32>,
+    /// Its value. Of a number of 64 bits without a sign, the signed one of the same bits.
+    pub value: i64,
+}
+
+impl fmt::Display for Element {
+    fn fmt<W: fmt::Write>(&self, f: &mut fmt::Formatter<W>) -> fmt::Result {
+        match self.index {
+            Some(index) => write!(f, "{} {}[{index}] {}", self.place, self.name, self.value),
+            None => write!(f, "{} {} {}", self.place, self.name, self.value),
+        }
+    }
+}
+
+/// A reader, and what was read by it.
+#[derive(Drop)]
+pub(crate) struct Syntax<'r, 'a, 'b, E: Endianness> {
+    /// The reader.
+    pub(crate) reader: &'r mut SliceReader<'a, E>,
+    /// What was read.
+    pub(crate) elements: &'b mut Vec<Element>,
+    /// The number of the elements that are being read.
+    pub(crate) index: Option<u32>,
+    /// The place of the reader's first bit.
+    pub(crate) start: u64,
+}
+
+impl<E: Endianness> Syntax<'_, '_, '_, E> {
+    /// Returns the place of the next bit.
+    pub(crate) fn place(&self) -> u64 {
+        self.start.saturating_add(self.reader.bits_read())
+    }
+
+    /// Notes an element.
+    pub(crate) fn note(&mut self, place: u64, name: &'static str, value: i64) -> Result<(), Error> {
+        self.elements.push(Element {
+            place,
+            name,
+            index: self.index,
+            value,
+        })?;
+        Ok(())
+    }
+
+    /// Reads a number of up to 32 bits.
+    pub(crate) fn number(&mut self, name: &'static str, bits: u32) -> Result<u32, Error>
+        ensures { IfOk result (λ value. value < 2 ^ bits) }
+    {
+        let place = self.place();
+        let value: u32 = self.reader.read_var(bits)?;
+        self.note(place, name, value as i64)?;
+        Ok(value)
+    }
+
+    /// Reads a number of up to 64 bits.
+    pub(crate) fn wide(&mut self, name: &'static str, bits: u32) -> Result<u64, Error> {
+        let place = self.place();
+        let value: u64 = self.reader.read_var(bits)?;
+        self.note(place, name, value.cast_signed())?;
+        Ok(value)
+    }
+
+    /// Reads a number of up to 64 bits, and notes nothing.
+    pub(crate) fn bits(&mut self, bits: u32) -> Result<u64, Error>
+        ensures { IfOk result (λ value. value < 2 ^ bits) }
+    {
+        self.reader.read_var(bits)
+    }
+
+    /// Reads a bit.
+    pub(crate) fn flag(&mut self, name: &'static str) -> Result<bool, Error> {
+        let place = self.place();
+        let value = self.reader.read_bit()?;
+        self.note(place, name, value as i64)?;
+        Ok(value)
+    }
+}

@@ -1,0 +1,80 @@
+//! Numbers that are coded as UTF-8 codes characters, in up to 36 bits (section 9.1.5).
+ghost use Rattle.std.specs.Prelude.{◌≡◌, ◌++◌, ◌+◌, ◌*◌, ◌<◌, ◌≤◌, ◌^◌, ℕ, Bool, List, Ok, length};
+ghost use Rattle.bitstream_io.specs.Callers.{Order, ReadsOwn, Takes, write_run};
+ghost use Rattle.bitstream_formats.specs.Coded.{becomes_flac, coded_entry, coded_writes, least_of, rest_entry, shortest};
+
+use super::error::FlacError;
+use bitstream_io::{BitRead, BitReadExt, Bits};
+
+/// Reads a coded number, below 2^36.
+///
+/// # Errors
+///
+/// `NotCoded` for a first byte 0b10.. or 0xff, and for a later byte that does not begin with 0b10.
+/// `LongCoded` for a number that fewer bytes code. Those of the reader. What shows the error is read.
+pub fn read_coded<R: BitRead>(reader: &mut R) -> Result<u64, FlacError>
+    ensures { ReadsOwn R.source becomes_flac (coded_entry R.source.order) reader.old result reader.new }
+{
+    let ones = reader.read_unary::<Bits<0>>()?;
+    if ones == 0 {
+        let number = reader.read::<Bits<7>, u64>()?;
+        return Ok(number);
+    }
+    if ones == 1 {
+        return Err(FlacError::NotCoded);
+    }
+    if ones > 7 {
+        return Err(FlacError::NotCoded);
+    }
+    let first: u64 = reader.read_var(7 - ones)?;
+    read_rest(reader, least_of(ones), ones - 1, first)
+}
+
+/// Returns the least number that needs so many bytes.
+fn least_of(bytes: u32) -> u64
+    requires two { 2 ≤ bytes }
+    requires seven { bytes ≤ 7 }
+    ensures { result ≡ least_of bytes }
+{
+    if bytes == 2 {
+        1 << 7
+    } else {
+        1 << (5 * bytes - 4)
+    }
+}
+
+/// Returns a number, unless fewer bytes code it.
+fn shortest(least: u64, number: u64) -> Result<u64, FlacError>
+    ensures { result ≡ shortest least number }
+{
+    if number < least {
+        return Err(FlacError::LongCoded);
+    }
+    Ok(number)
+}
+
+/// Reads the bytes behind the bits `number`: six bits each.
+fn read_rest<R: BitRead>(
+    reader: &mut R,
+    least: u64,
+    bytes: u32,
+    number: u64,
+) -> Result<u64, FlacError>
+    requires { (number + 1) * 64 ^ bytes ≤ 2 ^ 42 }
+    ensures { ReadsOwn R.source becomes_flac (rest_entry R.source.order least bytes number)
+        reader.old result reader.new }
+{
+    if bytes == 0 {
+        return shortest(least, number);
+    }
+    reader.read_const::<Bits<2>, Bits<2>, FlacError>(FlacError::NotCoded)?;
+    let six = reader.read::<Bits<6>, u64>()?;
+    read_rest(reader, least, bytes - 1, 64 * number + six)
+}
+
+/// A coded number is read back as it was written, in either order of bits, wherever it stands.
+pub fn coded_numbers_go_back()
+    ensures { (o : Order) (number at from : ℕ) (more : List Bool) → number < 2 ^ 36
+        → let word = write_run (coded_writes o number) at in
+        (coded_entry o).reads from (word ++ more) ≡ Takes (length word) (Ok (Ok number)) }
+{}

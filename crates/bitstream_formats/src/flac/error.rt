@@ -1,0 +1,91 @@
+//! What is wrong with a FLAC file.
+
+use bitstream_io::Error;
+use std::alloc::{AllocError, AllocFailed};
+
+/// Why a file is not decoded.
+#[derive(Debug, Drop, thiserror::Error)]
+pub enum FlacError {
+    /// The bits were not read, or memory was refused.
+    #[error("{0}")]
+    Reader(Error),
+    /// The file does not begin with `fLaC`.
+    #[error("no FLAC file")]
+    NoFlac,
+    /// The first block of metadata is not a STREAMINFO of 34 bytes.
+    #[error("the metadata begins with no STREAMINFO")]
+    NoStreamInfo,
+    /// No frame begins here.
+    #[error("no frame begins here")]
+    NoSync,
+    /// A bit that is to be 0 is 1.
+    #[error("a reserved bit is set")]
+    ReservedBit,
+    /// The code of the block size is reserved.
+    #[error("the block size is reserved")]
+    ReservedBlockSize,
+    /// The code of the sample rate is not allowed.
+    #[error("the sample rate is not allowed")]
+    ReservedSampleRate,
+    /// The code of the sample size is reserved.
+    #[error("the sample size is reserved")]
+    ReservedSampleSize,
+    /// The code of the channels is reserved.
+    #[error("the channels are reserved")]
+    ReservedChannels,
+    /// The coded number is none.
+    #[error("no coded number")]
+    NotCoded,
+    /// The coded number has more bytes than it needs.
+    #[error("the coded number is longer than it has to be")]
+    LongCoded,
+    /// The checksum of the frame's header is not that of its bytes.
+    #[error("the checksum of the frame's header is wrong")]
+    HeaderChecksum,
+    /// The checksum of the frame is not that of its bytes.
+    #[error("the checksum of the frame is wrong")]
+    FrameChecksum,
+    /// The type of the subframe is reserved.
+    #[error("the type of the subframe is reserved")]
+    ReservedSubframe,
+    /// All bits of the samples are wasted, or more.
+    #[error("too many wasted bits")]
+    TooManyWastedBits,
+    /// The precision of the coefficients is reserved.
+    #[error("the precision of the coefficients is reserved")]
+    ReservedPrecision,
+    /// The shift of the prediction is negative.
+    #[error("the shift of the prediction is negative")]
+    NegativeShift,
+    /// The coding of the residual is reserved.
+    #[error("the coding of the residual is reserved")]
+    ReservedResidual,
+    /// The block is not of whole partitions, or the first one has fewer samples than come before it.
+    #[error("the partitions do not fit the block")]
+    Partitions,
+    /// The file has another number of samples than its metadata says.
+    #[error("the number of samples is another than the metadata says")]
+    SampleCount,
+}
+
+impl From<Error> for FlacError {
+    ghost use Rattle.bitstream_formats.specs.Coded.{becomes_flac};
+
+    ghost from_gives = { becomes_flac };
+
+    fn from(error: Error) -> FlacError {
+        FlacError::Reader(error)
+    }
+}
+
+impl From<AllocError> for FlacError {
+    fn from(_refused: AllocError) -> FlacError {
+        FlacError::Reader(Error::OutOfMemory)
+    }
+}
+
+impl<T: Drop> From<AllocFailed<T>> for FlacError {
+    fn from(_refused: AllocFailed<T>) -> FlacError {
+        FlacError::Reader(Error::OutOfMemory)
+    }
+}

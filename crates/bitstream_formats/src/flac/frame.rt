@@ -1,0 +1,97 @@
+//! Frames (section 9).
+
+use super::crc::{Crc16, crc8};
+use super::error::FlacError;
+use super::header::{FrameHeader, read_header};
+use super::predict::join_stereo;
+use super::subframe::read_subframe;
+use crate::stream_info::StreamInfo;
+use bitstream_io::{BE, BitRead, BitReadExt, Bits, SliceReader};
+use std::alloc::{AllocError, Global};
+
+/// A frame that was decoded.
+#[derive(Debug, Drop)]
+pub struct Frame {
+    /// Its header.
+    pub header: FrameHeader,
+    /// The bits of a sample, 4 to 32.
+    pub bits_per_sample: u8,
+    /// The samples of each channel, left before right.
+    pub channels: Vec<Vec<i64>>,
+}
+
+impl Frame {
+    /// Appends the samples as whole bytes with a sign, the lowest byte first: the channels of a sample
+    /// stand behind each other.
+    ///
+    /// # Errors
+    ///
+    /// Memory was refused.
+    pub fn append_pcm(&self, bytes: &mut Vec<u8>) -> Result<(), AllocError> {
+        let width = (self.bits_per_sample as usize).div_ceil(8);
+        for at in 0..self.header.block_size as usize {
+            for channel in &self.channels {
+                let sample = channel.as_slice().get(at).copied().unwrap_or(0);
+                for byte in sample.to_le_bytes().into_iter().take(width) {
+                    bytes.push(byte)?;
+                }
+            }
+        }
+        Ok(())
+    }
+}
+
+/// Returns the first bytes of some, up to those that stand behind them.
+fn bytes_before<'a>(bytes: &'a [u8], rest: &[u8]) -> &'a [u8] {
+    bytes
+        .get(..bytes.len().saturating_sub(rest.len()))
+        .unwrap_or(bytes)
+}
+
+/// Reads a frame of a file.
+pub(super) fn read_frame(
+    reader: &mut SliceReader<'_, BE>,
+    alloc: Global,
+    info: &StreamInfo,
+    crc16: &Crc16,
+) -> Result<Frame, FlacError> {
+    let bytes = reader.rest();
+    let header = read_header(reader)?;
+    let checksum = crc8(bytes_before(bytes, reader.rest()));
+    if reader.read::<Bits<8>, u8>()? != checksum {
+        return Err(FlacError::HeaderChecksum);
+    }
+    let bits_per_sample = match header.bits_per_sample {
+        0 => info.bits_per_sample.get(),
+        bits => bits,
+    };
+    let mut channels = read_channels(reader, alloc, &header, bits_per_sample)?;
+    reader.byte_align();
+    let checksum = crc16.of(bytes_before(bytes, reader.rest()));
+    if reader.read::<Bits<16>, u16>()? != checksum {
+        return Err(FlacError::FrameChecksum);
+    }
+    if let [first, second] = channels.as_mut_slice() {
+        join_stereo(header.channels, first.as_mut_slice(), second.as_mut_slice());
+    }
+    Ok(Frame {
+        header,
+        bits_per_sample,
+        channels,
+    })
+}
+
+/// Reads the channels of a frame as they are coded.
+fn read_channels(
+    reader: &mut SliceReader<'_, BE>,
+    alloc: Global,
+    header: &FrameHeader,
+    bits_per_sample: u8,
+) -> Result<Vec<Vec<i64>>, FlacError> {
+    let mut channels = Vec::new(alloc);
+    for channel in 0..header.channels.count() {
+        let bits = bits_per_sample as u32 + header.channels.is_side(channel) as u32;
+        channels.push(read_subframe(reader, alloc, header.block_size, bits)?)?;
+    }
+    Ok(channels)
+}

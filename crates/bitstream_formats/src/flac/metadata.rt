@@ -1,0 +1,75 @@
+//! Blocks of metadata (section 8).
+
+use super::error::FlacError;
+use crate::at::At;
+use bitstream_io::{BE, BitRead, BitReadExt, Bits, SliceReader};
+
+/// A block of metadata.
+#[derive(Clone, Copy, Debug)]
+pub struct Block<'a> {
+    /// Its type: 0 STREAMINFO, 1 padding, 2 of an application, 3 a table to seek by, 4 a Vorbis comment,
+    /// 5 a cue sheet, 6 a picture.
+    pub kind: u8,
+    /// Its bytes, without its header.
+    pub bytes: &'a [u8],
+}
+
+/// The blocks of metadata of a file.
+#[derive(Drop)]
+pub struct Blocks<'a> {
+    reader: SliceReader<'a, BE>,
+    done: bool,
+}
+
+impl<'a> Blocks<'a> {
+    /// Returns the blocks of a file.
+    ///
+    /// # Errors
+    ///
+    /// `NoFlac`, and those of the reader.
+    pub fn over(file: &'a [u8]) -> Result<Blocks<'a>, At<FlacError>> {
+        let mut reader = SliceReader::over(file);
+        match reader.read_const::<Bits<32>, Bits<0x664C_6143>, FlacError>(FlacError::NoFlac) {
+            Ok(()) => Ok(Blocks {
+                reader,
+                done: false,
+            }),
+            Err(error) => Err(At { bit: 0, error }),
+        }
+    }
+
+    /// Gives the next block, or `None` behind the last one.
+    ///
+    /// # Errors
+    ///
+    /// Those of the reader.
+    pub fn next_block(&mut self) -> Result<Option<Block<'a>>, At<FlacError>> {
+        if self.done {
+            return Ok(None);
+        }
+        match read_block(&mut self.reader) {
+            Ok((last, block)) => {
+                self.done = last;
+                Ok(Some(block))
+            }
+            Err(error) => Err(At {
+                bit: self.reader.bits_read(),
+                error,
+            }),
+        }
+    }
+
+    /// Returns the reader behind the blocks that were given.
+    pub fn into_reader(self) -> SliceReader<'a, BE> {
+        self.reader
+    }
+}
+
+/// Reads a block, and whether it is the last one.
+fn read_block<'a>(reader: &mut SliceReader<'a, BE>) -> Result<(bool, Block<'a>), FlacError> {
+    let last = reader.read_bit()?;
+    let kind = reader.read::<Bits<7>, u8>()?;
+    let length = reader.read::<Bits<24>, u32>()?;
+    let bytes = reader.take_bytes(length as usize)?;
+    Ok((last, Block { kind, bytes }))
+}

@@ -1,0 +1,45 @@
+//! Bytes against the emulation of a start code (section 7.4.1).
+ghost use Rattle.std.specs.Prelude.{◌≡◌, ℕ, List, IfOk};
+ghost use Rattle.bitstream_formats.specs.Emulation.{with_emulation, without_emulation, zeros_after};
+
+use std::alloc::{AllocError, Global};
+
+/// Returns how many zeros the last bytes are behind this one, but at most two.
+fn zeros_after(zeros: u8, byte: u8) -> u8
+    ensures { result ≡ zeros_after zeros byte }
+{
+    if byte != 0 {
+        0
+    } else if zeros == 0 {
+        1
+    } else {
+        2
+    }
+}
+
+/// Returns the bytes of a unit without each byte 3 that follows two zeros.
+///
+/// # Errors
+///
+/// Memory was refused.
+pub fn remove_emulation(alloc: Global, unit: &[u8]) -> Result<Vec<u8>, AllocError>
+    ensures { IfOk result (λ payload. payload.items ≡ without_emulation 0 unit.now) }
+{
+    let mut payload = Vec::new(alloc);
+    let mut zeros = 0u8;
+    for byte in unit {
+        if zeros == 2 && *byte == 3 {
+            zeros = 0;
+        } else {
+            payload.push(*byte)?;
+            zeros = zeros_after(zeros, *byte);
+        }
+    }
+    Ok(payload)
+}
+
+/// The removal gives bytes back as they were before a 3 was put between two zeros and each byte of at most
+/// 3 behind them.
+pub fn emulation_goes_back()
+    ensures { (bytes : List ℕ) → without_emulation 0 (with_emulation 0 bytes) ≡ bytes }
+{}

@@ -1,0 +1,104 @@
+//! Sequence parameter sets (section 7.3.2.1.1).
+
+use super::H264Error;
+use super::golomb::{read_se, read_ue};
+use super::scaling::read_scaling_lists;
+use super::vui::read_vui;
+use crate::element::Syntax;
+use bitstream_io::{BE, Error};
+
+/// Whether the sets of a profile say how colors are coded.
+fn has_chroma(profile: u32) -> bool {
+    matches!(
+        profile,
+        44 | 83 | 86 | 100 | 110 | 118 | 122 | 128 | 138 | 244
+    )
+}
+
+/// Reads a sequence parameter set.
+pub(super) fn read_sps(syntax: &mut Syntax<'_, '_, '_, BE>) -> Result<(), H264Error> {
+    let profile = syntax.number("profile_idc", 8)?;
+    syntax.flag("constraint_set0_flag")?;
+    syntax.flag("constraint_set1_flag")?;
+    syntax.flag("constraint_set2_flag")?;
+    syntax.flag("constraint_set3_flag")?;
+    syntax.flag("constraint_set4_flag")?;
+    syntax.flag("constraint_set5_flag")?;
+    syntax.number("reserved_zero_2bits", 2)?;
+    syntax.number("level_idc", 8)?;
+    read_ue(syntax, "seq_parameter_set_id")?;
+    if has_chroma(profile) {
+        read_chroma(syntax)?;
+    }
+    read_ue(syntax, "log2_max_frame_num_minus4")?;
+    read_order(syntax)?;
+    read_ue(syntax, "max_num_ref_frames")?;
+    syntax.flag("gaps_in_frame_num_allowed_flag")?;
+    read_picture(syntax)?;
+    if syntax.flag("vui_parameters_present_flag")? {
+        read_vui(syntax)?;
+    }
+    Ok(())
+}
+
+/// Reads how colors are coded.
+fn read_chroma(syntax: &mut Syntax<'_, '_, '_, BE>) -> Result<(), Error> {
+    let chroma = read_ue(syntax, "chroma_format_idc")?;
+    if chroma == 3 {
+        syntax.flag("separate_colour_plane_flag")?;
+    }
+    read_ue(syntax, "bit_depth_luma_minus8")?;
+    read_ue(syntax, "bit_depth_chroma_minus8")?;
+    syntax.flag("qpprime_y_zero_transform_bypass_flag")?;
+    if syntax.flag("seq_scaling_matrix_present_flag")? {
+        let count = if chroma == 3 { 12 } else { 8 };
+        read_scaling_lists(syntax, "seq_scaling_list_present_flag", count)?;
+    }
+    Ok(())
+}
+
+/// Reads how the order of pictures is coded.
+fn read_order(syntax: &mut Syntax<'_, '_, '_, BE>) -> Result<(), H264Error> {
+    match read_ue(syntax, "pic_order_cnt_type")? {
+        0 => {
+            read_ue(syntax, "log2_max_pic_order_cnt_lsb_minus4")?;
+        }
+        1 => read_cycle(syntax)?,
+        _ => {}
+    }
+    Ok(())
+}
+
+/// Reads a cycle of offsets.
+fn read_cycle(syntax: &mut Syntax<'_, '_, '_, BE>) -> Result<(), H264Error> {
+    syntax.flag("delta_pic_order_always_zero_flag")?;
+    read_se(syntax, "offset_for_non_ref_pic")?;
+    read_se(syntax, "offset_for_top_to_bottom_field")?;
+    let count = read_ue(syntax, "num_ref_frames_in_pic_order_cnt_cycle")?;
+    if count > 255 {
+        return Err(H264Error::TooManyFrames);
+    }
+    for at in 0..count {
+        syntax.index = Some(at);
+        read_se(syntax, "offset_for_ref_frame")?;
+    }
+    syntax.index = None;
+    Ok(())
+}
+
+/// Reads the size of a picture.
+fn read_picture(syntax: &mut Syntax<'_, '_, '_, BE>) -> Result<(), Error> {
+    read_ue(syntax, "pic_width_in_mbs_minus1")?;
+    read_ue(syntax, "pic_height_in_map_units_minus1")?;
+    if !syntax.flag("frame_mbs_only_flag")? {
+        syntax.flag("mb_adaptive_frame_field_flag")?;
+    }
+    syntax.flag("direct_8x8_inference_flag")?;
+    if syntax.flag("frame_cropping_flag")? {
+        read_ue(syntax, "frame_crop_left_offset")?;
+        read_ue(syntax, "frame_crop_right_offset")?;
+        read_ue(syntax, "frame_crop_top_offset")?;
+        read_ue(syntax, "frame_crop_bottom_offset")?;
+    }
+    Ok(())
+}

@@ -1,0 +1,168 @@
+//! Ogg (RFC 3533): pages with their checksums and packets, and the first byte of a packet of Opus
+//! (RFC 6716, section 3.1).
+
+use crate::at::At;
+use crate::element::{Element, Syntax};
+use bitstream_io::{BE, BitRead, BitReadExt, Bits, Error, LE, SliceReader};
+
+/// Why a page is not read.
+#[derive(Debug, Drop, thiserror::Error)]
+pub enum OggError {
+    /// The bits were not read.
+    #[error("{0}")]
+    Reader(Error),
+    /// The page does not begin with `OggS`.
+    #[error("no page begins here")]
+    NoCapture,
+    /// The version of the page is not 0.
+    #[error("the version of the page is not 0")]
+    UnknownVersion,
+    /// The checksum of the page is not that of its bytes.
+    #[error("the checksum of the page is wrong")]
+    Checksum,
+}
+
+impl From<Error> for OggError {
+    fn from(error: Error) -> OggError {
+        OggError::Reader(error)
+    }
+}
+
+/// Goes on with a checksum by a byte, by the polynomial 0x04c11db7, from the highest bit on.
+fn crc_byte(crc: u32, byte: u8) -> u32 {
+    let mut crc = crc ^ ((byte as u32) << 24);
+    for _ in 0..8 {
+        let top = crc & 0x8000_0000 != 0;
+        crc = (crc & 0x7fff_ffff) << 1;
+        if top {
+            crc ^= 0x04c1_1db7;
+        }
+    }
+    crc
+}
+
+/// Returns the checksum of a page, whose own four bytes, 22 to 25, count as zeros.
+pub fn page_checksum(page: &[u8]) -> u32 {
+    let mut crc = 0;
+    for (at, byte) in page.iter().enumerate() {
+        crc = crc_byte(crc, if (22..26).contains(&at) { 0 } else { *byte });
+    }
+    crc
+}
+
+/// The pages of a stream.
+#[derive(Drop)]
+pub struct Pages<'a> {
+    reader: SliceReader<'a, LE>,
+}
+
+impl<'a> Pages<'a> {
+    /// Returns the pages of these bytes.
+    pub fn over(bytes: &'a [u8]) -> Pages<'a> {
+        Pages {
+            reader: SliceReader::over(bytes),
+        }
+    }
+
+    /// Returns the bytes of the pages that were not read yet.
+    pub fn rest(&self) -> &'a [u8] {
+        self.reader.rest()
+    }
+
+    /// Reads a page, and appends its elements: those of its header, the length of each packet that ends
+    /// in it, and the first byte of each that begins in it as Opus has it. Answers whether there was one.
+    ///
+    /// # Errors
+    ///
+    /// Those of [`OggError`]. The elements that were read before are appended.
+    pub fn next_page(&mut self, elements: &mut Vec<Element>) -> Result<bool, At<OggError>> {
+        if self.reader.is_at_end() {
+            return Ok(false);
+        }
+        match read_page(&mut self.reader, elements) {
+            Ok(()) => Ok(true),
+            Err(error) => Err(At {
+                bit: self.reader.bits_read(),
+                error,
+            }),
+        }
+    }
+}
+
+/// Reads a page.
+fn read_page(
+    reader: &mut SliceReader<'_, LE>,
+    elements: &mut Vec<Element>,
+) -> Result<(), OggError> {
+    let bytes = reader.rest();
+    let mut syntax = Syntax {
+        reader,
+        elements,
+        index: None,
+        start: 0,
+    };
+    if syntax.number("capture_pattern", 32)? != 0x5367_674f {
+        return Err(OggError::NoCapture);
+    }
+    if syntax.number("version", 8)? != 0 {
+        return Err(OggError::UnknownVersion);
+    }
+    let goes_on = syntax.number("header_type", 8)? % 2 == 1;
+    syntax.wide("granule_position", 64)?;
+    syntax.number("bitstream_serial_number", 32)?;
+    syntax.number("page_sequence_number", 32)?;
+    let checksum = syntax.number("CRC_checksum", 32)?;
+    let segments = syntax.number("page_segments", 8)? as usize;
+    let laces = syntax.reader.take_bytes(segments)?;
+    read_packets(&mut syntax, laces, goes_on)?;
+    let length = bytes.len().saturating_sub(syntax.reader.rest().len());
+    let page = bytes.get(..length).unwrap_or(bytes);
+    if page_checksum(page) != checksum {
+        return Err(OggError::Checksum);
+    }
+    Ok(())
+}
+
+/// Reads the packets of a page. `goes_on` tells whether the first one began in a page before.
+fn read_packets(
+    syntax: &mut Syntax<'_, '_, '_, LE>,
+    laces: &[u8],
+    goes_on: bool,
+) -> Result<(), OggError> {
+    let mut begins = !goes_on;
+    let mut place = syntax.place();
+    let mut length = 0i64;
+    for lace in laces {
+        let packet = syntax.reader.take_bytes(*lace as usize)?;
+        length = length.saturating_add(*lace as i64);
+        if begins {
+            note_opus(syntax, packet, place)?;
+        }
+        begins = *lace < 255;
+        if begins {
+            syntax.note(place, "packet_length", length)?;
+            place = syntax.place();
+            length = 0;
+        }
+    }
+    Ok(())
+}
+
+/// Notes the first byte of a packet, as Opus has it; nothing of a packet with no byte.
+fn note_opus(
+    syntax: &mut Syntax<'_, '_, '_, LE>,
+    packet: &[u8],
+    place: u64,
+) -> Result<(), OggError> {
+    if packet.is_empty() {
+        return Ok(());
+    }
+    let mut reader = SliceReader::<BE>::over(packet);
+    let config = reader.read::<Bits<5>, u8>()?;
+    let stereo = reader.read_bit()?;
+    let code = reader.read::<Bits<2>, u8>()?;
+    syntax.note(place, "config", config as i64)?;
+    syntax.note(place.saturating_add(5), "s", stereo as i64)?;
+    syntax.note(place.saturating_add(6), "c", code as i64)?;
+    Ok(())
+}

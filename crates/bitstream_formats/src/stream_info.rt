@@ -1,0 +1,176 @@
+//! What a FLAC file says of all its frames (RFC 9639, section 8.2).
+//!
+//! Made by `./format` from formats/stream_info.fields: edit that file and make this one anew.
+ghost use Rattle.bitstream_formats.specs.StreamInfo.{stream_info_entry, stream_info_writes, stream_info_bits, stream_info_at, Fits};
+ghost use Rattle.bitstream_formats.specs.declared.stream_info.StreamInfo.{StreamInfo};
+ghost use Rattle.std.specs.Prelude.{◌≡◌, ◌<◌, ◌≤◌, ◌++◌, ℕ, Bool, List, Ok, Err, length, IfOk, IsOk};
+ghost use Rattle.bitstream_io.specs.Callers.{Takes, EndOfInput, Order, High, bits, write_run, Reads, WritesAll, sure_answer, same_error, plain_reads};
+ghost use Rattle.bitstream_io.specs.SliceMut.{written_bytes};
+
+use bitstream_io::{
+    BE, BitRead, BitReadExt, BitReader, BitWrite, BitWriteExt, BitWriter, Bits, Error,
+    FromBitStream, SliceMut, ToBitStream,
+};
+use std::num::NonZero;
+
+/// What a FLAC file says of all its frames (RFC 9639, section 8.2).
+///
+/// ```text
+///  0                   1                   2                   3
+///  0 1 2 3 4 5 6 7 8 9 0 1 2 3 4 5 6 7 8 9 0 1 2 3 4 5 6 7 8 9 0 1
+/// +-+-+-+-+-+-+-+-+-+-+-+-+-+-+-+-+-+-+-+-+-+-+-+-+-+-+-+-+-+-+-+-+
+/// |       minimum_block_size      |       maximum_block_size      |
+/// +-+-+-+-+-+-+-+-+-+-+-+-+-+-+-+-+-+-+-+-+-+-+-+-+-+-+-+-+-+-+-+-+
+/// |               minimum_frame_size              |               |
+/// +-+-+-+-+-+-+-+-+-+-+-+-+-+-+-+-+-+-+-+-+-+-+-+-+-+-+-+-+-+-+-+-+
+/// |       maximum_frame_size      |          sample_rate          |
+/// +-+-+-+-+-+-+-+-+-+-+-+-+-+-+-+-+-+-+-+-+-+-+-+-+-+-+-+-+-+-+-+-+
+/// |       |chann|bits_per_|             total_samples             |
+/// +-+-+-+-+-+-+-+-+-+-+-+-+-+-+-+-+-+-+-+-+-+-+-+-+-+-+-+-+-+-+-+-+
+/// |                               |                               |
+/// +-+-+-+-+-+-+-+-+-+-+-+-+-+-+-+-+-+-+-+-+-+-+-+-+-+-+-+-+-+-+-+-+
+/// |                       checksum (3 rows)                       |
+/// +-+-+-+-+-+-+-+-+-+-+-+-+-+-+-+-+-+-+-+-+-+-+-+-+-+-+-+-+-+-+-+-+
+/// |                               |
+/// +-+-+-+-+-+-+-+-+-+-+-+-+-+-+-+-+
+/// ```
+#[derive(Clone, Copy, Debug, PartialEq)]
+pub struct StreamInfo {
+    /// The fewest samples of a block, of each channel.
+    pub minimum_block_size: u16,
+    /// The most samples of a block, of each channel.
+    pub maximum_block_size: u16,
+    /// The bytes of the smallest frame, or 0 if they are not known. Below 2^24.
+    pub minimum_frame_size: u32,
+    /// The bytes of the largest frame, or 0 if they are not known. Below 2^24.
+    pub maximum_frame_size: u32,
+    /// Samples a second, of each channel. Below 2^20.
+    pub sample_rate: u32,
+    /// The number of channels. At most 2^3.
+    pub channels: NonZero<u8>,
+    /// The bits of a sample. At most 2^5.
+    pub bits_per_sample: NonZero<u8>,
+    /// The samples of the file, of each channel, or 0 if they are not known. Below 2^36.
+    pub total_samples: u64,
+    /// The MD5 of all samples, or zeros if it is not known.
+    pub checksum: [u8; 16],
+}
+
+impl StreamInfo {
+    /// Reads the fields in order.
+    ///
+    /// # Errors
+    ///
+    /// Those of the reader: after each of them it has failed.
+    pub fn read<R: BitRead>(reader: &mut R) -> Result<StreamInfo, Error>
+        ensures { Reads R.source (stream_info_entry R.source.order) reader.old result reader.new }
+    {
+        let minimum_block_size = reader.read::<Bits<16>, u16>()?;
+        let maximum_block_size = reader.read::<Bits<16>, u16>()?;
+        let minimum_frame_size = reader.read::<Bits<24>, u32>()?;
+        let maximum_frame_size = reader.read::<Bits<24>, u32>()?;
+        let sample_rate = reader.read::<Bits<20>, u32>()?;
+        let channels = reader.read::<Bits<3>, NonZero<u8>>()?;
+        let bits_per_sample = reader.read::<Bits<5>, NonZero<u8>>()?;
+        let total_samples = reader.read::<Bits<36>, u64>()?;
+        let checksum = reader.read_to_bytes::<[u8; 16]>()?;
+        Ok(StreamInfo {
+            minimum_block_size,
+            maximum_block_size,
+            minimum_frame_size,
+            maximum_frame_size,
+            sample_rate,
+            channels,
+            bits_per_sample,
+            total_samples,
+            checksum,
+        })
+    }
+
+    /// Returns what bytes begin with.
+    ///
+    /// # Errors
+    ///
+    /// `EndOfInput` for fewer than 34 bytes.
+    pub fn parse(packet: &[u8]) -> Result<StreamInfo, Error>
+        ensures answer { result ≡ sure_answer ((stream_info_entry High).reads 0 (bits High packet.now)) }
+        ensures there { 34 ≤ length packet.now
+            → result ≡ Ok (stream_info_at (bits High packet.now)) }
+        ensures short { length packet.now < 34 → result ≡ Err EndOfInput }
+        ensures back { (value : StreamInfo) (more : List Bool) → Fits value
+            → bits High packet.now ≡ stream_info_bits value ++ more → result ≡ Ok value }
+    {
+        stream_info_goes_back();
+        StreamInfo::read(&mut BitReader::<_, BE>::over(packet))
+    }
+
+    /// Writes the fields in order.
+    ///
+    /// # Errors
+    ///
+    /// `Checked` for a field that does not fit its bits. The fields before it are written then.
+    /// Else those of the sink.
+    pub fn write<W: BitWrite>(&self, writer: &mut W) -> Result<(), Error>
+        ensures { WritesAll W.sink (stream_info_writes W.sink.order self.now) writer.old result writer.new }
+    {
+        writer.write::<Bits<16>, u16>(self.minimum_block_size)?;
+        writer.write::<Bits<16>, u16>(self.maximum_block_size)?;
+        writer.write::<Bits<24>, u32>(self.minimum_frame_size)?;
+        writer.write::<Bits<24>, u32>(self.maximum_frame_size)?;
+        writer.write::<Bits<20>, u32>(self.sample_rate)?;
+        writer.write::<Bits<3>, NonZero<u8>>(self.channels)?;
+        writer.write::<Bits<5>, NonZero<u8>>(self.bits_per_sample)?;
+        writer.write::<Bits<36>, u64>(self.total_samples)?;
+        writer.write_bytes(&self.checksum)?;
+        Ok(())
+    }
+
+    /// Writes the fields to the first bytes of a buffer, and returns what was written. No write
+    /// fails if each field fits its bits and the buffer has 34 bytes. No memory is asked for.
+    ///
+    /// # Errors
+    ///
+    /// `Checked` for a field that does not fit its bits, or `Stream(WriteZero)` if the buffer is too
+    /// short.
+    pub fn pack_into<'a>(&self, buffer: &'a mut [u8]) -> Result<SliceMut<'a>, Error>
+        ensures packed { IfOk result (λ packed. bits High (written_bytes packed) ≡ stream_info_bits self.now) }
+        ensures room { Fits self.now → 34 ≤ length buffer.old → IsOk result }
+    {
+        let mut writer = BitWriter::<_, BE>::over(buffer);
+        self.write(&mut writer)?;
+        writer.byte_align()?;
+        Ok(writer.into_writer())
+    }
+}
+
+impl FromBitStream for StreamInfo {
+    type Error = Error;
+
+    ghost becomes = { same_error };
+
+    ghost reads = { λ o. plain_reads (stream_info_entry o) };
+
+    fn from_reader<R: BitRead>(reader: &mut R) -> Result<StreamInfo, Error> {
+        StreamInfo::read(reader)
+    }
+}
+
+impl ToBitStream for StreamInfo {
+    type Error = Error;
+
+    ghost becomes = { same_error };
+
+    ghost writes = { stream_info_writes };
+
+    fn to_writer<W: BitWrite>(&self, writer: &mut W) -> Result<(), Error> {
+        self.write(writer)
+    }
+}
+
+/// What fits its bits is read back as it was written, in either order of bits, wherever it stands.
+/// The read takes the bits that were written, and no more.
+pub fn stream_info_goes_back()
+    ensures { (o : Order) (value : StreamInfo) (at from : ℕ) (more : List Bool) → Fits value
+        → let written = write_run (stream_info_writes o value) at in
+        (stream_info_entry o).reads from (written ++ more) ≡ Takes (length written) (Ok value) }
+{}

@@ -1,0 +1,203 @@
+//! MPEG transport streams (ISO/IEC 13818-1): packets with their adaptation fields, and the headers of the
+//! PES packets that begin in them.
+
+use crate::at::At;
+use crate::element::{Element, Syntax};
+use bitstream_io::{BE, Error, SliceReader};
+
+/// The bytes of a packet.
+pub const PACKET: usize = 188;
+
+/// Why a packet is not read.
+#[derive(Debug, Drop, thiserror::Error)]
+pub enum TsError {
+    /// The bits were not read: what the packet says does not fit in it.
+    #[error("{0}")]
+    Reader(Error),
+    /// The packet does not begin with 0x47.
+    #[error("no sync byte of a transport packet")]
+    NoSync,
+}
+
+impl From<Error> for TsError {
+    fn from(error: Error) -> TsError {
+        TsError::Reader(error)
+    }
+}
+
+/// The packets of a stream.
+#[derive(Drop)]
+pub struct Packets<'a> {
+    reader: SliceReader<'a, BE>,
+}
+
+impl<'a> Packets<'a> {
+    /// Returns the packets of these bytes.
+    pub fn over(bytes: &'a [u8]) -> Packets<'a> {
+        Packets {
+            reader: SliceReader::over(bytes),
+        }
+    }
+
+    /// Returns the bytes of the packets that were not read yet.
+    pub fn rest(&self) -> &'a [u8] {
+        self.reader.rest()
+    }
+
+    /// Reads a packet, and appends its elements: those of its header, of its adaptation field, and of the
+    /// header of a PES packet that begins in it. Answers whether there was one.
+    ///
+    /// # Errors
+    ///
+    /// Those of [`TsError`]. The elements that were read before are appended.
+    pub fn next_packet(&mut self, elements: &mut Vec<Element>) -> Result<bool, At<TsError>> {
+        if self.reader.is_at_end() {
+            return Ok(false);
+        }
+        let start = self.reader.bits_read();
+        let mut packet = match self.reader.part(PACKET) {
+            Ok(packet) => packet,
+            Err(error) => return Err(At {
+                bit: start,
+                error: TsError::Reader(error),
+            }),
+        };
+        let mut syntax = Syntax {
+            reader: &mut packet,
+            elements,
+            index: None,
+            start,
+        };
+        match read_packet(&mut syntax) {
+            Ok(()) => Ok(true),
+            Err(error) => Err(At {
+                bit: start.saturating_add(packet.bits_read()),
+                error,
+            }),
+        }
+    }
+}
+
+type Packet<'r, 'a, 'b> = Syntax<'r, 'a, 'b, BE>;
+
+/// Reads a packet.
+fn read_packet(syntax: &mut Packet<'_, '_, '_>) -> Result<(), TsError> {
+    if syntax.number("sync_byte", 8)? != 0x47 {
+        return Err(TsError::NoSync);
+    }
+    syntax.flag("transport_error_indicator")?;
+    let starts = syntax.flag("payload_unit_start_indicator")?;
+    syntax.flag("transport_priority")?;
+    let id = syntax.number("PID", 13)?;
+    let scrambled = syntax.number("transport_scrambling_control", 2)?;
+    let control = syntax.number("adaptation_field_control", 2)?;
+    syntax.number("continuity_counter", 4)?;
+    if control >= 2 {
+        read_adaptation(syntax)?;
+    }
+    let has_payload = control % 2 == 1;
+    if starts && has_payload && scrambled == 0 && (0x20..0x1fff).contains(&id) {
+        read_pes(syntax)?;
+    }
+    Ok(())
+}
+
+/// Reads an adaptation field.
+fn read_adaptation(syntax: &mut Packet<'_, '_, '_>) -> Result<(), TsError> {
+    let length = syntax.number("adaptation_field_length", 8)? as usize;
+    let start = syntax.place();
+    let mut part = syntax.reader.part(length)?;
+    if length == 0 {
+        return Ok(());
+    }
+    let mut field = Syntax {
+        reader: &mut part,
+        elements: &mut *syntax.elements,
+        index: None,
+        start,
+    };
+    field.flag("discontinuity_indicator")?;
+    field.flag("random_access_indicator")?;
+    field.flag("elementary_stream_priority_indicator")?;
+    let has_pcr = field.flag("PCR_flag")?;
+    let has_opcr = field.flag("OPCR_flag")?;
+    let splices = field.flag("splicing_point_flag")?;
+    let has_private = field.flag("transport_private_data_flag")?;
+    field.flag("adaptation_field_extension_flag")?;
+    if has_pcr {
+        read_clock(&mut field, "program_clock_reference")?;
+    }
+    if has_opcr {
+        read_clock(&mut field, "original_program_clock_reference")?;
+    }
+    if splices {
+        field.number("splice_countdown", 8)?;
+    }
+    if has_private {
+        field.number("transport_private_data_length", 8)?;
+    }
+    Ok(())
+}
+
+/// Reads a clock: 33 bits in units of 300, and 9 bits, of 27 MHz.
+fn read_clock(field: &mut Packet<'_, '_, '_>, name: &'static str) -> Result<(), TsError> {
+    let place = field.place();
+    let base = field.bits(33)?;
+    field.bits(6)?;
+    let extension = field.bits(9)?;
+    field.note(place, name, (base * 300 + extension) as i64)?;
+    Ok(())
+}
+
+/// Whether the header of a PES packet of this stream has no more than its length.
+fn is_bare(id: u32) -> bool {
+    matches!(id, 0xbc | 0xbe | 0xbf | 0xf0 | 0xf1 | 0xf2 | 0xf8 | 0xff)
+}
+
+/// Reads the header of a PES packet, if one begins here and not a section of a table.
+fn read_pes(syntax: &mut Packet<'_, '_, '_>) -> Result<(), TsError> {
+    if !syntax.reader.rest().starts_with([0, 0, 1].as_slice()) {
+        return Ok(());
+    }
+    syntax.number("packet_start_code_prefix", 24)?;
+    let id = syntax.number("stream_id", 8)?;
+    syntax.number("PES_packet_length", 16)?;
+    if is_bare(id) {
+        return Ok(());
+    }
+    syntax.number("marker", 2)?;
+    syntax.number("PES_scrambling_control", 2)?;
+    syntax.flag("PES_priority")?;
+    syntax.flag("data_alignment_indicator")?;
+    syntax.flag("copyright")?;
+    syntax.flag("original_or_copy")?;
+    let stamps = syntax.number("PTS_DTS_flags", 2)?;
+    syntax.flag("ESCR_flag")?;
+    syntax.flag("ES_rate_flag")?;
+    syntax.flag("DSM_trick_mode_flag")?;
+    syntax.flag("additional_copy_info_flag")?;
+    syntax.flag("PES_CRC_flag")?;
+    syntax.flag("PES_extension_flag")?;
+    syntax.number("PES_header_data_length", 8)?;
+    if stamps >= 2 {
+        read_time_stamp(syntax, "PTS")?;
+    }
+    if stamps == 3 {
+        read_time_stamp(syntax, "DTS")?;
+    }
+    Ok(())
+}
+
+/// Reads a time stamp of 33 bits, in units of 90 kHz: three parts with a bit behind each.
+fn read_time_stamp(syntax: &mut Packet<'_, '_, '_>, name: &'static str) -> Result<(), TsError> {
+    let place = syntax.place();
+    syntax.bits(4)?;
+    let high = syntax.bits(3)?;
+    syntax.bits(1)?;
+    let middle = syntax.bits(15)?;
+    syntax.bits(1)?;
+    let low = syntax.bits(15)?;
+    syntax.bits(1)?;
+    syntax.note(place, name, ((high << 30) + (middle << 15) + low) as i64)?;
+    Ok(())
+}
