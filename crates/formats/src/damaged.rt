@@ -1,0 +1,61 @@
+//! Damaged copies of a file.
+
+use crate::command::Command;
+use crate::rows::written;
+use anyhow::Error;
+use std::alloc::{AllocError, Global};
+use std::fs;
+
+/// How often an error came.
+#[derive(Drop)]
+struct Count {
+    text: String,
+    times: u64,
+}
+
+/// Counts an error, by its text behind its place.
+fn add(alloc: Global, counts: &mut Vec<Count>, text: &str) -> Result<(), AllocError> {
+    let what = match text.split_once(": ") {
+        Some((_, what)) => what,
+        None => text,
+    };
+    for count in counts.as_mut_slice() {
+        if count.text.as_str() == what {
+            count.times = count.times.saturating_add(1);
+            return Ok(());
+        }
+    }
+    counts.push(Count {
+        text: String::from_str(alloc, what)?,
+        times: 1,
+    })?;
+    Ok(())
+}
+
+/// Turns the bits of each byte of a file in turn, and counts the answers and the errors.
+pub fn play_damaged(rt: &HostRuntime, command: Command, path: &str) -> Result<(), Error> {
+    let alloc = rt.alloc();
+    let mut file = fs::read(rt, path)?;
+    let mut answers = 0u64;
+    let mut counts = Vec::new(alloc);
+    for at in 0..file.len() {
+        turn(file.as_mut_slice(), at);
+        match written(alloc, command, file.as_slice()) {
+            Ok(_) => answers = answers.saturating_add(1),
+            Err(error) => add(alloc, &mut counts, format!(in alloc; "{error}")?.as_str())?,
+        }
+        turn(file.as_mut_slice(), at);
+    }
+    println!(rt; "{path}: {} damaged copies, {answers} answers", file.len())?;
+    for count in counts.as_slice() {
+        println!(rt; "{path}: {} times: {}", count.times, count.text.as_str())?;
+    }
+    Ok(())
+}
+
+/// Turns the bits of a byte.
+fn turn(bytes: &mut [u8], at: usize) {
+    if let Some(byte) = bytes.get_mut(at) {
+        *byte = !*byte;
+    }
+}
