@@ -3,7 +3,7 @@ use Rattle.bitstream_formats.specs.declared.stream_info.StreamInfo.{StreamInfo}
 use Rattle.std.specs.Prelude.{◌≡◌, ◌^◌, ◌<◌, ◌-◌, ◌++◌, ◌∷◌, [], ℕ, Bool, List, length, take, drop}
 use Rattle.std.specs.List.{All}
 use Rattle.std.specs.Int.NonZero.{non_zero_u8_get}
-use Rattle.bitstream_io.specs.Callers.{◌>>=◌, ReadEntry, WriteEntry, gives, Order, High, bits, number, unsigned_entry, bytes_entry, bytes_of, unsigned, buffer, align, non_zero, write_run, non_zero_u8, non_zero_u8_entry}
+use Rattle.bitstream_io.specs.Callers.{◌>>=◌, ReadEntry, WriteEntry, gives, Order, High, number, unsigned_entry, bytes_entry, bytes_of, unsigned, buffer, align, non_zero, write_run, non_zero_u8, non_zero_u8_entry}
 
 -- Made by `./format` from formats/stream_info.fields: edit that file and make this one anew.
 

@@ -55,7 +55,7 @@ pub struct AdtsHeader {
     pub blocks: u8,
 }
 
-/// Why a `AdtsHeader` is not read.
+/// Why an `AdtsHeader` is not read.
 #[derive(Debug, Drop)]
 pub enum AdtsHeaderError {
     /// An error of the reader.
@@ -79,7 +79,8 @@ impl AdtsHeader {
     ///
     /// # Errors
     ///
-    /// `NoSync`, `UnknownLayer`, behind the bits that say so. Else those of the reader: after each of them it has failed.
+    /// `NoSync`, `UnknownLayer`, behind the bits that say so.
+    /// Else those of the reader: after each of them it has failed.
     pub fn read<R: BitRead>(reader: &mut R) -> Result<AdtsHeader, AdtsHeaderError>
         ensures { ReadsOwn R.source becomes_adts_header (adts_header_entry R.source.order) reader.old result reader.new }
     {
@@ -211,9 +212,11 @@ impl ToBitStream for AdtsHeader {
 }
 
 /// What fits its bits is read back as it was written, in either order of bits, wherever it stands.
-/// The read takes the bits that were written, and no more.
+/// The read takes the bits that were written, and no more: 56 bits.
 pub fn adts_header_goes_back()
-    ensures { (o : Order) (value : AdtsHeader) (at from : ℕ) (more : List Bool) → Fits value
+    ensures back { (o : Order) (value : AdtsHeader) (at from : ℕ) (more : List Bool) → Fits value
         → let written = write_run (adts_header_writes o value) at in
         (adts_header_entry o).reads from (written ++ more) ≡ Takes (length written) (Ok (Ok value)) }
+    ensures size { (o : Order) (value : AdtsHeader) (at : ℕ) → Fits value
+        → length (write_run (adts_header_writes o value) at) ≡ 56 }
 {}

@@ -168,9 +168,11 @@ impl ToBitStream for StreamInfo {
 }
 
 /// What fits its bits is read back as it was written, in either order of bits, wherever it stands.
-/// The read takes the bits that were written, and no more.
+/// The read takes the bits that were written, and no more: 272 bits.
 pub fn stream_info_goes_back()
-    ensures { (o : Order) (value : StreamInfo) (at from : ℕ) (more : List Bool) → Fits value
+    ensures back { (o : Order) (value : StreamInfo) (at from : ℕ) (more : List Bool) → Fits value
         → let written = write_run (stream_info_writes o value) at in
         (stream_info_entry o).reads from (written ++ more) ≡ Takes (length written) (Ok value) }
+    ensures size { (o : Order) (value : StreamInfo) (at : ℕ) → Fits value
+        → length (write_run (stream_info_writes o value) at) ≡ 272 }
 {}

@@ -1,6 +1,6 @@
 use Rattle.bitstream_formats.specs.AdtsHeader.{adts_header_writes}
 use Rattle.bitstream_formats.proofs.AdtsHeaderLemmas.{adts_header_packs, told}
-use Rattle.std.proofs.Common.{◌-◌, ◌∙◌, refl, arith, rules}
+use Rattle.std.proofs.Common.{◌∙◌, refl, arith, rules}
 use Rattle.bitstream_io.proofs.CallerLemmas.{packed_stream, calls_with_room, align_with_room, packs-room}
 use Rattle.bitstream_io.specs.Callers.{High}
 use Rattle.bitstream_formats.proofs.adts_header.AdtsHeader.pack_into.Goals as goal

@@ -68,4 +68,4 @@ pub returns-clause-back : goal.returns-clause-back
 returns-clause-back c = λ value more fits is.
     own_front_answered slice_ends c.over.ensures.state refl c.read.ensures (ap ((adts_header_entry High).reads 0) (is ∙
     ap (λ w. w ++ more) (sym (told value) ∙ packs-whole (adts_header_packs High value fits) refl)) ∙
-    c.adts_header_goes_back.ensures High value 0 0 more fits)
+    c.adts_header_goes_back.ensures.back High value 0 0 more fits)

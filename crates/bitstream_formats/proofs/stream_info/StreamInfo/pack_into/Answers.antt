@@ -1,6 +1,6 @@
 use Rattle.bitstream_formats.specs.StreamInfo.{stream_info_writes}
 use Rattle.bitstream_formats.proofs.StreamInfoLemmas.{stream_info_packs, told}
-use Rattle.std.proofs.Common.{◌-◌, ◌∙◌, refl, arith, rules}
+use Rattle.std.proofs.Common.{◌∙◌, refl, arith, rules}
 use Rattle.bitstream_io.proofs.CallerLemmas.{packed_stream, calls_with_room, align_with_room, packs-room}
 use Rattle.bitstream_io.specs.Callers.{High}
 use Rattle.bitstream_formats.proofs.stream_info.StreamInfo.pack_into.Goals as goal

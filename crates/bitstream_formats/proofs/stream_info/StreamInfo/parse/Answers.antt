@@ -2,6 +2,7 @@ use Rattle.bitstream_formats.specs.StreamInfo.{stream_info_entry, stream_info_at
 use Rattle.bitstream_formats.proofs.StreamInfoLemmas.{stream_info_packs, told}
 use Rattle.std.proofs.Common.{◌++◌, ◌∙◌, ℕ, List, Ok, refl, ap, sym, arith}
 use Rattle.bitstream_io.proofs.CallerLemmas.{Finds, fields_there, fields_short, front_answered, slice_ends, unsigned-finds, bytes-finds, non_zero-finds, gives-finds, packs-whole}
+use Rattle.bitstream_io.proofs.SliceLemmas.{new_answer}
 use Rattle.bitstream_io.specs.Callers.{High, bits, non_zero_u8}
 use Rattle.bitstream_formats.proofs.stream_info.StreamInfo.parse.Goals as goal
 
@@ -12,6 +13,9 @@ found packet = unsigned-finds _ _ 16 272 _ High 16 _ refl refl (unsigned-finds _
     _ 20 192 _ High 32 _ refl refl (non_zero-finds _ _ 3 172 _ non_zero_u8 High 8 _ refl refl (non_zero-finds _ _ 5 169
     _ non_zero_u8 High 8 _ refl refl (unsigned-finds _ _ 36 164 _ High 64 _ refl refl (bytes-finds _ _ 128 _ 16 High _
     refl (gives-finds _ _ _)))))))))
+
+pub returns-clause-answer : goal.returns-clause-answer
+returns-clause-answer c = new_answer slice_ends _ _ c.over.ensures.state c.read.ensures
 
 pub returns-clause-there : goal.returns-clause-there
 returns-clause-there c = λ enough. fields_there slice_ends c.over.ensures.state refl c.read.ensures (found _) (omega
@@ -24,4 +28,4 @@ pub returns-clause-back : goal.returns-clause-back
 returns-clause-back c = λ value more fits is.
     front_answered slice_ends c.over.ensures.state refl c.read.ensures (ap ((stream_info_entry High).reads 0) (is ∙ ap
     (λ w. w ++ more) (sym (told value) ∙ packs-whole (stream_info_packs High value fits) refl)) ∙
-    c.stream_info_goes_back.ensures High value 0 0 more fits)
+    c.stream_info_goes_back.ensures.back High value 0 0 more fits)
