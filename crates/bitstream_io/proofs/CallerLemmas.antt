@@ -373,25 +373,6 @@ module _ {S E : Type 0} (K : Sink S) (becomes : Error → E → Type 0) (es : Li
   exit_own_signed o size n w x error k h fits =
       exit_own_write (signed o size n x) error k (signed_value K o size n w x s t (Err error) h fits)
 
--- the same among reads that ask for memory: a number of a signed type, and a constant
-pub next_grown_signed : {R B E : Type 0} {K : BitSource R} {becomes : Error → E → Type 0} {e : ReadEntry ℤ}
-    (f : ℤ → ReadEntry (Result B E)) (w : Width) {r : Result B E} {s t z : R} {x : ℤ} → Reads K e s (Ok x) t → SFits w x
-    → GrowsOwn K becomes (f (to_z w (of_z w x))) t r z → GrowsOwn K becomes (chain e f) s r z
-next_grown_signed {K = K} {becomes = becomes} f w {r = r} {t = t} {z = z} {x = x} h fits k =
-    go_grown f (grown h) (subst (λ y. GrowsOwn K becomes (f y) t r z) (to_z-of_z w x fits) k)
-
-module _ {R B E : Type 0} {K : BitSource R} {becomes : Error → E → Type 0} {e : ReadEntry Bool}
-    (f : Bool → ReadEntry (Result B E)) (err : E) {r : Result B E} {s t : R} where
-  grown_const_goes : {z : R} (plain : Result Bool Error) → Reads K e s plain t → ConstAnswer becomes err plain (Ok tt)
-      → GrowsOwn K becomes (f true) t r z → GrowsOwn K becomes (chain e f) s r z
-  grown_const_goes (Ok true) h is k = go_grown f (grown h) k
-  grown_const_goes (Ok false) h is k = cc
-  grown_const_goes (Err x) h is k = absurd is
-
-  pub next_grown_const : {z : R} → ReadsConst K becomes e err s (Ok tt) t → GrowsOwn K becomes (f true) t r z
-      → GrowsOwn K becomes (chain e f) s r z
-  next_grown_const h k = grown_const_goes h.plain h.reads h.answer k
-
 -- constants and branches, to be named beside `reads`, `few_reads`, `own_reads` or `few_own_reads`
 pub ruleset constants = (
   next_const,
