@@ -28,13 +28,12 @@ impl Frame {
     ///
     /// Memory was refused.
     pub fn append_pcm(&self, bytes: &mut Vec<u8>) -> Result<(), AllocError> {
-        let width = (self.bits_per_sample as usize).div_ceil(8);
+        let width = (self.bits_per_sample as usize).div_ceil(8).min(8);
         for at in 0..self.header.block_size as usize {
             for channel in &self.channels {
                 let sample = channel.as_slice().get(at).copied().unwrap_or(0);
-                for byte in sample.to_le_bytes().into_iter().take(width) {
-                    bytes.push(byte)?;
-                }
+                let whole = sample.to_le_bytes();
+                bytes.extend_from_slice(&whole[..width])?;
             }
         }
         Ok(())
