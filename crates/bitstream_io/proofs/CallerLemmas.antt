@@ -21,18 +21,18 @@ use Rattle.bitstream_count.specs.declared.error.Error.TheVariants.{EndOfInput, F
 use Rattle.bitstream_count.specs.Entry.{ReadEntry, WriteEntry, Takes, chain, gives, refuses}
 use Rattle.bitstream_number.specs.Word.{FitsSignedBits, bytes_of, signed_number, word}
 use Rattle.bitstream_number.proofs.WordLemmas.{length-bits}
-use Rattle.bitstream_order.specs.Gather.{seen}
+use Rattle.bitstream_order.specs.Moving.Gather.{seen}
 use Rattle.bitstream_order.specs.Refusal.{TrueEnds}
-use Rattle.bitstream_stream.specs.ReadTable.{bytes_entry, const_entry, unary_entry, skip_entry}
-use Rattle.bitstream_stream.specs.Reader.{new_reader_state}
-use Rattle.bitstream_stream.specs.Reads.{BitSource, ReaderState, Reads, ReadOutcome, ReadsConst, ConstAnswer, is_run_too_long, sure_answer}
-use Rattle.bitstream_stream.specs.Sink.{Sink, Writes, WritesAll}
-use Rattle.bitstream_stream.specs.WriteTable.{plain, signed, unsigned}
-use Rattle.bitstream_stream.proofs.EntryLemmas.{map_takes}
-use Rattle.bitstream_stream.proofs.ReadsLemmas.{Reads-chain-err, Reads-nothing, ok_front, seen_err}
-use Rattle.bitstream_stream.proofs.SliceLemmas.{new_answer}
-use Rattle.bitstream_stream.proofs.TableLemmas.{unsigned-on_failed}
-use Rattle.bitstream_stream.proofs.WriteParts.{all_none, all_append, all_err, all_one, all_stop, one_of_all, flat_map-take, flat_map-split}
+use Rattle.bitstream_stream.specs.Reading.ReadTable.{bytes_entry, const_entry, unary_entry, skip_entry}
+use Rattle.bitstream_stream.specs.Reading.Reader.{new_reader_state}
+use Rattle.bitstream_stream.specs.Reading.Reads.{BitSource, ReaderState, Reads, ReadOutcome, ReadsConst, ConstAnswer, is_run_too_long, sure_answer}
+use Rattle.bitstream_stream.specs.Writing.Sink.{Sink, Writes, WritesAll}
+use Rattle.bitstream_stream.specs.Writing.WriteTable.{plain, signed, unsigned}
+use Rattle.bitstream_stream.proofs.Reading.EntryLemmas.{map_takes}
+use Rattle.bitstream_stream.proofs.Reading.ReadsLemmas.{Reads-chain-err, Reads-nothing, ok_front, seen_err}
+use Rattle.bitstream_stream.proofs.Reading.SliceLemmas.{new_answer}
+use Rattle.bitstream_stream.proofs.Reading.TableLemmas.{unsigned-on_failed}
+use Rattle.bitstream_stream.proofs.Writing.WriteParts.{all_none, all_append, all_err, all_one, all_stop, one_of_all, flat_map-take, flat_map-split}
 use Rattle.bitstream_value.specs.Array.{items_entry, words}
 use Rattle.bitstream_value.specs.Grows.{GrowsOwn}
 use Rattle.bitstream_value.specs.Own.{OwnAnswer, ReadsOwn, WritesOwn, part_then, same_error}
@@ -55,13 +55,13 @@ pub use Rattle.std.proofs.Common.{◌≡◌, ◌∙◌, ℕ, ◌+◌, ◌-◌, �
 pub use Rattle.std.proofs.lemmas.Nat.{one_shl}
 pub use Rattle.bitstream_number.specs.Word.{Order, High, Low, bits, number}
 -- the reader that `over` makes is refused only at a true end (`SliceEnds` has the same of a reader over a `Slice`)
-pub use Rattle.bitstream_stream.proofs.MemoryLemmas.{memory_ends as slice_ends}
-pub use Rattle.bitstream_stream.specs.ReadTable.{unsigned_entry, signed_entry}
-pub use Rattle.bitstream_stream.proofs.ReadsLemmas.{Reads-chain-ok, Reads-gives, exit}
+pub use Rattle.bitstream_stream.proofs.Reading.MemoryLemmas.{memory_ends as slice_ends}
+pub use Rattle.bitstream_stream.specs.Reading.ReadTable.{unsigned_entry, signed_entry}
+pub use Rattle.bitstream_stream.proofs.Reading.ReadsLemmas.{Reads-chain-ok, Reads-gives, exit}
 -- the calls of a new writer to bytes in memory with room for their bits, and an alignment behind them, answer `Ok`
-pub use Rattle.bitstream_stream.proofs.RoomLemmas.{calls_with_room, align_with_room}
+pub use Rattle.bitstream_stream.proofs.Writing.RoomLemmas.{calls_with_room, align_with_room}
 -- a number that a read of n bits answered is below 2^n
-pub use Rattle.bitstream_stream.proofs.SignedLemmas.{unsigned-below as below}
+pub use Rattle.bitstream_stream.proofs.Reading.SignedLemmas.{unsigned-below as below}
 pub use Rattle.bitstream_value.proofs.BackLemmas.{GoesBack, goes_back, bit-back, gives-back, signed-back, unsigned-back}
 -- parts of which it is not known whether they ask for memory
 pub use Rattle.bitstream_value.proofs.GenericLemmas.{weaker, part_go_if, part_stop_if, end_if}

@@ -13,11 +13,11 @@ use Rattle.bitstream_number.proofs.WordLemmas.{length-word, number-word, count_f
 use Rattle.bitstream_count.specs.Entry.{ReadEntry, WriteEntry, chain, gives}
 use Rattle.bitstream_count.specs.Vbr.{vbr_word}
 use Rattle.bitstream_count.specs.Unary.{unary}
-use Rattle.bitstream_stream.specs.ReadTable.{bit_entry, unsigned_entry, signed_entry, const_entry, unary_entry, count_entry, groups_entry, vbr_entry, any_vbr_entry, signed_groups_entry, signed_vbr_entry, any_signed_vbr_entry, bytes_entry, skip_entry}
+use Rattle.bitstream_stream.specs.Reading.ReadTable.{bit_entry, unsigned_entry, signed_entry, const_entry, unary_entry, count_entry, groups_entry, vbr_entry, any_vbr_entry, signed_groups_entry, signed_vbr_entry, any_signed_vbr_entry, bytes_entry, skip_entry}
 use Rattle.bitstream_stream.specs.Run.{write_run}
-use Rattle.bitstream_stream.specs.WriteTable.{plain, bit, unsigned, signed, unary_word, count, vbr, signed_vbr, buffer, zeros}
-use Rattle.bitstream_stream.proofs.ReadsLemmas.{chain_decides}
-use Rattle.bitstream_stream.proofs.WriteLemmas.{unsigned-const, unsigned-fits, signed-accepts}
+use Rattle.bitstream_stream.specs.Writing.WriteTable.{plain, bit, unsigned, signed, unary_word, count, vbr, signed_vbr, buffer, zeros}
+use Rattle.bitstream_stream.proofs.Reading.ReadsLemmas.{chain_decides}
+use Rattle.bitstream_stream.proofs.Writing.WriteLemmas.{unsigned-const, unsigned-fits, signed-accepts}
 use Rattle.bitstream_value.specs.Array.{items_entry}
 use Rattle.bitstream_value.specs.Boolean.{truth_entry, truth}
 use Rattle.bitstream_value.specs.Checked.{checked_entry, signed_checked_entry}

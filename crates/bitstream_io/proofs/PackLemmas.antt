@@ -12,10 +12,10 @@ use Rattle.bitstream_count.specs.Entry.{WriteEntry}
 use Rattle.bitstream_count.specs.Unary.{unary}
 use Rattle.bitstream_count.specs.Vbr.{vbr_word}
 use Rattle.bitstream_stream.specs.Alignment.{to_boundary}
-use Rattle.bitstream_stream.specs.Room.{AllAccepted}
+use Rattle.bitstream_stream.specs.Writing.Room.{AllAccepted}
 use Rattle.bitstream_stream.specs.Run.{accepted, write_run}
-use Rattle.bitstream_stream.specs.WriteTable.{align, bit, buffer, plain, signed, unary_word, unsigned, vbr, zeros}
-use Rattle.bitstream_stream.proofs.WriteLemmas.{signed-accepts, unsigned-fits}
+use Rattle.bitstream_stream.specs.Writing.WriteTable.{align, bit, buffer, plain, signed, unary_word, unsigned, vbr, zeros}
+use Rattle.bitstream_stream.proofs.Writing.WriteLemmas.{signed-accepts, unsigned-fits}
 use Rattle.bitstream_value.specs.NonZero.{non_zero}
 use Rattle.bitstream_io.specs.Loop.{parts_size}
 use Rattle.bitstream_io.proofs.RunLemmas.{write_run-append}

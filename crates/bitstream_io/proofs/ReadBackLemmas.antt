@@ -23,11 +23,11 @@ use Rattle.bitstream_count.proofs.VbrLemmas.{vbr_word_accepted, read_vbr-IsAccep
 use Rattle.bitstream_order.specs.Fault.{read_refusal_of}
 use Rattle.bitstream_order.specs.Refusal.{TrueEnds}
 use Rattle.bitstream_stream.specs.Alignment.{to_boundary}
-use Rattle.bitstream_stream.specs.Reads.{BitSource}
-use Rattle.bitstream_stream.specs.ReadTable.{first_bit, bit_entry, unsigned_entry, signed_entry, unary_entry, groups_entry, vbr_entry, signed_groups_entry, signed_vbr_entry, bytes_entry, skip_entry, align_entry}
+use Rattle.bitstream_stream.specs.Reading.Reads.{BitSource}
+use Rattle.bitstream_stream.specs.Reading.ReadTable.{first_bit, bit_entry, unsigned_entry, signed_entry, unary_entry, groups_entry, vbr_entry, signed_groups_entry, signed_vbr_entry, bytes_entry, skip_entry, align_entry}
 use Rattle.bitstream_stream.specs.Run.{accepted, write_run, answer_and, read_run}
-use Rattle.bitstream_stream.specs.WriteTable.{unsigned, signed, fits_signed}
-use Rattle.bitstream_stream.proofs.EntryLemmas.{word_front-some, chain-ok}
+use Rattle.bitstream_stream.specs.Writing.WriteTable.{unsigned, signed, fits_signed}
+use Rattle.bitstream_stream.proofs.Reading.EntryLemmas.{word_front-some, chain-ok}
 use Rattle.bitstream_value.proofs.BackLemmas.{signed-word}
 use Rattle.bitstream_value.proofs.SureLemmas.{unsigned-word}
 use Rattle.bitstream_io.proofs.ReadScriptLemmas.{free_call}

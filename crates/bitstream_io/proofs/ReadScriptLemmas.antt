@@ -9,11 +9,11 @@ use Rattle.bitstream_count.specs.declared.error.Error.TheVariants.{RunTooLong}
 use Rattle.bitstream_number.specs.Word.{bits}
 use Rattle.bitstream_number.proofs.WordLemmas.{bits-append}
 use Rattle.bitstream_order.specs.Fault.{read_refusal_of}
-use Rattle.bitstream_order.specs.Gather.{seen}
+use Rattle.bitstream_order.specs.Moving.Gather.{seen}
 use Rattle.bitstream_order.specs.Refusal.{Refusal, TrueEnds}
-use Rattle.bitstream_stream.specs.Reads.{ReaderState, BitSource, HadFailed, ReadDone, ReadRefused, MemoryRefused, ReadOutcome, had_failed, was_done, was_refused, memory_refused, is_run_too_long}
+use Rattle.bitstream_stream.specs.Reading.Reads.{ReaderState, BitSource, HadFailed, ReadDone, ReadRefused, MemoryRefused, ReadOutcome, had_failed, was_done, was_refused, memory_refused, is_run_too_long}
 use Rattle.bitstream_stream.specs.Run.{answer_and, read_run}
-use Rattle.bitstream_stream.proofs.ReadsLemmas.{Consumes-known, Reads-chain-ok, Reads-gives, exit}
+use Rattle.bitstream_stream.proofs.Reading.ReadsLemmas.{Consumes-known, Reads-chain-ok, Reads-gives, exit}
 use Rattle.bitstream_io.specs.ReadScript.{answered, read_entry, asks_memory, read_entries, ReadsEach, run_answers, place_behind, failed_answers, ReadsRun, sure_answers, AsksNoMemory}
 use Rattle.bitstream_io.specs.ReadScript as lists
 use Rattle.bitstream_io.specs.declared.script.answers.Answer.{Answer}

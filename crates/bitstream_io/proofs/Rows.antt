@@ -5,9 +5,9 @@ use Rattle.bitstream_number.specs.Word.{Order, High, FitsSignedBits, bits, digit
 use Rattle.bitstream_count.specs.Entry.{chain, gives}
 use Rattle.bitstream_count.specs.Vbr.{groups_at}
 use Rattle.bitstream_count.specs.declared.error.Error.TheVariants.{RedundantGroup}
-use Rattle.bitstream_stream.specs.ReadTable.{unsigned_entry, unary_entry, groups_entry, vbr_entry, signed_vbr_entry, bytes_entry, skip_entry, align_entry}
+use Rattle.bitstream_stream.specs.Reading.ReadTable.{unsigned_entry, unary_entry, groups_entry, vbr_entry, signed_vbr_entry, bytes_entry, skip_entry, align_entry}
 use Rattle.bitstream_stream.specs.Run.{write_run, read_run}
-use Rattle.bitstream_stream.specs.WriteTable.{unsigned, unary_word, vbr, signed_vbr, buffer, zeros}
+use Rattle.bitstream_stream.specs.Writing.WriteTable.{unsigned, unary_word, vbr, signed_vbr, buffer, zeros}
 use Rattle.bitstream_value.proofs.BackLemmas.{GoesBack}
 use Rattle.bitstream_io.proofs.CallsBack.{calls_go_back}
 use Rattle.bitstream_io.specs.ReadBack.{accepted_calls, matching_reads, answers_of}

@@ -7,9 +7,9 @@ use Rattle.bitstream_count.specs.Entry.{WriteEntry}
 use Rattle.bitstream_count.specs.declared.error.Error.{Error}
 use Rattle.bitstream_count.specs.declared.error.Error.TheVariants.{Failed, CounterOverflow}
 use Rattle.bitstream_stream.specs.Run.{accepted, refusal_if_any, write_run, write_refusals}
-use Rattle.bitstream_stream.specs.Sink.{Sink, Writes, WritesAll, Appended, Kept, IsWithin, IsPastLimit, had_failed, was_rejected, past_limit, was_refused, was_done}
-use Rattle.bitstream_stream.proofs.SinkLemmas.{kept}
-use Rattle.bitstream_stream.proofs.SinkParts.{appended_none, appended_more}
+use Rattle.bitstream_stream.specs.Writing.Sink.{Sink, Writes, WritesAll, Appended, Kept, IsWithin, IsPastLimit, had_failed, was_rejected, past_limit, was_refused, was_done}
+use Rattle.bitstream_stream.proofs.Writing.SinkLemmas.{kept}
+use Rattle.bitstream_stream.proofs.Writing.SinkParts.{appended_none, appended_more}
 use Rattle.bitstream_value.proofs.WriteSteps.{run_appended}
 use Rattle.bitstream_io.specs.Script.{within_limit, limited, WritesRun}
 use Rattle.bitstream_io.specs.Script as script

@@ -11,9 +11,9 @@ use Rattle.bitstream_count.proofs.VbrLemmas.{length-vbr_word}
 use Rattle.bitstream_count.specs.declared.error.Error.{Error}
 use Rattle.bitstream_stream.specs.Alignment.{to_boundary}
 use Rattle.bitstream_stream.specs.Run.{accepted, refusal_if_any, write_run, write_refusals}
-use Rattle.bitstream_stream.specs.Sink.{Sink, Writes, IsWithin}
-use Rattle.bitstream_stream.specs.WriteTable.{unsigned, signed, fits_signed}
-use Rattle.bitstream_stream.proofs.SinkLemmas.{within_less}
+use Rattle.bitstream_stream.specs.Writing.Sink.{Sink, Writes, IsWithin}
+use Rattle.bitstream_stream.specs.Writing.WriteTable.{unsigned, signed, fits_signed}
+use Rattle.bitstream_stream.proofs.Writing.SinkLemmas.{within_less}
 use Rattle.bitstream_io.specs.Script.{write_entry, word_size, within_limit, limited, write_entries, AlignsNowhere, WritesRun, Counts, had_failed, was_refused, was_done}
 use Rattle.bitstream_io.specs.declared.script.write_call.WriteCall.{WriteCall}
 use Rattle.bitstream_io.specs.declared.script.write_call.WriteCall.TheVariants.{Bit, U8, U16, U32, U64, U128, I8, I16, I32, I64, I128, Unary0, Unary1, Vbr4, Vbr8, SignedVbr4, SignedVbr8, Bytes, Pad, Align}

@@ -3,13 +3,13 @@ pub use Rattle.bitstream_number.specs.Word.{Order, High, Low, bits, bytes, bytes
 pub use Rattle.bitstream_count.specs.Entry.{ReadEntry, WriteEntry, Takes, chain, gives, refuses}
 pub use Rattle.bitstream_count.specs.declared.error.Error.{Error}
 pub use Rattle.bitstream_count.specs.declared.error.Error.TheVariants.{EndOfInput, Failed, OutOfMemory, Stream, VariableWidthOverflow}
-pub use Rattle.bitstream_order.specs.Gather.{seen}
-pub use Rattle.bitstream_stream.specs.ReadTable.{first_bit, bit_entry, unsigned_entry, signed_entry, const_entry, unary_entry, count_entry, align_entry, bytes_entry, skip_entry, whole_bytes_entry, vbr_entry, any_vbr_entry, signed_vbr_entry, any_signed_vbr_entry}
-pub use Rattle.bitstream_stream.specs.WriteTable.{plain, bit, unsigned, signed, unary_word, count, align, buffer, zeros, vbr, signed_vbr}
-pub use Rattle.bitstream_stream.specs.MemorySource.{memory_source}
-pub use Rattle.bitstream_stream.specs.Reads.{BitSource, Reads, sure_answer}
-pub use Rattle.bitstream_stream.specs.Sink.{Sink, WritesAll}
-pub use Rattle.bitstream_stream.specs.Room.{AllAccepted}
+pub use Rattle.bitstream_order.specs.Moving.Gather.{seen}
+pub use Rattle.bitstream_stream.specs.Reading.ReadTable.{first_bit, bit_entry, unsigned_entry, signed_entry, const_entry, unary_entry, count_entry, align_entry, bytes_entry, skip_entry, whole_bytes_entry, vbr_entry, any_vbr_entry, signed_vbr_entry, any_signed_vbr_entry}
+pub use Rattle.bitstream_stream.specs.Writing.WriteTable.{plain, bit, unsigned, signed, unary_word, count, align, buffer, zeros, vbr, signed_vbr}
+pub use Rattle.bitstream_stream.specs.Reading.MemorySource.{memory_source}
+pub use Rattle.bitstream_stream.specs.Reading.Reads.{BitSource, Reads, sure_answer}
+pub use Rattle.bitstream_stream.specs.Writing.Sink.{Sink, WritesAll}
+pub use Rattle.bitstream_stream.specs.Writing.Room.{AllAccepted}
 pub use Rattle.bitstream_stream.specs.Run.{write_run}
 pub use Rattle.bitstream_value.specs.Array.{items_entry, words}
 pub use Rattle.bitstream_value.specs.Boolean.{truth_entry, truth}

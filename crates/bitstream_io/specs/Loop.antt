@@ -1,8 +1,8 @@
 -- Items that a loop reads or writes: what its invariant says.
 use Rattle.std.specs.Prelude.{ℕ, ◌+◌, List, [], ◌∷◌, take, flat_map, Ok}
 use Rattle.bitstream_count.specs.Entry.{ReadEntry, WriteEntry}
-use Rattle.bitstream_stream.specs.Reads.{BitSource, Reads}
-use Rattle.bitstream_stream.specs.Sink.{Sink, WritesAll}
+use Rattle.bitstream_stream.specs.Reading.Reads.{BitSource, Reads}
+use Rattle.bitstream_stream.specs.Writing.Sink.{Sink, WritesAll}
 use Rattle.bitstream_value.specs.Array.{items_entry}
 
 -- so many items were read, and these are they

@@ -7,7 +7,7 @@ use Rattle.bitstream_count.specs.declared.error.Error.{Error}
 use Rattle.bitstream_count.specs.declared.error.Error.TheVariants.{OutOfMemory}
 use Rattle.bitstream_order.specs.Fault.{read_refusal_of}
 use Rattle.bitstream_order.specs.Refusal.{Refusal, IsTrueEnd}
-use Rattle.bitstream_stream.specs.Reads.{BitSource}
+use Rattle.bitstream_stream.specs.Reading.Reads.{BitSource}
 use Rattle.bitstream_stream.specs.Run.{accepted, write_run}
 use Rattle.bitstream_io.specs.declared.script.answers.Answer.{Answer}
 use Rattle.bitstream_io.specs.declared.script.answers.Answer.TheVariants as answer

@@ -6,8 +6,8 @@ use Rattle.bitstream_count.specs.declared.error.Error.{Error}
 use Rattle.bitstream_count.specs.declared.error.Error.TheVariants.{RunTooLong, OutOfMemory, EndOfInput}
 use Rattle.bitstream_order.specs.Fault.{read_refusal_of}
 use Rattle.bitstream_order.specs.Refusal.{Refusal, IsTrueEnd}
-use Rattle.bitstream_stream.specs.Reads.{BitSource, ReadOutcome, is_run_too_long}
-use Rattle.bitstream_stream.specs.ReadTable.{bit_entry, unsigned_entry, signed_entry, unary_entry, vbr_entry, any_vbr_entry, signed_vbr_entry, bytes_entry, skip_entry, align_entry}
+use Rattle.bitstream_stream.specs.Reading.Reads.{BitSource, ReadOutcome, is_run_too_long}
+use Rattle.bitstream_stream.specs.Reading.ReadTable.{bit_entry, unsigned_entry, signed_entry, unary_entry, vbr_entry, any_vbr_entry, signed_vbr_entry, bytes_entry, skip_entry, align_entry}
 use Rattle.bitstream_stream.specs.Run.{read_run}
 use Rattle.bitstream_io.specs.declared.script.answers.Answer.{Answer}
 use Rattle.bitstream_io.specs.declared.script.answers.Answer.TheVariants as variant

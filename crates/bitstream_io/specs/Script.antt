@@ -5,8 +5,8 @@ use Rattle.bitstream_count.specs.Entry.{WriteEntry}
 use Rattle.bitstream_count.specs.declared.error.Error.{Error}
 use Rattle.bitstream_count.specs.declared.error.Error.TheVariants.{Failed, CounterOverflow}
 use Rattle.bitstream_stream.specs.Run.{write_run, write_refusals}
-use Rattle.bitstream_stream.specs.Sink.{Sink, Appended, Kept, WriteRefused, IsWithin}
-use Rattle.bitstream_stream.specs.WriteTable.{bit, unsigned, signed, unary_word, vbr, signed_vbr, buffer, zeros, align}
+use Rattle.bitstream_stream.specs.Writing.Sink.{Sink, Appended, Kept, WriteRefused, IsWithin}
+use Rattle.bitstream_stream.specs.Writing.WriteTable.{bit, unsigned, signed, unary_word, vbr, signed_vbr, buffer, zeros, align}
 use Rattle.bitstream_io.specs.declared.script.write_call.WriteCall.{WriteCall}
 use Rattle.bitstream_io.specs.declared.script.write_call.WriteCall.TheVariants.{Bit, U8, U16, U32, U64, U128, I8, I16, I32, I64, I128, Unary0, Unary1, Vbr4, Vbr8, SignedVbr4, SignedVbr8, Bytes, Pad, Align}
 

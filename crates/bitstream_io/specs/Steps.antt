@@ -2,7 +2,7 @@
 use Rattle.std.specs.Prelude.{ℕ}
 use Rattle.bitstream_count.specs.Entry.{ReadEntry, chain, gives}
 use Rattle.bitstream_number.specs.Word.{Order, bits, number}
-use Rattle.bitstream_stream.specs.ReadTable.{bytes_entry}
+use Rattle.bitstream_stream.specs.Reading.ReadTable.{bytes_entry}
 
 infixl 10 ◌>>=◌
 -- one read and then, unless it answers an error, what follows with its answer

@@ -62,41 +62,41 @@ pub mod order {
 
 /// Reading bits.
 pub mod read {
-    pub use bitstream_order::lent::Lent;
-    pub use bitstream_order::seek::SeekSource;
-    pub use bitstream_order::slice::Slice;
-    pub use bitstream_order::source::Source;
-    pub use bitstream_stream::place::bit_place;
+    pub use bitstream_order::streams::lent::Lent;
+    pub use bitstream_order::streams::seek::SeekSource;
+    pub use bitstream_order::streams::slice::Slice;
+    pub use bitstream_order::streams::source::Source;
+    pub use bitstream_stream::read::place::bit_place;
     pub use bitstream_stream::read::BitRead;
-    pub use bitstream_stream::reader::BitReader;
-    pub use bitstream_stream::slice_reader::SliceReader;
+    pub use bitstream_stream::read::reader::BitReader;
+    pub use bitstream_stream::read::slice_reader::SliceReader;
     pub use bitstream_value::parse::{FromBitStream, FromBitStreamUsing, FromBitStreamWith};
     pub use bitstream_value::read::BitReadExt;
 }
 
 /// Writing bits.
 pub mod write {
-    pub use bitstream_order::growing::Growing;
-    pub use bitstream_order::lent::Lent;
-    pub use bitstream_order::slice_mut::SliceMut;
-    pub use bitstream_order::target::Target;
+    pub use bitstream_order::streams::growing::Growing;
+    pub use bitstream_order::streams::lent::Lent;
+    pub use bitstream_order::streams::slice_mut::SliceMut;
+    pub use bitstream_order::streams::target::Target;
     pub use bitstream_sink::bit_counter::BitCounter;
     pub use bitstream_sink::counter::{Counter, Overflowed};
     pub use bitstream_sink::recorder::BitRecorder;
     pub use bitstream_sink::recorder::best::Recorder;
     pub use bitstream_sink::written::BitsWritten;
     pub use bitstream_stream::write::BitWrite;
-    pub use bitstream_stream::writer::BitWriter;
+    pub use bitstream_stream::write::writer::BitWriter;
     pub use bitstream_value::build::{ToBitStream, ToBitStreamUsing, ToBitStreamWith};
     pub use bitstream_value::write::BitWriteExt;
 }
 
 /// Reading and writing whole bytes.
 pub mod bytes {
-    pub use bitstream_stream::byte_read::ByteRead;
-    pub use bitstream_stream::byte_reader::ByteReader;
-    pub use bitstream_stream::byte_write::ByteWrite;
-    pub use bitstream_stream::byte_writer::ByteWriter;
+    pub use bitstream_stream::bytes::byte_read::ByteRead;
+    pub use bitstream_stream::bytes::byte_reader::ByteReader;
+    pub use bitstream_stream::bytes::byte_write::ByteWrite;
+    pub use bitstream_stream::bytes::byte_writer::ByteWriter;
     pub use bitstream_value::byte_build::{ToByteStream, ToByteStreamUsing, ToByteStreamWith};
     pub use bitstream_value::byte_parse::{
         FromByteStream, FromByteStreamUsing, FromByteStreamWith,

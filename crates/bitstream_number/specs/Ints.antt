@@ -1,4 +1,5 @@
 -- How the integer types meet the laws of the traits.
+-- These are lemmas: ghost members of the impls cite them.
 use Rattle.std.specs.Prelude.{◌≡◌, ◌≢◌, ◌↔◌, ℕ, ℤ, pos, negsuc, zero, suc, ◌+◌, ◌-◌, ◌*◌, ◌/◌, ◌^◌, ◌<◌, ◌≤◌, ◌==◌, ◌-ℤ◌, Some, IsTrue, int_div, unsigned_abs, neg_ℤ}
 use Rattle.std.specs.Int.{Width, w8, w16, w32, w64, w128, CanDivide, FitsUnsignedBits, cast_unsigned, cast_signed}
 use Rattle.std.specs.Ordering.{nat_cmp, int_cmp, int_eq}

@@ -9,11 +9,11 @@ ghost use Rattle.bitstream_order.specs.Reference.{capacity_of};
 ghost use Rattle.bitstream_order.specs.Refusal.{Refusal, MayRefuse, MayRefuseSeek};
 ghost use Rattle.bitstream_order.specs.Port.{port_state, fetched_count, port_stream, with_stream, Fetches, Sends, Seeks, Places};
 
-use crate::refusals::Refusals;
-use crate::seek::SeekSource;
-use crate::source::Source;
-use crate::tally::Tally;
-use crate::target::Target;
+use crate::ghosts::GhostRefusals;
+use crate::streams::seek::SeekSource;
+use crate::streams::source::Source;
+use crate::ghosts::GhostCount;
+use crate::streams::target::Target;
 use bitstream_count::error::Error;
 use std::io;
 use std::io::{ErrorKind, SeekFrom};
@@ -24,10 +24,10 @@ use std::snapshot::Snapshot;
 #[derive(Drop)]
 pub struct Port<S> {
     stream: S,
-    fetched: Tally,
-    sent: Tally,
-    requests: Tally,
-    refusals: Refusals,
+    fetched: GhostCount,
+    sent: GhostCount,
+    requests: GhostCount,
+    refusals: GhostRefusals,
 }
 
 /// Returns the error for a refused request that is not a read.
@@ -51,8 +51,8 @@ fn read_refusal(error: io::Error) -> Error
 }
 
 /// Records a refused request for bytes.
-fn note_read<S: Source>(
-    refusals: &mut Refusals,
+fn record_refused_read<S: Source>(
+    refusals: &mut GhostRefusals,
     _before: &Snapshot<S>,
     _after: &S,
     _wanted: usize,
@@ -72,8 +72,8 @@ fn note_read<S: Source>(
 }
 
 /// Records a refused request to send bytes.
-fn note_write<S: Target>(
-    refusals: &mut Refusals,
+fn record_refused_write<S: Target>(
+    refusals: &mut GhostRefusals,
     _before: &Snapshot<S>,
     _after: &S,
     _wanted: usize,
@@ -106,10 +106,10 @@ impl<S> Port<S> {
     {
         Port {
             stream,
-            fetched: Tally::new(),
-            sent: Tally::new(),
-            requests: Tally::new(),
-            refusals: Refusals::new(),
+            fetched: GhostCount::new(),
+            sent: GhostCount::new(),
+            requests: GhostCount::new(),
+            refusals: GhostRefusals::new(),
         }
     }
 
@@ -137,17 +137,17 @@ impl<S> Port<S> {
         ensures requests { self.new.requests.count ≡ 0 }
         ensures refusals { self.new.refusals.list ≡ [] }
     {
-        self.fetched = Tally::new();
-        self.sent = Tally::new();
-        self.requests = Tally::new();
-        self.refusals = Refusals::new();
+        self.fetched = GhostCount::new();
+        self.sent = GhostCount::new();
+        self.requests = GhostCount::new();
+        self.refusals = GhostRefusals::new();
     }
 
     /// Returns a tally of the bits of all fetched bytes.
-    pub fn fetched_bits(&self) -> Tally
+    pub fn fetched_bits(&self) -> GhostCount
         ensures { result.count ≡ 8 * fetched_count self.now }
     {
-        let mut bits = Tally::new();
+        let mut bits = GhostCount::new();
         bits.add_bits_of(&self.fetched);
         bits
     }
@@ -178,14 +178,14 @@ impl<S: Source> Port<S> {
     }
 
     /// Fills the first `count` bytes of the buffer, which has as many or more, by one request, for these
-    /// bytes alone. What stands behind them in the buffer is then not told. `known` tells whether
+    /// bytes alone. What stands behind them in the buffer is then not told. `constant` tells whether
     /// `count` is known as the program is compiled, and changes only how the bytes are copied.
     ///
     /// # Errors
     ///
     /// As [`fetch`](Port::fetch).
     #[inline(always)]
-    pub fn fetch_front(&mut self, buf: &mut [u8], count: usize, known: bool) -> Result<(), Error>
+    pub fn fetch_front(&mut self, buf: &mut [u8], count: usize, constant: bool) -> Result<(), Error>
         requires { count ≤ length buf.old }
         ensures fetches { Fetches (MayRefuse S.remaining S.references S.refuses)
             (port_state S.remaining S.references self.old) (take count buf.new) result
@@ -194,13 +194,13 @@ impl<S: Source> Port<S> {
     {
         let before = Snapshot::of(&self.stream);
         self.requests.add(1);
-        match self.stream.read_front(buf, count, known) {
+        match self.stream.read_front(buf, count, constant) {
             Ok(()) => {
                 self.fetched.add(count as u64);
                 Ok(())
             }
             Err(refused) => {
-                note_read(&mut self.refusals, &before, &self.stream, count, &refused);
+                record_refused_read(&mut self.refusals, &before, &self.stream, count, &refused);
                 Err(read_refusal(refused))
             }
         }
@@ -228,7 +228,7 @@ impl<S: Target> Port<S> {
                 Ok(())
             }
             Err(refused) => {
-                note_write(
+                record_refused_write(
                     &mut self.refusals,
                     &before,
                     &self.stream,
@@ -259,7 +259,7 @@ impl<S: Target> Port<S> {
         match self.stream.flush() {
             Ok(()) => Ok(()),
             Err(refused) => {
-                note_write(&mut self.refusals, &before, &self.stream, 0, &refused);
+                record_refused_write(&mut self.refusals, &before, &self.stream, 0, &refused);
                 Err(refusal(refused))
             }
         }
@@ -286,11 +286,11 @@ impl<S: SeekSource> Port<S> {
         self.requests.add(1);
         match self.stream.seek(to) {
             Ok(at) => {
-                self.fetched = Tally::new();
+                self.fetched = GhostCount::new();
                 Ok(at)
             }
             Err(refused) => {
-                note_read(&mut self.refusals, &before, &self.stream, 0, &refused);
+                record_refused_read(&mut self.refusals, &before, &self.stream, 0, &refused);
                 Err(refusal(refused))
             }
         }
@@ -316,7 +316,7 @@ impl<S: SeekSource> Port<S> {
         match self.stream.seek(SeekFrom::Current(0)) {
             Ok(at) => Ok(at),
             Err(refused) => {
-                note_read(&mut self.refusals, &before, &self.stream, 0, &refused);
+                record_refused_read(&mut self.refusals, &before, &self.stream, 0, &refused);
                 Err(refusal(refused))
             }
         }

@@ -2,8 +2,8 @@
 use Rattle.std.specs.Prelude.{◌↔◌}
 use Rattle.std.proofs.Common.{◌≡◌, ◌⊎◌, inl, inr, ◌<◌, ◌≤◌, Bool, IsTrue, true, false, Result, Ok, refl}
 use Rattle.std.proofs.lemmas.Bool.{cases_lt}
-use Rattle.bitstream_stream.specs.Sink.{Sink}
-use Rattle.bitstream_stream.proofs.SinkLemmas.{untold}
+use Rattle.bitstream_stream.specs.Writing.Sink.{Sink}
+use Rattle.bitstream_stream.proofs.Writing.SinkLemmas.{untold}
 use Rattle.bitstream_sink.specs.Best.{Best, kept_the_shorter, kept_the_sound}
 
 module _ {R F : Type 0} (K : Sink R) (is_empty : R → Type 0) (records : R → Result (Unit {0}) F → R

@@ -4,7 +4,7 @@ use Rattle.bitstream_number.specs.Word.{Order}
 use Rattle.bitstream_count.specs.Entry.{WriteEntry}
 use Rattle.bitstream_count.specs.declared.error.Error.{Error}
 use Rattle.bitstream_count.specs.declared.error.Error.TheVariants.{CounterOverflow}
-use Rattle.bitstream_stream.specs.Sink.{Writes, IsFullLimit, past_limit, was_done}
+use Rattle.bitstream_stream.specs.Writing.Sink.{Writes, IsFullLimit, past_limit, was_done}
 use Rattle.bitstream_sink.specs.Counting.{counter_sink}
 
 module _ {S : Type 0} (o : Order) (count : S → ℕ) (greatest : ℕ) (full : IsFullLimit (Some greatest)) (within : (s : S)

@@ -8,15 +8,15 @@ use Rattle.bitstream_count.specs.Entry.{WriteEntry}
 use Rattle.bitstream_count.specs.declared.error.Error.{Error}
 use Rattle.bitstream_count.specs.declared.error.Error.TheVariants.{OutOfMemory}
 use Rattle.bitstream_order.specs.Fault.{refusal_of}
-use Rattle.bitstream_order.specs.declared.growing.Growing.{Growing}
-use Rattle.bitstream_stream.specs.Sink.{Sink, Writes, WritesAll, Appended, WriteRefused, had_failed, was_rejected, past_limit, was_refused, was_done}
-use Rattle.bitstream_stream.specs.Writer.{queued_bits, queue_number}
-use Rattle.bitstream_stream.specs.WriteTable.{buffer, unsigned}
-use Rattle.bitstream_stream.specs.declared.writer.BitWriter.{BitWriter}
-use Rattle.bitstream_stream.proofs.SinkLemmas.{inner}
-use Rattle.bitstream_stream.proofs.SinkParts.{from_ok, appended_more}
-use Rattle.bitstream_stream.proofs.WriteLemmas.{unsigned-fits}
-use Rattle.bitstream_stream.proofs.WriteParts.{all_err, all_more, all_one}
+use Rattle.bitstream_order.specs.declared.streams.growing.Growing.{Growing}
+use Rattle.bitstream_stream.specs.Writing.Sink.{Sink, Writes, WritesAll, Appended, WriteRefused, had_failed, was_rejected, past_limit, was_refused, was_done}
+use Rattle.bitstream_stream.specs.Writing.Writer.{queued_bits, queue_number}
+use Rattle.bitstream_stream.specs.Writing.WriteTable.{buffer, unsigned}
+use Rattle.bitstream_stream.specs.declared.write.writer.BitWriter.{BitWriter}
+use Rattle.bitstream_stream.proofs.Writing.SinkLemmas.{inner}
+use Rattle.bitstream_stream.proofs.Writing.SinkParts.{from_ok, appended_more}
+use Rattle.bitstream_stream.proofs.Writing.WriteLemmas.{unsigned-fits}
+use Rattle.bitstream_stream.proofs.Writing.WriteParts.{all_err, all_more, all_one}
 use Rattle.bitstream_sink.specs.Recorder.{recorder_sink, recorded_bits, recorded_bytes, recorded_queued, recorded_queue}
 use Rattle.bitstream_sink.specs.GrowingWriter.{HoldsAll, growing_sink, growing_state, written_bytes}
 use Rattle.bitstream_sink.specs.declared.recorder.BitRecorder.{BitRecorder}

@@ -1,6 +1,6 @@
 -- The better of two recorders.
 use Rattle.std.specs.Prelude.{◌≡◌, ◌<◌, ◌≤◌, true, false, Result, Ok, Err}
-use Rattle.bitstream_stream.specs.Sink.{Sink}
+use Rattle.bitstream_stream.specs.Writing.Sink.{Sink}
 
 -- The better of a recorder and a candidate: what the function did to an empty recorder, and which one is answered. The
 -- candidate is given if it is strictly shorter and has not failed, and the recorder stands in its place then.

@@ -4,7 +4,7 @@ use Rattle.std.proofs.Common.{sym, add-zero, arith, length-append}
 use Rattle.bitstream_number.specs.Word.{Order}
 use Rattle.bitstream_count.specs.Entry.{WriteEntry}
 use Rattle.bitstream_count.specs.declared.error.Error.{Error}
-use Rattle.bitstream_stream.specs.Sink.{Sink, Writes, IsFullLimit}
+use Rattle.bitstream_stream.specs.Writing.Sink.{Sink, Writes, IsFullLimit}
 
 -- a sink that keeps the length of what was written and nothing else, up to the greatest number of its type
 abbrev pub counter_sink : {S : Type 0} → Order → (count : S → ℕ) → (greatest : ℕ) → IsFullLimit (Some greatest)

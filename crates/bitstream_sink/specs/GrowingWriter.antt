@@ -1,13 +1,13 @@
 -- A writer over a vector of bytes.
 use Rattle.std.specs.Prelude.{◌≡◌, ℕ, List, [], length}
 use Rattle.bitstream_number.specs.Word.{Order}
-use Rattle.bitstream_order.specs.Growing.{growing_bytes, growing_contents, GrowthRefused}
-use Rattle.bitstream_order.specs.declared.growing.Growing.{Growing}
-use Rattle.bitstream_stream.specs.Carries.{WriterState}
-use Rattle.bitstream_stream.specs.Sink.{Sink}
+use Rattle.bitstream_order.specs.Streaming.Growing.{growing_bytes, growing_contents, GrowthRefused}
+use Rattle.bitstream_order.specs.declared.streams.growing.Growing.{Growing}
+use Rattle.bitstream_stream.specs.Writing.Carries.{WriterState}
+use Rattle.bitstream_stream.specs.Writing.Sink.{Sink}
 use Rattle.bitstream_stream.specs.Ways.{writer_stream}
-use Rattle.bitstream_stream.specs.Writer.{writer_state, writer_sink}
-use Rattle.bitstream_stream.specs.declared.writer.BitWriter.{BitWriter}
+use Rattle.bitstream_stream.specs.Writing.Writer.{writer_state, writer_sink}
+use Rattle.bitstream_stream.specs.declared.write.writer.BitWriter.{BitWriter}
 
 -- the bytes that a writer has sent
 abbrev pub written_bytes : {A E : Type 0} → BitWriter (Growing A) E → List ℕ

@@ -2,9 +2,9 @@
 use Rattle.std.specs.Prelude.{◌≡◌, ℕ, Bool, List, [], ◌∷◌, ◌++◌, Some}
 use Rattle.bitstream_number.specs.Word.{Order, word, bits}
 use Rattle.bitstream_count.specs.Entry.{WriteEntry}
-use Rattle.bitstream_stream.specs.Sink.{Sink, inner_sink}
-use Rattle.bitstream_stream.specs.WriteTable.{buffer, unsigned}
-use Rattle.bitstream_stream.specs.Writer.{queued_bits, queue_number, has_failed, new_writer_state}
+use Rattle.bitstream_stream.specs.Writing.Sink.{Sink, inner_sink}
+use Rattle.bitstream_stream.specs.Writing.WriteTable.{buffer, unsigned}
+use Rattle.bitstream_stream.specs.Writing.Writer.{queued_bits, queue_number, has_failed, new_writer_state}
 use Rattle.bitstream_sink.specs.GrowingWriter.{written_bytes, growing_state, growing_sink}
 use Rattle.bitstream_sink.specs.declared.recorder.BitRecorder.{BitRecorder}
 

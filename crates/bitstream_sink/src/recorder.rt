@@ -7,10 +7,10 @@ use crate::counter::{Counter, Overflowed};
 use bitstream_count::count::{Count, SignedCount};
 use bitstream_count::error::Error;
 use bitstream_number::number::{Primitive, SignedInteger, UnsignedInteger, Width};
-use bitstream_order::growing::Growing;
+use bitstream_order::streams::growing::Growing;
 use bitstream_order::order::Endianness;
 use bitstream_stream::write::BitWrite;
-use bitstream_stream::writer::BitWriter;
+use bitstream_stream::write::writer::BitWriter;
 use std::alloc::{AllocError, Allocator};
 use std::marker::PhantomData;
 
@@ -47,8 +47,8 @@ pub struct BitRecorder<N, E, A: Allocator> {
 
 impl<N, E: Endianness, A: Allocator> BitRecorder<N, E, A> {
     ghost use Rattle.bitstream_count.specs.declared.error.Error.TheVariants.{Failed};
-    ghost use Rattle.bitstream_stream.specs.Sink.{WritesAll, Appended, Kept};
-    ghost use Rattle.bitstream_order.specs.Growing.{growing_bytes};
+    ghost use Rattle.bitstream_stream.specs.Writing.Sink.{WritesAll, Appended, Kept};
+    ghost use Rattle.bitstream_order.specs.Streaming.Growing.{growing_bytes};
     ghost use Rattle.bitstream_sink.specs.Counter.{Counts};
     ghost use Rattle.bitstream_sink.specs.Recorder.{IsEmptyRecorder, recorded_bits, recorder_failed, playback_entries};
 

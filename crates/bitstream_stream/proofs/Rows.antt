@@ -6,9 +6,9 @@ use Rattle.bitstream_count.specs.declared.error.Error.TheVariants.{Checked, Read
 use Rattle.bitstream_count.specs.Entry.{Takes, WriteEntry, chain}
 use Rattle.bitstream_count.specs.Vbr.{groups, groups_at}
 use Rattle.bitstream_number.specs.Word.{Order, High, Low, digits, digits_number, bits}
-use Rattle.bitstream_stream.specs.ReadTable.{bit_entry, unsigned_entry, signed_entry, const_entry, unary_entry, count_entry, align_entry, groups_entry, vbr_entry, any_vbr_entry, signed_groups_entry, signed_vbr_entry}
+use Rattle.bitstream_stream.specs.Reading.ReadTable.{bit_entry, unsigned_entry, signed_entry, const_entry, unary_entry, count_entry, align_entry, groups_entry, vbr_entry, any_vbr_entry, signed_groups_entry, signed_vbr_entry}
 use Rattle.bitstream_stream.specs.Run.{read_run, write_run, write_refusals}
-use Rattle.bitstream_stream.specs.WriteTable.{unsigned, unary_word, align, vbr, signed_vbr}
+use Rattle.bitstream_stream.specs.Writing.WriteTable.{unsigned, unary_word, align, vbr, signed_vbr}
 
 -- B1 ED 3B C1
 four_bytes : List ℕ

@@ -6,7 +6,7 @@ use Rattle.std.proofs.lemmas.Int.{ints}
 use Rattle.std.proofs.lemmas.Nat.{and_mask}
 use Rattle.bitstream_number.specs.Word.{FitsSignedBits, zig, zag}
 use Rattle.bitstream_number.proofs.WordLemmas.{half}
-use Rattle.bitstream_order.proofs.SignLemmas.{rest_of, negative-is}
+use Rattle.bitstream_order.proofs.Moving.SignLemmas.{rest_of, negative-is}
 use lib.Signed.{mag, ◌≤ℤ◌}
 
 -- twice a number that is below half of the numbers of n bits

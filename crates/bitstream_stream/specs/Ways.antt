@@ -1,4 +1,5 @@
 -- The streams of readers and writers, and what readers and writers become whose stream was lent.
+-- A reader or writer whose queue was dropped keeps the facts of its type: so lemmas are imported.
 use Rattle.std.specs.Prelude.{◌≡◌, ◌+◌, true, false, [], Result, Ok, Err}
 use Rattle.std.specs.Borrow.{GName}
 use Rattle.std.proofs.Common.{refl}
@@ -6,16 +7,16 @@ use Rattle.bitstream_count.specs.declared.error.Error.{Error}
 use Rattle.bitstream_count.specs.declared.error.Error.TheVariants.{Failed}
 use Rattle.bitstream_order.specs.Port.{Sent, SendRefused, port_stream, with_stream}
 use Rattle.bitstream_order.specs.Refusal.{Refusal}
-use Rattle.bitstream_order.specs.declared.lent.Lent.{Lent}
-use Rattle.bitstream_order.specs.Gather.{seen}
+use Rattle.bitstream_order.specs.declared.streams.lent.Lent.{Lent}
+use Rattle.bitstream_order.specs.Moving.Gather.{seen}
 use Rattle.bitstream_order.proofs.DropLemmas.{none_few, dropped_whole, dropped_back}
-use Rattle.bitstream_stream.specs.Carries.{WriterState}
-use Rattle.bitstream_stream.specs.Sink.{Sink, Writes}
-use Rattle.bitstream_stream.specs.WriteTable.{align}
-use Rattle.bitstream_stream.specs.declared.reader.BitReader.{BitReader}
-use Rattle.bitstream_stream.specs.declared.writer.BitWriter.{BitWriter}
-use Rattle.bitstream_stream.specs.declared.byte_reader.ByteReader.{ByteReader}
-use Rattle.bitstream_stream.specs.declared.byte_writer.ByteWriter.{ByteWriter}
+use Rattle.bitstream_stream.specs.Writing.Carries.{WriterState}
+use Rattle.bitstream_stream.specs.Writing.Sink.{Sink, Writes}
+use Rattle.bitstream_stream.specs.Writing.WriteTable.{align}
+use Rattle.bitstream_stream.specs.declared.read.reader.BitReader.{BitReader}
+use Rattle.bitstream_stream.specs.declared.write.writer.BitWriter.{BitWriter}
+use Rattle.bitstream_stream.specs.declared.bytes.byte_reader.ByteReader.{ByteReader}
+use Rattle.bitstream_stream.specs.declared.bytes.byte_writer.ByteWriter.{ByteWriter}
 
 -- the stream of a reader
 abbrev pub reader_stream : {R E : Type 0} → BitReader R E → R

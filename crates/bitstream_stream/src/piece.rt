@@ -1,7 +1,27 @@
-//! The sizes of the pieces in which bytes go.
+//! The sizes of the pieces in which bytes go, and buffers that grow by them.
+ghost use Rattle.std.specs.Prelude.{◌≡◌, ◌-◌, ◌≤◌, ◌++◌, length, replicate, OnOk};
+
+use std::alloc::{AllocError, Allocator};
 
 /// How many bytes go at a time off a byte boundary, or are skipped or padded at a time.
 pub(crate) const PIECE: usize = 1024;
 
 /// The greatest number of bytes by which a vector grows at a time.
 pub(crate) const GROWTH: usize = 4096;
+
+/// Extends a buffer with zeros to the given length. The first growth asks for exactly the memory
+/// that it needs.
+///
+/// # Errors
+///
+/// If memory is refused.
+pub(crate) fn grow<A: Allocator>(buf: &mut Vec<u8, A>, len: usize) -> Result<(), AllocError>
+    requires { length buf.old.items ≤ len }
+    ensures { OnOk result (buf.new.items
+        ≡ buf.old.items ++ replicate (len - length buf.old.items) 0) }
+{
+    if buf.is_empty() {
+        buf.reserve_exact(len)?;
+    }
+    buf.resize(len, 0)
+}

@@ -1,11 +1,11 @@
 //! The calls of a reader of bits.
 ghost use Rattle.std.specs.Prelude.{◌≡◌, ℕ, ◌+◌, ◌%◌, ◌^◌, ◌<◌, ◌≤◌, ◌⊎◌, ◌↔◌, ◌==◌, false, length, Ok, IsTrue};
 ghost use Rattle.bitstream_order.specs.Parts.{value_bytes};
-ghost use Rattle.bitstream_order.specs.Gather.{seen};
-ghost use Rattle.bitstream_stream.specs.Reads.{BitSource, Reads, ReadsConst, ReadsGrowing, failed_reader, lent_source};
-ghost use Rattle.bitstream_stream.specs.ReadTable.{bit_entry, unsigned_entry, signed_entry, const_entry, unary_entry, count_entry, align_entry, bytes_entry, skip_entry, is_full, groups_entry, vbr_entry, any_vbr_entry, signed_vbr_entry, any_signed_vbr_entry};
+ghost use Rattle.bitstream_order.specs.Moving.Gather.{seen};
+ghost use Rattle.bitstream_stream.specs.Reading.Reads.{BitSource, Reads, ReadsConst, ReadsGrowing, failed_reader, lent_source};
+ghost use Rattle.bitstream_stream.specs.Reading.ReadTable.{bit_entry, unsigned_entry, signed_entry, const_entry, unary_entry, count_entry, align_entry, bytes_entry, skip_entry, is_full, groups_entry, vbr_entry, any_vbr_entry, signed_vbr_entry, any_signed_vbr_entry};
 
-use crate::grow::grow;
+use crate::piece::grow;
 use crate::piece::GROWTH;
 use crate::vbr::is_redundant;
 use crate::width::count_bits;
@@ -15,6 +15,10 @@ use bitstream_count::error::Error;
 use bitstream_number::number::{Numeric, Primitive, SignedInteger, UnsignedInteger, Width};
 use bitstream_order::order::Endianness;
 use std::alloc::Allocator;
+
+pub mod place;
+pub mod reader;
+pub mod slice_reader;
 
 /// Reads bits.
 ///

@@ -1,5 +1,5 @@
 //! The calls of a sink of bits.
-use crate::others::others;
+use crate::write::run::run_without_stop;
 use crate::vbr::{split_group, vbr_bits};
 use crate::width::count_bits;
 use crate::zigzag::zigzag;
@@ -7,6 +7,9 @@ use bitstream_count::count::{BitCount, Count, SignedCount};
 use bitstream_count::error::Error;
 use bitstream_number::number::{Numeric, Primitive, SignedInteger, UnsignedInteger, Width};
 use bitstream_order::order::Endianness;
+
+mod run;
+pub mod writer;
 
 /// Writes bits.
 ///
@@ -36,8 +39,8 @@ pub trait BitWrite {
     ghost use Rattle.std.specs.Prelude.{◌≡◌, ℕ, ◌+◌, ◌%◌, ◌^◌, ◌<◌, ◌≤◌, ◌↔◌, ◌⊎◌, ◌==◌, Bool, true, false, IsTrue};
     ghost use Rattle.bitstream_number.specs.Word.{word};
     ghost use Rattle.bitstream_order.specs.Parts.{value_bytes};
-    ghost use Rattle.bitstream_stream.specs.Sink.{Sink, Writes, IsWithin};
-    ghost use Rattle.bitstream_stream.specs.WriteTable.{unsigned, signed, plain, unary_word, bit as one_bit, count as count_entry, align, buffer, zeros, vbr, signed_vbr};
+    ghost use Rattle.bitstream_stream.specs.Writing.Sink.{Sink, Writes, IsWithin};
+    ghost use Rattle.bitstream_stream.specs.Writing.WriteTable.{unsigned, signed, plain, unary_word, bit as one_bit, count as count_entry, align, buffer, zeros, vbr, signed_vbr};
 
     // What the states of the sink mean.
     ghost sink: { Sink Self };
@@ -175,9 +178,9 @@ pub trait BitWrite {
             return Err(Error::CounterOverflow);
         }
         let stop = S::BITS == 1;
-        self.write_unsigned_var(value % 128, others::<u128>(stop, value % 128))?;
+        self.write_unsigned_var(value % 128, run_without_stop::<u128>(stop, value % 128))?;
         for _done in 0..value / 128 {
-            self.write_unsigned_var(128, others::<u128>(stop, 128))?;
+            self.write_unsigned_var(128, run_without_stop::<u128>(stop, 128))?;
         }
         self.write_bit(stop)
     }
@@ -285,7 +288,7 @@ pub trait BitWrite {
 }
 
 impl<W: BitWrite> BitWrite for &mut W {
-    ghost use Rattle.bitstream_stream.specs.Sink.{lent_sink};
+    ghost use Rattle.bitstream_stream.specs.Writing.Sink.{lent_sink};
 
     ghost sink = { lent_sink W.sink };
 

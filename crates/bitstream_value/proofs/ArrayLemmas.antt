@@ -4,8 +4,8 @@ use Rattle.std.proofs.Common.{◌-◌, ◌≡◌, ℕ, zero, suc, ◌+◌, ◌<�
 use Rattle.std.proofs.Math.Seq.{take-suc-set, take-length}
 use Rattle.bitstream_count.specs.declared.error.Error.{Error}
 use Rattle.bitstream_count.specs.Entry.{ReadEntry, chain, gives}
-use Rattle.bitstream_stream.specs.Reads.{BitSource, Reads}
-use Rattle.bitstream_stream.proofs.ReadsLemmas.{Reads-chain-ok, Reads-chain-err, Reads-gives}
+use Rattle.bitstream_stream.specs.Reading.Reads.{BitSource, Reads}
+use Rattle.bitstream_stream.proofs.Reading.ReadsLemmas.{Reads-chain-ok, Reads-chain-err, Reads-gives}
 use Rattle.bitstream_value.specs.Array.{items_entry}
 
 items-none : {A : Type 0} (e : ReadEntry A) → items_entry e 0 ≡ gives []

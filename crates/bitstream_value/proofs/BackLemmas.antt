@@ -9,12 +9,12 @@ use Rattle.bitstream_count.specs.Entry.{ReadEntry, WriteEntry, Takes, chain, giv
 use Rattle.bitstream_number.specs.Word.{Order, number, word, signed_number, signed_word, FitsSignedBits}
 use Rattle.bitstream_number.proofs.SignedLemmas.{signed_number-signed_word}
 use Rattle.bitstream_number.proofs.WordLemmas.{length-word, number-word}
-use Rattle.bitstream_stream.specs.ReadTable.{first_bit, bit_entry, unsigned_entry, signed_entry}
+use Rattle.bitstream_stream.specs.Reading.ReadTable.{first_bit, bit_entry, unsigned_entry, signed_entry}
 use Rattle.bitstream_stream.specs.Run.{write_run}
-use Rattle.bitstream_stream.specs.WriteTable.{bit, unsigned, signed}
-use Rattle.bitstream_stream.proofs.EntryLemmas.{word_front-some}
-use Rattle.bitstream_stream.proofs.ReadsLemmas.{chain_decides}
-use Rattle.bitstream_stream.proofs.WriteLemmas.{unsigned-fits, signed-accepts}
+use Rattle.bitstream_stream.specs.Writing.WriteTable.{bit, unsigned, signed}
+use Rattle.bitstream_stream.proofs.Reading.EntryLemmas.{word_front-some}
+use Rattle.bitstream_stream.proofs.Reading.ReadsLemmas.{chain_decides}
+use Rattle.bitstream_stream.proofs.Writing.WriteLemmas.{unsigned-fits, signed-accepts}
 use Rattle.bitstream_value.proofs.SureLemmas.{IsWord, unsigned-word}
 
 -- wherever these calls write, the call e reads a from what they wrote, and takes just that

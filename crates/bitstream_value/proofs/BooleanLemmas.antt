@@ -4,10 +4,10 @@ use Rattle.std.proofs.lemmas.Bool.{ne_eqb}
 use Rattle.bitstream_count.specs.declared.error.Error.{Error}
 use Rattle.bitstream_count.specs.declared.error.Error.TheVariants.{BoolWidth}
 use Rattle.bitstream_count.specs.Entry.{refuses}
-use Rattle.bitstream_stream.specs.ReadTable.{bit_entry}
-use Rattle.bitstream_stream.specs.Reads.{BitSource, Reads}
-use Rattle.bitstream_stream.specs.Sink.{Sink, Writes}
-use Rattle.bitstream_stream.specs.WriteTable.{bit}
+use Rattle.bitstream_stream.specs.Reading.ReadTable.{bit_entry}
+use Rattle.bitstream_stream.specs.Reading.Reads.{BitSource, Reads}
+use Rattle.bitstream_stream.specs.Writing.Sink.{Sink, Writes}
+use Rattle.bitstream_stream.specs.Writing.WriteTable.{bit}
 use Rattle.bitstream_value.specs.Boolean.{truth_entry, truth}
 
 module _ {R : Type 0} {K : BitSource R} where

@@ -6,8 +6,8 @@ use Rattle.std.proofs.lemmas.List.Elements.{recursion_from_All}
 use Rattle.bitstream_count.specs.Entry.{Takes}
 use Rattle.bitstream_number.specs.Word.{Order, High, Low, bits, number}
 use Rattle.bitstream_number.proofs.ByteLemmas.{length-bytes}
-use Rattle.bitstream_stream.specs.ByteReads.{ByteReadEntry, given_bytes}
-use Rattle.bitstream_stream.proofs.EntryLemmas.{word_front-some as byte_front-some}
+use Rattle.bitstream_stream.specs.WholeBytes.ByteReads.{ByteReadEntry, given_bytes}
+use Rattle.bitstream_stream.proofs.Reading.EntryLemmas.{word_front-some as byte_front-some}
 use Rattle.bitstream_value.specs.ByteGrows.{byte_part_then, byte_parts}
 use Rattle.bitstream_value.specs.ByteSteps.{number_bytes}
 use Rattle.bitstream_value.specs.ByteTypes.{byte_chain, byte_gives}

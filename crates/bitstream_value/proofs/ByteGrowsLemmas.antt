@@ -5,9 +5,9 @@ use Rattle.std.specs.declared.ops.ControlFlow.{ControlFlow}
 use Rattle.bitstream_count.specs.declared.error.Error.{Error}
 use Rattle.bitstream_count.specs.declared.error.Error.TheVariants.{OutOfMemory}
 use Rattle.bitstream_number.specs.Word.{Order}
-use Rattle.bitstream_order.specs.Gather.{seen}
-use Rattle.bitstream_stream.specs.ByteReads.{ByteSource, ByteReadEntry, ByteReads, ByteReadsGrowing, given_bytes, was_done, was_refused, memory_refused}
-use Rattle.bitstream_stream.proofs.ByteReadsLemmas.{bytes_none, bytes_took}
+use Rattle.bitstream_order.specs.Moving.Gather.{seen}
+use Rattle.bitstream_stream.specs.WholeBytes.ByteReads.{ByteSource, ByteReadEntry, ByteReads, ByteReadsGrowing, given_bytes, was_done, was_refused, memory_refused}
+use Rattle.bitstream_stream.proofs.WholeBytes.ByteReadsLemmas.{bytes_none, bytes_took}
 use Rattle.bitstream_value.specs.ByteGrows.{ByteGrowthRefused, ByteGrowingOutcome, by_reads, between_reads, ByteGrowsOwn, byte_part_then, byte_parts, BytePartsRead}
 use Rattle.bitstream_value.specs.ByteSteps.{number_bytes}
 use Rattle.bitstream_value.specs.ByteTypes.{byte_chain, byte_gives}

@@ -11,11 +11,11 @@ use Rattle.bitstream_count.specs.declared.error.Error.{Error}
 use Rattle.bitstream_count.specs.Entry.{Front, TooFew, Takes, longer}
 use Rattle.bitstream_number.specs.Word.{Order, High, Low, bits, bytes, number}
 use Rattle.bitstream_number.proofs.WordLemmas.{bits-bytes, number-word}
-use Rattle.bitstream_order.specs.Gather.{seen}
+use Rattle.bitstream_order.specs.Moving.Gather.{seen}
 use Rattle.bitstream_order.specs.Parts.{value_bytes}
-use Rattle.bitstream_stream.specs.ByteReads.{ByteSource, ByteReadEntry, BytesTaken, ByteReadOutcome, ByteReads, was_done, was_refused, memory_refused, given_bytes}
-use Rattle.bitstream_stream.proofs.ByteReadsLemmas.{bytes_none, bytes_more, bytes_taken, bytes_took}
-use Rattle.bitstream_stream.proofs.ReadsLemmas.{Consumes-known}
+use Rattle.bitstream_stream.specs.WholeBytes.ByteReads.{ByteSource, ByteReadEntry, BytesTaken, ByteReadOutcome, ByteReads, was_done, was_refused, memory_refused, given_bytes}
+use Rattle.bitstream_stream.proofs.WholeBytes.ByteReadsLemmas.{bytes_none, bytes_more, bytes_taken, bytes_took}
+use Rattle.bitstream_stream.proofs.Reading.ReadsLemmas.{Consumes-known}
 use Rattle.bitstream_value.specs.ByteSteps.{number_bytes}
 use Rattle.bitstream_value.specs.ByteTypes.{byte_chain, byte_gives, ByteReadsOwn}
 

@@ -7,8 +7,8 @@ use Rattle.bitstream_count.specs.declared.error.Error.{Error}
 use Rattle.bitstream_count.specs.declared.error.Error.TheVariants.{CounterOverflow}
 use Rattle.bitstream_count.specs.Entry.{result_then}
 use Rattle.bitstream_order.specs.Refusal.{Refusal}
-use Rattle.bitstream_stream.specs.Sink.{IsPastLimit, IsWithin}
-use Rattle.bitstream_stream.specs.ByteSink.{ByteSink, ByteWrites, past_limit, was_refused, was_done}
+use Rattle.bitstream_stream.specs.Writing.Sink.{IsPastLimit, IsWithin}
+use Rattle.bitstream_stream.specs.WholeBytes.ByteSink.{ByteSink, ByteWrites, past_limit, was_refused, was_done}
 use Rattle.bitstream_value.specs.ByteTypes.{byte_counter_sink, ByteWritesAll, ByteWritesOwn, total_length, held_by, CountsBytes}
 use Rattle.bitstream_value.specs.Lengths.{in_place, number_of, IsNumberWithin}
 use Rattle.bitstream_value.specs.Own.{OwnAnswer, same_error}

@@ -8,17 +8,17 @@ use Rattle.bitstream_count.specs.declared.error.Error.TheVariants.{Failed, NoSig
 use Rattle.bitstream_count.specs.Entry.{ReadEntry, Takes, chain, word_front, gives}
 use Rattle.bitstream_number.specs.Word.{Order, word, number, signed_word, signed_number, signed_from, FitsSignedBits}
 use Rattle.bitstream_number.proofs.WordLemmas.{number-lt, half}
-use Rattle.bitstream_stream.specs.ReadTable.{unsigned_entry, signed_entry}
-use Rattle.bitstream_order.specs.Gather.{seen}
-use Rattle.bitstream_stream.specs.Reads.{BitSource, Reads, ReadDone}
-use Rattle.bitstream_stream.specs.Sink.{Sink, Writes}
-use Rattle.bitstream_stream.specs.WriteTable.{plain, unsigned, signed}
-use Rattle.bitstream_stream.proofs.EntryLemmas.{split, word_front-some, word_front-none}
-use Rattle.bitstream_stream.proofs.ReadsLemmas.{Reads-chain-ok, Reads-gives, exit, ok_front}
-use Rattle.bitstream_stream.proofs.SignedLemmas.{unsigned-within, unsigned-below}
-use Rattle.bitstream_stream.proofs.SinkLemmas.{restate}
-use Rattle.bitstream_stream.proofs.TableLemmas.{signed-none}
-use Rattle.bitstream_stream.proofs.WriteLemmas.{unsigned-fits, signed-accepts}
+use Rattle.bitstream_stream.specs.Reading.ReadTable.{unsigned_entry, signed_entry}
+use Rattle.bitstream_order.specs.Moving.Gather.{seen}
+use Rattle.bitstream_stream.specs.Reading.Reads.{BitSource, Reads, ReadDone}
+use Rattle.bitstream_stream.specs.Writing.Sink.{Sink, Writes}
+use Rattle.bitstream_stream.specs.Writing.WriteTable.{plain, unsigned, signed}
+use Rattle.bitstream_stream.proofs.Reading.EntryLemmas.{split, word_front-some, word_front-none}
+use Rattle.bitstream_stream.proofs.Reading.ReadsLemmas.{Reads-chain-ok, Reads-gives, exit, ok_front}
+use Rattle.bitstream_stream.proofs.Reading.SignedLemmas.{unsigned-within, unsigned-below}
+use Rattle.bitstream_stream.proofs.Writing.SinkLemmas.{restate}
+use Rattle.bitstream_stream.proofs.Reading.TableLemmas.{signed-none}
+use Rattle.bitstream_stream.proofs.Writing.WriteLemmas.{unsigned-fits, signed-accepts}
 use Rattle.bitstream_value.specs.Checked.{checked_entry, signed_checked_entry, KeptWith}
 use Rattle.bitstream_value.proofs.BackLemmas.{signed-word}
 

@@ -4,10 +4,10 @@ use Rattle.std.proofs.Common.{◌≡◌, ℕ, ◌+◌, ◌^◌, ◌<◌, ◌≤�
 use Rattle.std.proofs.lemmas.Int.{ints}
 use Rattle.bitstream_count.specs.declared.error.Error.{Error}
 use Rattle.bitstream_number.specs.Word.{Order, FitsSignedBits}
-use Rattle.bitstream_order.specs.Gather.{seen}
-use Rattle.bitstream_stream.specs.ReadTable.{unsigned_entry, signed_entry}
-use Rattle.bitstream_stream.specs.Reads.{BitSource, Reads}
-use Rattle.bitstream_stream.proofs.SignedLemmas.{unsigned-below}
+use Rattle.bitstream_order.specs.Moving.Gather.{seen}
+use Rattle.bitstream_stream.specs.Reading.ReadTable.{unsigned_entry, signed_entry}
+use Rattle.bitstream_stream.specs.Reading.Reads.{BitSource, Reads}
+use Rattle.bitstream_stream.proofs.Reading.SignedLemmas.{unsigned-below}
 use Rattle.bitstream_value.specs.NonZero.{number_or_zero}
 use Rattle.bitstream_value.specs.Signed.{InSignedRange}
 use Rattle.bitstream_value.proofs.CheckedLemmas.{signed-holds}

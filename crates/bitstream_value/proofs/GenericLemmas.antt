@@ -2,7 +2,7 @@
 use Rattle.std.proofs.Common.{◌≡◌, Bool, true, false, Result, Ok, Err, refl, Continue}
 use Rattle.bitstream_count.specs.declared.error.Error.{Error}
 use Rattle.bitstream_count.specs.Entry.{ReadEntry, chain, gives}
-use Rattle.bitstream_stream.specs.Reads.{BitSource}
+use Rattle.bitstream_stream.specs.Reading.Reads.{BitSource}
 use Rattle.bitstream_value.specs.Own.{part_then}
 use Rattle.bitstream_value.proofs.OwnSteps.{then_part, part_stops, own_end}
 use Rattle.bitstream_value.specs.Grows.{OwnReads}

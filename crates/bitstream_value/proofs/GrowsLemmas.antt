@@ -7,12 +7,12 @@ use Rattle.bitstream_count.specs.declared.error.Error.{Error}
 use Rattle.bitstream_count.specs.declared.error.Error.TheVariants.{OutOfMemory}
 use Rattle.bitstream_count.specs.Entry.{ReadEntry, chain, gives}
 use Rattle.bitstream_number.specs.Word.{Order, bits}
-use Rattle.bitstream_order.specs.Gather.{seen}
+use Rattle.bitstream_order.specs.Moving.Gather.{seen}
 use Rattle.bitstream_order.specs.Refusal.{TrueEnds}
-use Rattle.bitstream_stream.proofs.SliceLemmas.{Reads-answer}
-use Rattle.bitstream_stream.specs.Reads.{sure_answer, is_run_too_long, ReaderState, BitSource, Reads, ReadsGrowing, had_failed, was_done, was_refused, memory_refused}
-use Rattle.bitstream_stream.proofs.EntryLemmas.{chain-none, chain-ok}
-use Rattle.bitstream_stream.proofs.ReadsLemmas.{Took-trans, took, Behind, Behind-needs, Reads-chain-ok, Reads-chain-err, Reads-gives, Reads-growing, none_needed}
+use Rattle.bitstream_stream.proofs.Reading.SliceLemmas.{Reads-answer}
+use Rattle.bitstream_stream.specs.Reading.Reads.{sure_answer, is_run_too_long, ReaderState, BitSource, Reads, ReadsGrowing, had_failed, was_done, was_refused, memory_refused}
+use Rattle.bitstream_stream.proofs.Reading.EntryLemmas.{chain-none, chain-ok}
+use Rattle.bitstream_stream.proofs.Reading.ReadsLemmas.{Took-trans, took, Behind, Behind-needs, Reads-chain-ok, Reads-chain-err, Reads-gives, Reads-growing, none_needed}
 use Rattle.bitstream_value.specs.Own.{OwnAnswer, ReadsOwn, part_then, same_error, plain_reads}
 use Rattle.bitstream_value.proofs.OwnLemmas.{is_error, joined, front_short, never_own, read_by}
 use Rattle.bitstream_value.specs.Grows.{GrowthRefused, GrowingOutcome, by_reads, between_reads, GrowsOwn, OwnReads, parts_entry, PartsRead}

@@ -9,7 +9,7 @@ use Rattle.bitstream_count.specs.declared.error.Error.{Error}
 use Rattle.bitstream_count.specs.declared.error.Error.TheVariants.{CounterOverflow}
 use Rattle.bitstream_count.specs.Entry.{WriteEntry, result_then}
 use Rattle.bitstream_order.specs.Refusal.{Refusal}
-use Rattle.bitstream_stream.specs.Sink.{Sink, Writes, WritesAll, IsPastLimit, IsWithin, had_failed, was_rejected, past_limit, was_refused, was_done}
+use Rattle.bitstream_stream.specs.Writing.Sink.{Sink, Writes, WritesAll, IsPastLimit, IsWithin, had_failed, was_rejected, past_limit, was_refused, was_done}
 use Rattle.bitstream_value.specs.Lengths.{counted_bits, run_length, HasOneLength, in_place, number_of, CountsBits, IsNumberWithin}
 use Rattle.bitstream_value.specs.Own.{OwnAnswer, WritesOwn}
 

@@ -5,7 +5,7 @@ use Rattle.bitstream_count.specs.declared.error.Error.{Error}
 use Rattle.bitstream_count.specs.Entry.{WriteEntry, result_then}
 use Rattle.bitstream_number.specs.Word.{Order, bytes, word}
 use Rattle.bitstream_number.proofs.WordLemmas.{length-bits, length-word}
-use Rattle.bitstream_stream.specs.WriteTable.{bit, buffer, plain, unsigned}
+use Rattle.bitstream_stream.specs.Writing.WriteTable.{bit, buffer, plain, unsigned}
 use Rattle.bitstream_value.specs.Lengths.{HasOneLength, number_of, run_length}
 
 -- at all places that are as far behind a whole byte, the words of two calls have one length, and those of two lists

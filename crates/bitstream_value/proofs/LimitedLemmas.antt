@@ -7,12 +7,12 @@ use Rattle.std.proofs.lemmas.List.{map-append}
 use mathlib.Core.Bool.{beq}
 use Rattle.bitstream_count.specs.Unary.{unary}
 use Rattle.bitstream_count.specs.declared.error.Error.{Error}
-use Rattle.bitstream_stream.specs.ReadTable.{bit_entry}
-use Rattle.bitstream_stream.specs.Reads.{BitSource, Reads}
-use Rattle.bitstream_stream.specs.Sink.{Sink, Writes, WritesAll}
-use Rattle.bitstream_stream.specs.WriteTable.{bit}
-use Rattle.bitstream_stream.proofs.ReadsLemmas.{Reads-chain-ok, Reads-gives, exit}
-use Rattle.bitstream_stream.proofs.WriteParts.{all_none, all_one, all_err, all_more, all_append, all_stop}
+use Rattle.bitstream_stream.specs.Reading.ReadTable.{bit_entry}
+use Rattle.bitstream_stream.specs.Reading.Reads.{BitSource, Reads}
+use Rattle.bitstream_stream.specs.Writing.Sink.{Sink, Writes, WritesAll}
+use Rattle.bitstream_stream.specs.Writing.WriteTable.{bit}
+use Rattle.bitstream_stream.proofs.Reading.ReadsLemmas.{Reads-chain-ok, Reads-gives, exit}
+use Rattle.bitstream_stream.proofs.Writing.WriteParts.{all_none, all_one, all_err, all_more, all_append, all_stop}
 use Rattle.bitstream_value.specs.LimitedUnary.{limited_unary, limited_tree}
 use Rattle.bitstream_value.specs.Tree.{leaf, node, IsPath, path_entry, bit_by_bit}
 use Rattle.bitstream_value.proofs.TreeLemmas.{path_entry-leaf, path_entry-node}

@@ -9,12 +9,12 @@ use Rattle.bitstream_count.specs.declared.error.Error.{Error}
 use Rattle.bitstream_count.specs.declared.error.Error.TheVariants.{NonZeroWidth, VariableWidthOverflow}
 use Rattle.bitstream_count.specs.Entry.{refuses, gives}
 use Rattle.bitstream_number.specs.Word.{Order}
-use Rattle.bitstream_stream.specs.ReadTable.{unsigned_entry, vbr_entry}
-use Rattle.bitstream_stream.specs.Reads.{BitSource, Reads}
-use Rattle.bitstream_stream.specs.Sink.{Sink, WritesAll, Writes}
-use Rattle.bitstream_stream.specs.WriteTable.{unsigned}
-use Rattle.bitstream_stream.proofs.ReadsLemmas.{Reads-chain-ok, Reads-chain-err, Reads-gives, exit}
-use Rattle.bitstream_stream.proofs.VbrReads.{limit-stops, limit-holds, limit-passed}
+use Rattle.bitstream_stream.specs.Reading.ReadTable.{unsigned_entry, vbr_entry}
+use Rattle.bitstream_stream.specs.Reading.Reads.{BitSource, Reads}
+use Rattle.bitstream_stream.specs.Writing.Sink.{Sink, WritesAll, Writes}
+use Rattle.bitstream_stream.specs.Writing.WriteTable.{unsigned}
+use Rattle.bitstream_stream.proofs.Reading.ReadsLemmas.{Reads-chain-ok, Reads-chain-err, Reads-gives, exit}
+use Rattle.bitstream_stream.proofs.Reading.VbrReads.{limit-stops, limit-holds, limit-passed}
 use Rattle.bitstream_value.specs.NonZero.{non_zero_entry, non_zero, non_zero_vbr_entry, if_any, option_entry, option_vbr_entry}
 
 module _ {A : Type 0} (after : ℕ → A) where

@@ -3,9 +3,9 @@ use Rattle.std.proofs.Common.{◌≡◌, ℕ, ◌+◌, Bool, true, false, List, 
 use Rattle.std.specs.Result.{IsErrAnd}
 use Rattle.bitstream_count.specs.declared.error.Error.{Error}
 use Rattle.bitstream_count.specs.Entry.{Front, TooFew, Takes, ReadEntry, WriteEntry, chain, front_then, result_then}
-use Rattle.bitstream_stream.specs.Reads.{BitSource, Reads, ReadOutcome, ReadsConst, ConstAnswer, is_run_too_long, had_failed, was_done, was_refused, memory_refused}
-use Rattle.bitstream_stream.specs.Sink.{Sink, WritesAll}
-use Rattle.bitstream_stream.proofs.ReadsLemmas.{Reads-chain-ok, Reads-chain-err, Reads-gives, Reads-behind, Begun-nil, none_needed}
+use Rattle.bitstream_stream.specs.Reading.Reads.{BitSource, Reads, ReadOutcome, ReadsConst, ConstAnswer, is_run_too_long, had_failed, was_done, was_refused, memory_refused}
+use Rattle.bitstream_stream.specs.Writing.Sink.{Sink, WritesAll}
+use Rattle.bitstream_stream.proofs.Reading.ReadsLemmas.{Reads-chain-ok, Reads-chain-err, Reads-gives, Reads-behind, Begun-nil, none_needed}
 use Rattle.bitstream_value.specs.Own.{OwnAnswer, ReadsOwn, WritesOwn, same_error, plain_reads, must_hold}
 
 -- reads that have no error but the reader's

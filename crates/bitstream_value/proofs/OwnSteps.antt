@@ -10,13 +10,13 @@ use Rattle.std.specs.declared.ops.ControlFlow.{ControlFlow}
 use Rattle.bitstream_count.specs.declared.error.Error.{Error}
 use Rattle.bitstream_count.specs.Entry.{ReadEntry, WriteEntry, chain, gives}
 use Rattle.bitstream_number.specs.Word.{Order}
-use Rattle.bitstream_stream.specs.Reads.{BitSource, Reads}
-use Rattle.bitstream_stream.specs.ReadTable.{signed_entry}
-use Rattle.bitstream_stream.specs.Sink.{Sink, Writes, WritesAll}
-use Rattle.bitstream_stream.proofs.ReadsLemmas.{Reads-chain-ok, Reads-chain-err, Reads-gives}
-use Rattle.bitstream_stream.proofs.WriteParts.{all_none, all_err, all_more, one_of_all}
+use Rattle.bitstream_stream.specs.Reading.Reads.{BitSource, Reads}
+use Rattle.bitstream_stream.specs.Reading.ReadTable.{signed_entry}
+use Rattle.bitstream_stream.specs.Writing.Sink.{Sink, Writes, WritesAll}
+use Rattle.bitstream_stream.proofs.Reading.ReadsLemmas.{Reads-chain-ok, Reads-chain-err, Reads-gives}
+use Rattle.bitstream_stream.proofs.Writing.WriteParts.{all_none, all_err, all_more, one_of_all}
 use Rattle.bitstream_value.specs.Own.{OwnAnswer, ReadsOwn, WritesOwn, part_then}
-use Rattle.bitstream_stream.specs.WriteTable.{signed}
+use Rattle.bitstream_stream.specs.Writing.WriteTable.{signed}
 use Rattle.bitstream_value.proofs.OwnLemmas.{is_error}
 use Rattle.bitstream_value.proofs.ReadSteps.{width_of}
 use Rattle.bitstream_value.proofs.WriteSteps.{signed_call, signed_value}

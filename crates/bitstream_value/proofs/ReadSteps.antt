@@ -17,12 +17,12 @@ use Rattle.bitstream_count.specs.Entry.{ReadEntry, TooFew, Takes, chain, gives}
 use Rattle.bitstream_number.specs.Word.{Order, number, signed_number, bits}
 use Rattle.bitstream_number.proofs.WordLemmas.{length-bits}
 use Rattle.bitstream_order.specs.Refusal.{TrueEnds}
-use Rattle.bitstream_stream.specs.Reader.{new_reader_state}
-use Rattle.bitstream_stream.specs.Reads.{BitSource, Reads, sure_answer}
-use Rattle.bitstream_stream.specs.ReadTable.{first_bit, bit_entry, unsigned_entry, signed_entry}
-use Rattle.bitstream_stream.proofs.EntryLemmas.{chain-ok, chain-none}
-use Rattle.bitstream_stream.proofs.ReadsLemmas.{Reads-chain-ok, Reads-gives, exit}
-use Rattle.bitstream_stream.proofs.SliceLemmas.{new_answer}
+use Rattle.bitstream_stream.specs.Reading.Reader.{new_reader_state}
+use Rattle.bitstream_stream.specs.Reading.Reads.{BitSource, Reads, sure_answer}
+use Rattle.bitstream_stream.specs.Reading.ReadTable.{first_bit, bit_entry, unsigned_entry, signed_entry}
+use Rattle.bitstream_stream.proofs.Reading.EntryLemmas.{chain-ok, chain-none}
+use Rattle.bitstream_stream.proofs.Reading.ReadsLemmas.{Reads-chain-ok, Reads-gives, exit}
+use Rattle.bitstream_stream.proofs.Reading.SliceLemmas.{new_answer}
 use Rattle.bitstream_value.specs.NonZero.{non_zero_entry, if_any, option_entry}
 use Rattle.bitstream_value.specs.Boolean.{truth_entry}
 use Rattle.bitstream_value.proofs.BackLemmas.{bit-word, signed-word}

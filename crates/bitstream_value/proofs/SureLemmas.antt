@@ -11,12 +11,12 @@ use Rattle.bitstream_count.specs.Entry.{ReadEntry, Front, TooFew, Takes, word_fr
 use Rattle.bitstream_number.specs.Word.{Order, number, bits}
 use Rattle.bitstream_number.proofs.WordLemmas.{length-bits}
 use Rattle.bitstream_order.specs.Refusal.{TrueEnds}
-use Rattle.bitstream_stream.specs.ReadTable.{first_bit, unsigned_entry}
-use Rattle.bitstream_stream.specs.Reader.{new_reader_state}
-use Rattle.bitstream_stream.specs.Reads.{BitSource, Reads}
-use Rattle.bitstream_stream.proofs.EntryLemmas.{chain_takes, map_takes}
-use Rattle.bitstream_stream.proofs.SliceLemmas.{new_answer}
-use Rattle.bitstream_stream.proofs.TableLemmas.{unsigned-takes}
+use Rattle.bitstream_stream.specs.Reading.ReadTable.{first_bit, unsigned_entry}
+use Rattle.bitstream_stream.specs.Reading.Reader.{new_reader_state}
+use Rattle.bitstream_stream.specs.Reading.Reads.{BitSource, Reads}
+use Rattle.bitstream_stream.proofs.Reading.EntryLemmas.{chain_takes, map_takes}
+use Rattle.bitstream_stream.proofs.Reading.SliceLemmas.{new_answer}
+use Rattle.bitstream_stream.proofs.Reading.TableLemmas.{unsigned-takes}
 use Rattle.bitstream_value.specs.Array.{items_entry, words}
 use Rattle.bitstream_value.specs.NonZero.{non_zero_entry, if_any, option_entry}
 use Rattle.bitstream_value.specs.Boolean.{truth_entry}

@@ -5,10 +5,10 @@ use Rattle.std.specs.Option.{option_map}
 use Rattle.std.proofs.lemmas.Bool.{le-leb}
 use Rattle.bitstream_count.specs.declared.error.Error.{Error}
 use Rattle.bitstream_count.specs.Entry.{Front, TooFew, Takes, longer, chain, gives}
-use Rattle.bitstream_stream.specs.ReadTable.{bit_entry}
-use Rattle.bitstream_stream.proofs.EntryLemmas.{chain-ok, chain-none}
+use Rattle.bitstream_stream.specs.Reading.ReadTable.{bit_entry}
+use Rattle.bitstream_stream.proofs.Reading.EntryLemmas.{chain-ok, chain-none}
 use Rattle.bitstream_value.specs.Tree.{Tree, leaf, node, IsPath, path_entry, IsBefore, IsFirstPath, or_else, first_path, symbol_word}
-use Rattle.bitstream_stream.proofs.UnaryReads.{bit_front}
+use Rattle.bitstream_stream.proofs.Reading.UnaryReads.{bit_front}
 
 abbrev none : Option (List Bool)
 none = None

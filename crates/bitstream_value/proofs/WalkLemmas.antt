@@ -5,12 +5,12 @@ use Rattle.std.specs.Result.{IsErrAnd}
 use Rattle.std.proofs.lemmas.Bool.{cases_lt}
 use Rattle.std.proofs.lemmas.Option.{slice_get_read}
 use Rattle.bitstream_count.specs.declared.error.Error.{Error}
-use Rattle.bitstream_stream.specs.ReadTable.{bit_entry}
-use Rattle.bitstream_stream.specs.Reads.{BitSource, Reads}
-use Rattle.bitstream_stream.specs.Sink.{Sink, Writes, WritesAll}
-use Rattle.bitstream_stream.specs.WriteTable.{bit}
-use Rattle.bitstream_stream.proofs.ReadsLemmas.{Reads-chain-ok, Reads-gives, exit}
-use Rattle.bitstream_stream.proofs.WriteParts.{all_none, all_err, all_more}
+use Rattle.bitstream_stream.specs.Reading.ReadTable.{bit_entry}
+use Rattle.bitstream_stream.specs.Reading.Reads.{BitSource, Reads}
+use Rattle.bitstream_stream.specs.Writing.Sink.{Sink, Writes, WritesAll}
+use Rattle.bitstream_stream.specs.Writing.WriteTable.{bit}
+use Rattle.bitstream_stream.proofs.Reading.ReadsLemmas.{Reads-chain-ok, Reads-gives, exit}
+use Rattle.bitstream_stream.proofs.Writing.WriteParts.{all_none, all_err, all_more}
 use Rattle.bitstream_value.specs.Nodes.{HasSymbol, IsFirstPlace, FindsFirst}
 use Rattle.bitstream_value.specs.Tree.{Tree, node, path_entry, symbol_word, bit_by_bit}
 use Rattle.bitstream_value.specs.declared.huffman.tree.Node.{Node}

@@ -11,10 +11,10 @@ use mir.Val.{bool_byte}
 use Rattle.bitstream_count.specs.declared.error.Error.{Error}
 use Rattle.bitstream_number.specs.Word.{High, digits, word}
 use Rattle.bitstream_number.proofs.WordLemmas.{digits-add, word_cat}
-use Rattle.bitstream_stream.specs.Sink.{Sink, Writes, WritesAll, had_failed, was_rejected, past_limit, was_refused, was_done}
-use Rattle.bitstream_stream.specs.WriteTable.{bit}
-use Rattle.bitstream_stream.proofs.WriteParts.{all_append, all_err, all_one}
-use Rattle.bitstream_stream.proofs.WriterLemmas.{one_word}
+use Rattle.bitstream_stream.specs.Writing.Sink.{Sink, Writes, WritesAll, had_failed, was_rejected, past_limit, was_refused, was_done}
+use Rattle.bitstream_stream.specs.Writing.WriteTable.{bit}
+use Rattle.bitstream_stream.proofs.Writing.WriteParts.{all_append, all_err, all_one}
+use Rattle.bitstream_stream.proofs.Writing.WriterLemmas.{one_word}
 use Rattle.bitstream_value.specs.SymbolWords.{short_bits, short_sink, found_word, or_word}
 use Rattle.bitstream_value.specs.Tree.{Tree, leaf, node, bit_by_bit, first_path, symbol_word, or_nothing}
 use Rattle.bitstream_value.specs.declared.huffman.tree.words.ShortWord.{ShortWord}

@@ -11,18 +11,18 @@ use Rattle.std.specs.declared.io.ErrorKind.{ErrorKind}
 use Rattle.bitstream_count.specs.declared.error.Error.{Error}
 use Rattle.bitstream_count.specs.Entry.{WriteEntry}
 use Rattle.bitstream_number.specs.Word.{Order, bits}
-use Rattle.bitstream_stream.specs.declared.writer.BitWriter.{BitWriter}
-use Rattle.bitstream_stream.specs.Carries.{WriterState}
+use Rattle.bitstream_stream.specs.declared.write.writer.BitWriter.{BitWriter}
+use Rattle.bitstream_stream.specs.Writing.Carries.{WriterState}
 use Rattle.bitstream_stream.specs.Run.{accepted, write_run}
-use Rattle.bitstream_stream.specs.Sink.{Sink, Writes, WritesAll, Appended, had_failed, was_rejected, past_limit, was_refused, was_done}
-use Rattle.bitstream_stream.specs.Writer.{writer_state, new_writer_state, writer_sink, AddsBits}
-use Rattle.bitstream_stream.proofs.WriteParts.{all_append, all_none, all_err, all_more, all_one, one_of_all}
-use Rattle.bitstream_stream.proofs.WriteLemmas.{padded}
-use Rattle.bitstream_stream.proofs.WriterLemmas.{adds_bits}
+use Rattle.bitstream_stream.specs.Writing.Sink.{Sink, Writes, WritesAll, Appended, had_failed, was_rejected, past_limit, was_refused, was_done}
+use Rattle.bitstream_stream.specs.Writing.Writer.{writer_state, new_writer_state, writer_sink, AddsBits}
+use Rattle.bitstream_stream.proofs.Writing.WriteParts.{all_append, all_none, all_err, all_more, all_one, one_of_all}
+use Rattle.bitstream_stream.proofs.Writing.WriteLemmas.{padded}
+use Rattle.bitstream_stream.proofs.Writing.WriterLemmas.{adds_bits}
 use Rattle.bitstream_stream.specs.Alignment.{to_boundary}
-use Rattle.bitstream_stream.specs.WriteTable.{align, signed}
+use Rattle.bitstream_stream.specs.Writing.WriteTable.{align, signed}
 use Rattle.std.proofs.lemmas.List.{length-replicate}
-pub use Rattle.bitstream_stream.proofs.ReadsLemmas.{first_name}
+pub use Rattle.bitstream_stream.proofs.Reading.ReadsLemmas.{first_name}
 
 -- ---- what a function did that wrote
 

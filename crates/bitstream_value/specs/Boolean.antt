@@ -2,8 +2,8 @@
 use Rattle.std.specs.Prelude.{ℕ, ◌==◌, if◌then◌else◌, Bool, Err}
 use Rattle.bitstream_count.specs.declared.error.Error.TheVariants.{BoolWidth}
 use Rattle.bitstream_count.specs.Entry.{ReadEntry, WriteEntry, refuses}
-use Rattle.bitstream_stream.specs.ReadTable.{bit_entry}
-use Rattle.bitstream_stream.specs.WriteTable.{bit}
+use Rattle.bitstream_stream.specs.Reading.ReadTable.{bit_entry}
+use Rattle.bitstream_stream.specs.Writing.WriteTable.{bit}
 
 -- a `bool` that is read in n bits
 unfoldable pub truth_entry : ℕ → ReadEntry Bool

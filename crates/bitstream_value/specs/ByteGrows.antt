@@ -3,7 +3,7 @@ use Rattle.std.specs.Prelude.{◌≡◌, ℕ, zero, suc, Bool, true, false, List
 use Rattle.bitstream_count.specs.declared.error.Error.{Error}
 use Rattle.bitstream_count.specs.declared.error.Error.TheVariants.{OutOfMemory}
 use Rattle.bitstream_count.specs.Entry.{TooFew}
-use Rattle.bitstream_stream.specs.ByteReads.{ByteReaderState, ByteSource, ByteReadEntry, BytesTaken, ByteReadsGrowing}
+use Rattle.bitstream_stream.specs.WholeBytes.ByteReads.{ByteReaderState, ByteSource, ByteReadEntry, BytesTaken, ByteReadsGrowing}
 use Rattle.bitstream_value.specs.Own.{OwnErrors}
 use Rattle.bitstream_value.specs.ByteTypes.{byte_chain, byte_gives, ByteReadsOwn}
 

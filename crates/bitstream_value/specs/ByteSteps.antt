@@ -1,7 +1,7 @@
 -- Reads of whole bytes one after another, as the lines of a `do` block.
 use Rattle.std.specs.Prelude.{ℕ}
 use Rattle.bitstream_number.specs.Word.{Order, number, bits}
-use Rattle.bitstream_stream.specs.ByteReads.{ByteReadEntry, given_bytes}
+use Rattle.bitstream_stream.specs.WholeBytes.ByteReads.{ByteReadEntry, given_bytes}
 use Rattle.bitstream_value.specs.ByteTypes.{byte_chain, byte_gives}
 
 infixl 10 ◌>>=◌

@@ -5,8 +5,8 @@ use Rattle.bitstream_number.specs.Word.{Order, High}
 use Rattle.bitstream_count.specs.declared.error.Error.{Error}
 use Rattle.bitstream_count.specs.declared.error.Error.TheVariants.{CounterOverflow}
 use Rattle.bitstream_count.specs.Entry.{Takes, front_then}
-use Rattle.bitstream_stream.specs.ByteReads.{ByteSource, ByteReadEntry, ByteReads}
-use Rattle.bitstream_stream.specs.ByteSink.{ByteSink, ByteWrites}
+use Rattle.bitstream_stream.specs.WholeBytes.ByteReads.{ByteSource, ByteReadEntry, ByteReads}
+use Rattle.bitstream_stream.specs.WholeBytes.ByteSink.{ByteSink, ByteWrites}
 use Rattle.bitstream_value.specs.Lengths.{in_place, number_of}
 use Rattle.bitstream_value.specs.Own.{OwnAnswer, OwnErrors}
 

@@ -2,7 +2,7 @@
 use Rattle.std.specs.Prelude.{◌≡◌, ℕ, ℤ, pos, Result, Err, IsOkAnd, MatchResult}
 use Rattle.bitstream_count.specs.Entry.{ReadEntry, chain, gives}
 use Rattle.bitstream_number.specs.Word.{Order}
-use Rattle.bitstream_stream.specs.ReadTable.{unsigned_entry, signed_entry}
+use Rattle.bitstream_stream.specs.Reading.ReadTable.{unsigned_entry, signed_entry}
 
 -- an unsigned number of n bits, read into a type of `size` bits: the answer is the given count, and the number
 unfoldable pub checked_entry : {C : Type 0} → C → Order → ℕ → ℕ → ReadEntry (C × ℤ)

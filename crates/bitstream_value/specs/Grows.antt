@@ -4,8 +4,8 @@ use Rattle.bitstream_count.specs.declared.error.Error.{Error}
 use Rattle.bitstream_count.specs.declared.error.Error.TheVariants.{OutOfMemory}
 use Rattle.bitstream_count.specs.Entry.{ReadEntry, TooFew, chain, gives}
 use Rattle.bitstream_number.specs.Word.{Order}
-use Rattle.bitstream_stream.specs.Reads.{ReaderState, BitSource, ReadsGrowing}
-use Rattle.bitstream_stream.proofs.ReadsLemmas.{Took}
+use Rattle.bitstream_stream.specs.Reading.Reads.{ReaderState, BitSource, ReadsGrowing}
+use Rattle.bitstream_stream.proofs.Reading.ReadsLemmas.{Took}
 use Rattle.bitstream_value.specs.Own.{OwnErrors, ReadsOwn, part_then}
 
 -- Memory was refused between the reads of a call. The reader stands behind a word, and no proper beginning of the word

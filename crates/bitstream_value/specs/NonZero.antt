@@ -5,8 +5,8 @@ use Rattle.std.proofs.Common.{ap, subst}
 use Rattle.bitstream_count.specs.declared.error.Error.TheVariants.{NonZeroWidth}
 use Rattle.bitstream_count.specs.Entry.{ReadEntry, WriteEntry, chain, refuses, gives}
 use Rattle.bitstream_number.specs.Word.{Order}
-use Rattle.bitstream_stream.specs.ReadTable.{unsigned_entry, vbr_entry}
-use Rattle.bitstream_stream.specs.WriteTable.{unsigned}
+use Rattle.bitstream_stream.specs.Reading.ReadTable.{unsigned_entry, vbr_entry}
+use Rattle.bitstream_stream.specs.Writing.WriteTable.{unsigned}
 
 -- a `NonZero` v, of a type of `size` bits, is read as v - 1; `after` gives the value of v + 1
 unfoldable pub non_zero_entry : {A : Type 0} → (ℕ → A) → Order → ℕ → ℕ → ReadEntry A

@@ -3,8 +3,8 @@ use Rattle.std.specs.Prelude.{if◌then◌else◌, Bool, ◌≡◌, List, Result
 use Rattle.std.specs.Result.{IsErrAnd}
 use Rattle.bitstream_count.specs.declared.error.Error.{Error}
 use Rattle.bitstream_count.specs.Entry.{ReadEntry, WriteEntry, chain, gives}
-use Rattle.bitstream_stream.specs.Reads.{BitSource, Reads}
-use Rattle.bitstream_stream.specs.Sink.{Sink, WritesAll}
+use Rattle.bitstream_stream.specs.Reading.Reads.{BitSource, Reads}
+use Rattle.bitstream_stream.specs.Writing.Sink.{Sink, WritesAll}
 
 -- what such a call answers: what it makes of the value that the calls of the stream answered, or their error as it
 -- becomes one of its own

@@ -3,7 +3,7 @@ use Rattle.std.specs.Prelude.{◌≡◌, ℕ, ◌+◌, Bool, false, List, [], �
 use Rattle.std.proofs.Common.{sym, ap, ◌∙◌, refl, arith, append-nil, append_assoc, length-append}
 use Rattle.bitstream_number.specs.Word.{High, word}
 use Rattle.bitstream_number.proofs.WordLemmas.{length-word}
-use Rattle.bitstream_stream.specs.Sink.{Sink}
+use Rattle.bitstream_stream.specs.Writing.Sink.{Sink}
 use Rattle.bitstream_value.specs.HuffmanTree.{tree_of}
 use Rattle.bitstream_value.specs.Tree.{symbol_word}
 use Rattle.bitstream_value.specs.declared.huffman.tree.words.ShortWord.{ShortWord}

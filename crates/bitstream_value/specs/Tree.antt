@@ -1,8 +1,8 @@
 -- Prefix codes: trees of symbols, whose words are the paths to the leaves.
 use Rattle.std.specs.Prelude.{◌≡◌, ◌⊎◌, Bool, true, false, List, [], ◌∷◌, map, Option, Some, None, option_map, if◌then◌else◌}
 use Rattle.bitstream_count.specs.Entry.{ReadEntry, WriteEntry, chain, gives}
-use Rattle.bitstream_stream.specs.ReadTable.{bit_entry}
-use Rattle.bitstream_stream.specs.WriteTable.{bit}
+use Rattle.bitstream_stream.specs.Reading.ReadTable.{bit_entry}
+use Rattle.bitstream_stream.specs.Writing.WriteTable.{bit}
 
 -- a leaf with its symbol; or a branch, of which the bit 0 leads to the first side and the bit 1 to the second
 pub data Tree (S : Type 0) : Type 0 where

@@ -7,7 +7,7 @@ ghost use Rattle.bitstream_value.specs.ByteTypes.{ByteWritesOwn, CountsBytes};
 use crate::byte_counter::BytesWritten;
 use bitstream_count::error::Error;
 use bitstream_sink::counter::Counter;
-use bitstream_stream::byte_write::ByteWrite;
+use bitstream_stream::bytes::byte_write::ByteWrite;
 
 /// A type whose values are written as whole bytes.
 /// [`build`](crate::byte_write::ByteWriteExt::build) writes them to any sink of bytes.

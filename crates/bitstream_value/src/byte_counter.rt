@@ -6,7 +6,7 @@ use bitstream_count::error::Error;
 use bitstream_number::number::Primitive;
 use bitstream_order::order::{BigEndian, Endianness};
 use bitstream_sink::counter::{Counter, Overflowed};
-use bitstream_stream::byte_write::ByteWrite;
+use bitstream_stream::bytes::byte_write::ByteWrite;
 
 /// Counts the bytes that are written to it and keeps none of them. If the sum is above the greatest
 /// number of N, a call answers `CounterOverflow` and adds nothing.
@@ -28,7 +28,7 @@ fn value_of<N: Counter>(number: usize) -> Result<N, Overflowed>
 }
 
 impl<N: Counter> BytesWritten<N> {
-    ghost use Rattle.bitstream_stream.specs.ByteSink.{ByteWrites};
+    ghost use Rattle.bitstream_stream.specs.WholeBytes.ByteSink.{ByteWrites};
 
     /// Returns a counter to which nothing was written.
     pub(crate) fn new() -> BytesWritten<N>

@@ -2,10 +2,10 @@
 ghost use Rattle.std.specs.Prelude.{Bool, false, Result};
 ghost use Rattle.bitstream_count.specs.declared.error.Error.{Error};
 ghost use Rattle.bitstream_number.specs.Word.{Order};
-ghost use Rattle.bitstream_stream.specs.ByteReads.{ByteReadEntry};
+ghost use Rattle.bitstream_stream.specs.WholeBytes.ByteReads.{ByteReadEntry};
 ghost use Rattle.bitstream_value.specs.ByteGrows.{ByteOwnReads};
 
-use bitstream_stream::byte_read::ByteRead;
+use bitstream_stream::bytes::byte_read::ByteRead;
 
 /// A type whose values are read from whole bytes. [`parse`](crate::byte_read::ByteReadExt::parse)
 /// reads them from any reader of bytes.

@@ -2,7 +2,7 @@
 ghost use Rattle.bitstream_value.specs.ByteGrows.{ByteOwnReads};
 
 use crate::byte_parse::{FromByteStream, FromByteStreamUsing, FromByteStreamWith};
-use bitstream_stream::byte_read::ByteRead;
+use bitstream_stream::bytes::byte_read::ByteRead;
 
 /// Reads values of types that say how they are read. Every reader of bytes has these calls.
 pub trait ByteReadExt: ByteRead {

@@ -2,7 +2,7 @@
 ghost use Rattle.bitstream_value.specs.ByteTypes.{ByteWritesOwn};
 
 use crate::byte_build::{ToByteStream, ToByteStreamUsing, ToByteStreamWith};
-use bitstream_stream::byte_write::ByteWrite;
+use bitstream_stream::bytes::byte_write::ByteWrite;
 
 /// Writes values of types that say how they are written. Every sink of bytes has these calls.
 pub trait ByteWriteExt: ByteWrite {

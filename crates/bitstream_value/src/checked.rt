@@ -2,10 +2,10 @@
 ghost use Rattle.std.specs.Prelude.{◌≡◌, ℤ, Bool, List, length, IfOk};
 ghost use Rattle.bitstream_count.specs.Entry.{ReadEntry};
 ghost use Rattle.bitstream_number.specs.Word.{Order};
-ghost use Rattle.bitstream_order.specs.Gather.{seen};
-ghost use Rattle.bitstream_stream.specs.Reads.{Reads};
-ghost use Rattle.bitstream_stream.specs.Sink.{Writes};
-ghost use Rattle.bitstream_stream.specs.WriteTable.{plain};
+ghost use Rattle.bitstream_order.specs.Moving.Gather.{seen};
+ghost use Rattle.bitstream_stream.specs.Reading.Reads.{Reads};
+ghost use Rattle.bitstream_stream.specs.Writing.Sink.{Writes};
+ghost use Rattle.bitstream_stream.specs.Writing.WriteTable.{plain};
 ghost use Rattle.bitstream_value.specs.Checked.{KeptWith};
 
 mod sealed;

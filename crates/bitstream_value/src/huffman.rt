@@ -1,10 +1,10 @@
 //! Prefix codes: each symbol is a word of bits, and no word is the beginning of another.
 ghost use Rattle.std.specs.Prelude.{Bool, List};
 ghost use Rattle.bitstream_count.specs.Entry.{ReadEntry};
-ghost use Rattle.bitstream_stream.specs.Reads.{BitSource, Reads};
-ghost use Rattle.bitstream_stream.specs.ReadTable.{bit_entry};
-ghost use Rattle.bitstream_stream.specs.Sink.{Sink, Writes, WritesAll};
-ghost use Rattle.bitstream_stream.specs.WriteTable.{bit};
+ghost use Rattle.bitstream_stream.specs.Reading.Reads.{BitSource, Reads};
+ghost use Rattle.bitstream_stream.specs.Reading.ReadTable.{bit_entry};
+ghost use Rattle.bitstream_stream.specs.Writing.Sink.{Sink, Writes, WritesAll};
+ghost use Rattle.bitstream_stream.specs.Writing.WriteTable.{bit};
 ghost use Rattle.bitstream_value.specs.Tree.{bit_by_bit};
 
 mod limited_unary;

@@ -2,8 +2,8 @@
 ghost use Rattle.std.specs.Prelude.{ℕ, List, IfOk};
 ghost use Rattle.bitstream_number.specs.Word.{Order};
 ghost use Rattle.bitstream_count.specs.Entry.{ReadEntry, WriteEntry};
-ghost use Rattle.bitstream_stream.specs.Reads.{Reads};
-ghost use Rattle.bitstream_stream.specs.Sink.{WritesAll};
+ghost use Rattle.bitstream_stream.specs.Reading.Reads.{Reads};
+ghost use Rattle.bitstream_stream.specs.Writing.Sink.{WritesAll};
 
 mod array;
 mod boolean;

@@ -15,7 +15,7 @@ ghost use Rattle.bitstream_value.specs.Tree.{Tree, IsPath, IsFirstPath, path_ent
 use crate::build::{ToBitStream, ToBitStreamUsing, ToBitStreamWith};
 use crate::byte_build::{ToByteStream, ToByteStreamUsing, ToByteStreamWith};
 use bitstream_sink::counter::Counter;
-use bitstream_stream::byte_write::ByteWrite;
+use bitstream_stream::bytes::byte_write::ByteWrite;
 use bitstream_stream::write::BitWrite;
 
 /// No path of a tree is the beginning of another one. A path is read back, whatever follows it. A

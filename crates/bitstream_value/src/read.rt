@@ -1,7 +1,7 @@
 //! Calls that read values of any type.
 ghost use Rattle.std.specs.Prelude.{IfOk};
-ghost use Rattle.bitstream_order.specs.Gather.{seen};
-ghost use Rattle.bitstream_stream.specs.Reads.{Reads};
+ghost use Rattle.bitstream_order.specs.Moving.Gather.{seen};
+ghost use Rattle.bitstream_stream.specs.Reading.Reads.{Reads};
 ghost use Rattle.bitstream_value.specs.Grows.{OwnReads};
 
 use crate::checked::CheckablePrimitive;

@@ -1,8 +1,8 @@
 //! Errors that read and write nothing, and come after `Failed`.
 ghost use Rattle.std.specs.Prelude.{◌≡◌, false, Err, IsErr};
 ghost use Rattle.bitstream_count.specs.Entry.{refuses};
-ghost use Rattle.bitstream_stream.specs.Reads.{Reads, is_run_too_long};
-ghost use Rattle.bitstream_stream.specs.Sink.{Writes};
+ghost use Rattle.bitstream_stream.specs.Reading.Reads.{Reads, is_run_too_long};
+ghost use Rattle.bitstream_stream.specs.Writing.Sink.{Writes};
 
 use bitstream_count::error::Error;
 use bitstream_stream::read::BitRead;

@@ -1,6 +1,6 @@
 //! Calls that write values of any type.
-ghost use Rattle.bitstream_stream.specs.Sink.{Writes, WritesAll};
-ghost use Rattle.bitstream_stream.specs.WriteTable.{plain};
+ghost use Rattle.bitstream_stream.specs.Writing.Sink.{Writes, WritesAll};
+ghost use Rattle.bitstream_stream.specs.Writing.WriteTable.{plain};
 ghost use Rattle.bitstream_value.specs.Own.{WritesOwn};
 ghost use Rattle.bitstream_value.specs.Tree.{bit_by_bit};
 

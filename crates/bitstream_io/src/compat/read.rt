@@ -1,10 +1,10 @@
 //! The older names of the calls of a reader of bits.
 ghost use Rattle.std.specs.Prelude.{◌≡◌, ◌%◌, ◌≤◌, ◌↔◌, true, false, length, Ok, IsTrue};
 ghost use Rattle.bitstream_order.specs.Parts.{value_bytes};
-ghost use Rattle.bitstream_order.specs.Gather.{seen};
-ghost use Rattle.bitstream_stream.specs.Reads.{BitSource, Reads, ReadsGrowing};
+ghost use Rattle.bitstream_order.specs.Moving.Gather.{seen};
+ghost use Rattle.bitstream_stream.specs.Reading.Reads.{BitSource, Reads, ReadsGrowing};
 ghost use Rattle.bitstream_value.specs.Grows.{OwnReads};
-ghost use Rattle.bitstream_stream.specs.ReadTable.{bit_entry, signed_entry, unary_entry, bytes_entry, skip_entry, align_entry};
+ghost use Rattle.bitstream_stream.specs.Reading.ReadTable.{bit_entry, signed_entry, unary_entry, bytes_entry, skip_entry, align_entry};
 
 use bitstream_count::error::Error;
 use bitstream_number::number::{Bits, Primitive, SignedInteger, Width};

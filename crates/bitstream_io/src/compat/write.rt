@@ -1,8 +1,8 @@
 //! The older names of the calls of a sink of bits.
 ghost use Rattle.std.specs.Prelude.{◌≡◌, ◌%◌, ◌≤◌, ◌↔◌, true, false, IsTrue};
 ghost use Rattle.bitstream_order.specs.Parts.{value_bytes};
-ghost use Rattle.bitstream_stream.specs.Sink.{Sink, Writes, WritesAll};
-ghost use Rattle.bitstream_stream.specs.WriteTable.{bit as one_bit, unsigned, signed, buffer, zeros, unary_word, align};
+ghost use Rattle.bitstream_stream.specs.Writing.Sink.{Sink, Writes, WritesAll};
+ghost use Rattle.bitstream_stream.specs.Writing.WriteTable.{bit as one_bit, unsigned, signed, buffer, zeros, unary_word, align};
 ghost use Rattle.bitstream_value.specs.Own.{WritesOwn};
 ghost use Rattle.bitstream_value.specs.Tree.{bit_by_bit};
 

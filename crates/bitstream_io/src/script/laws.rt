@@ -6,9 +6,9 @@ ghost use Rattle.bitstream_number.specs.Word.{Order, FitsSignedBits, bits as bit
 ghost use Rattle.bitstream_count.specs.Entry.{ReadEntry, WriteEntry, chain};
 ghost use Rattle.bitstream_count.specs.declared.error.Error.{Error};
 ghost use Rattle.bitstream_order.specs.Refusal.{TrueEnds};
-ghost use Rattle.bitstream_stream.specs.ReadTable.{bit_entry, unsigned_entry, signed_entry, const_entry, unary_entry, count_entry, vbr_entry, any_vbr_entry, signed_vbr_entry, any_signed_vbr_entry, bytes_entry, skip_entry};
+ghost use Rattle.bitstream_stream.specs.Reading.ReadTable.{bit_entry, unsigned_entry, signed_entry, const_entry, unary_entry, count_entry, vbr_entry, any_vbr_entry, signed_vbr_entry, any_signed_vbr_entry, bytes_entry, skip_entry};
 ghost use Rattle.bitstream_stream.specs.Run.{read_run, write_run, write_refusals};
-ghost use Rattle.bitstream_stream.specs.WriteTable.{plain, bit, unsigned, signed, unary_word, count, vbr, signed_vbr, buffer, zeros};
+ghost use Rattle.bitstream_stream.specs.Writing.WriteTable.{plain, bit, unsigned, signed, unary_word, count, vbr, signed_vbr, buffer, zeros};
 ghost use Rattle.bitstream_value.specs.Array.{items_entry};
 ghost use Rattle.bitstream_value.specs.Boolean.{truth_entry, truth};
 ghost use Rattle.bitstream_value.specs.Checked.{checked_entry, signed_checked_entry};

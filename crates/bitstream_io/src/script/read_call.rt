@@ -1,5 +1,5 @@
 //! A read call as a value.
-ghost use Rattle.bitstream_stream.specs.Reads.{ReadOutcome};
+ghost use Rattle.bitstream_stream.specs.Reading.Reads.{ReadOutcome};
 ghost use Rattle.bitstream_io.specs.ReadScript.{read_entry, asks_memory};
 
 use crate::script::answers::Answer;

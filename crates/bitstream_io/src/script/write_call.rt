@@ -1,5 +1,5 @@
 //! A write call as a value.
-ghost use Rattle.bitstream_stream.specs.Sink.{Writes};
+ghost use Rattle.bitstream_stream.specs.Writing.Sink.{Writes};
 ghost use Rattle.bitstream_io.specs.Script.{write_entry};
 
 use crate::script::byte_list::ByteList;

@@ -4,7 +4,7 @@
 ghost use Rattle.std.specs.Prelude.{◌≡◌, ◌++◌, List, Bool, length};
 ghost use Rattle.bitstream_count.specs.declared.error.Error.{Error};
 ghost use Rattle.bitstream_count.specs.declared.error.Error.TheVariants.{OutOfMemory};
-ghost use Rattle.bitstream_stream.specs.Sink.{WriteRefused};
+ghost use Rattle.bitstream_stream.specs.Writing.Sink.{WriteRefused};
 ghost use Rattle.bitstream_sink.specs.Recorder.{recorded_bits};
 
 use crate::recorder::BitRecorder;

@@ -1,6 +1,6 @@
 //! Unary numbers of at most a given number of bits.
 ghost use Rattle.std.specs.Prelude.{◌<◌, ◌==◌, replicate};
-ghost use Rattle.bitstream_stream.specs.Sink.{WritesAll};
+ghost use Rattle.bitstream_stream.specs.Writing.Sink.{WritesAll};
 ghost use Rattle.bitstream_value.specs.LimitedUnary.{limited_unary, limited_tree};
 ghost use Rattle.bitstream_value.specs.Tree.{path_entry, bit_by_bit};
 

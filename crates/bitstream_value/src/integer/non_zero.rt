@@ -2,9 +2,9 @@
 ghost use Rattle.std.specs.Prelude.{◌≡◌, ℕ, ◌+◌, ◌-◌, ◌^◌, ◌<◌, ◌≤◌, [], ◌∷◌, MatchOption, IfOk};
 ghost use Rattle.std.specs.Int.NonZero.{non_zero_u8_get, non_zero_u16_get, non_zero_u32_get, non_zero_u64_get, non_zero_u128_get};
 ghost use Rattle.std.proofs.Common.{sym, arith};
-ghost use Rattle.bitstream_stream.specs.Reads.{Reads};
-ghost use Rattle.bitstream_stream.specs.Sink.{WritesAll};
-ghost use Rattle.bitstream_stream.specs.WriteTable.{unsigned, vbr};
+ghost use Rattle.bitstream_stream.specs.Reading.Reads.{Reads};
+ghost use Rattle.bitstream_stream.specs.Writing.Sink.{WritesAll};
+ghost use Rattle.bitstream_stream.specs.Writing.WriteTable.{unsigned, vbr};
 ghost use Rattle.bitstream_value.specs.NonZero.{non_zero_entry, non_zero, non_zero_vbr_entry, option_entry, option_vbr_entry, number_or_zero, made-same};
 
 use crate::integer::unsigned::{write_number, write_number_fixed, write_number_vbr};

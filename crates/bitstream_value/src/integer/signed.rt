@@ -1,10 +1,10 @@
 //! Signed integers.
 ghost use Rattle.std.specs.Prelude.{[], ◌∷◌, ◌<◌, ◌≤◌, IfOk};
-ghost use Rattle.bitstream_order.specs.Gather.{seen};
-ghost use Rattle.bitstream_stream.specs.ReadTable.{signed_entry, signed_vbr_entry};
-ghost use Rattle.bitstream_stream.specs.Reads.{Reads};
-ghost use Rattle.bitstream_stream.specs.Sink.{WritesAll};
-ghost use Rattle.bitstream_stream.specs.WriteTable.{signed, signed_vbr};
+ghost use Rattle.bitstream_order.specs.Moving.Gather.{seen};
+ghost use Rattle.bitstream_stream.specs.Reading.ReadTable.{signed_entry, signed_vbr_entry};
+ghost use Rattle.bitstream_stream.specs.Reading.Reads.{Reads};
+ghost use Rattle.bitstream_stream.specs.Writing.Sink.{WritesAll};
+ghost use Rattle.bitstream_stream.specs.Writing.WriteTable.{signed, signed_vbr};
 ghost use Rattle.bitstream_value.specs.Signed.{InSignedRange};
 
 use crate::integer::{Integer, VBRInteger};

@@ -1,10 +1,10 @@
 //! Unsigned integers.
 ghost use Rattle.std.specs.Prelude.{[], ◌∷◌, ◌^◌, ◌<◌, ◌≤◌, IfOk};
-ghost use Rattle.bitstream_order.specs.Gather.{seen};
-ghost use Rattle.bitstream_stream.specs.ReadTable.{unsigned_entry, vbr_entry};
-ghost use Rattle.bitstream_stream.specs.Reads.{Reads};
-ghost use Rattle.bitstream_stream.specs.Sink.{WritesAll};
-ghost use Rattle.bitstream_stream.specs.WriteTable.{unsigned, vbr};
+ghost use Rattle.bitstream_order.specs.Moving.Gather.{seen};
+ghost use Rattle.bitstream_stream.specs.Reading.ReadTable.{unsigned_entry, vbr_entry};
+ghost use Rattle.bitstream_stream.specs.Reading.Reads.{Reads};
+ghost use Rattle.bitstream_stream.specs.Writing.Sink.{WritesAll};
+ghost use Rattle.bitstream_stream.specs.Writing.WriteTable.{unsigned, vbr};
 
 use crate::integer::{Integer, VBRInteger};
 use bitstream_count::count::Count;

@@ -1,4 +1,5 @@
-use Rattle.bitstream_stream.proofs.BytesLemmas.{bytes-number, buffer-number}
+use Rattle.bitstream_stream.proofs.Reading.BytesLemmas.{bytes-number}
+use Rattle.bitstream_stream.proofs.Writing.BytesWritten.{buffer-number}
 use Rattle.bitstream_stream.proofs.laws.bytes_are_numbers.Goals as goal
 
 pub returns-clause-reads : goal.returns-clause-reads

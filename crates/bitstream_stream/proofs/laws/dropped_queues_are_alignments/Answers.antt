@@ -1,4 +1,4 @@
-use Rattle.bitstream_stream.proofs.WaysLemmas.{aligned_reads}
+use Rattle.bitstream_stream.proofs.Reading.WaysLemmas.{aligned_reads}
 use Rattle.bitstream_stream.proofs.laws.dropped_queues_are_alignments.Goals as goal
 
 pub returns : goal.returns

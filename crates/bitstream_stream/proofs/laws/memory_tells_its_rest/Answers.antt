@@ -1,4 +1,4 @@
-use Rattle.bitstream_stream.proofs.MemorySeeks.{bytes_behind, bits_behind_place}
+use Rattle.bitstream_stream.proofs.Reading.MemorySeeks.{bytes_behind, bits_behind_place}
 use Rattle.bitstream_stream.proofs.laws.memory_tells_its_rest.Goals as goal
 
 pub returns-clause-bytes : goal.returns-clause-bytes

@@ -1,6 +1,6 @@
 use Rattle.bitstream_order.specs.Refusal.{MayRefuse}
-use Rattle.bitstream_stream.specs.Writer.{writer_state}
-use Rattle.bitstream_stream.proofs.RoomLemmas.{room-all}
+use Rattle.bitstream_stream.specs.Writing.Writer.{writer_state}
+use Rattle.bitstream_stream.proofs.Writing.RoomLemmas.{room-all}
 use Rattle.bitstream_stream.proofs.laws.rooms_are_known.Goals as goal
 
 pub returns : goal.returns

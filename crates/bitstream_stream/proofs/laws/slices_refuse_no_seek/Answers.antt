@@ -1,4 +1,4 @@
-use Rattle.bitstream_stream.proofs.SeekLemmas.{slice_refuses_none}
+use Rattle.bitstream_stream.proofs.Reading.SeekLemmas.{slice_refuses_none}
 use Rattle.bitstream_stream.proofs.laws.slices_refuse_no_seek.Goals as goal
 
 pub returns : goal.returns

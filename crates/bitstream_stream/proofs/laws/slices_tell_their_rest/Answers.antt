@@ -1,5 +1,5 @@
 use Rattle.bitstream_order.specs.Port.{port_stream}
-use Rattle.bitstream_stream.proofs.SeekLemmas.{slice_tells}
+use Rattle.bitstream_stream.proofs.Reading.SeekLemmas.{slice_tells}
 use Rattle.bitstream_stream.proofs.laws.slices_tell_their_rest.Goals as goal
 
 pub returns : goal.returns

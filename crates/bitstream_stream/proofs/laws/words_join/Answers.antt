@@ -1,4 +1,4 @@
-use Rattle.bitstream_stream.proofs.LawLemmas.{words_join-high, words_join-low}
+use Rattle.bitstream_stream.proofs.Reading.LawLemmas.{words_join-high, words_join-low}
 use Rattle.bitstream_stream.proofs.laws.words_join.Goals as goal
 
 pub returns-clause-high : goal.returns-clause-high

@@ -1,7 +1,7 @@
 use Rattle.std.proofs.Common.{arith, ◌≡◌, ◌-◌, ◌/◌, ◌^◌, sym, ap, ◌∙◌, pow_pos}
-use Rattle.bitstream_order.proofs.SignLemmas.{half_is}
-use Rattle.bitstream_stream.proofs.GroupLemmas.{apart}
-use Rattle.bitstream_stream.proofs.VbrWrites.{large_of, small_of, group_is, group_first, group_last}
+use Rattle.bitstream_order.proofs.Moving.SignLemmas.{half_is}
+use Rattle.bitstream_stream.proofs.Reading.GroupLemmas.{apart}
+use Rattle.bitstream_stream.proofs.Writing.VbrWrites.{large_of, small_of, group_is, group_first, group_last}
 use Rattle.bitstream_stream.proofs.vbr.split_group.Given.{Over}
 use Rattle.bitstream_stream.proofs.vbr.split_group.Goals.{After-ONE-2}
 use Rattle.bitstream_stream.proofs.vbr.split_group.Goals as goal

@@ -1,7 +1,7 @@
 use Rattle.std.proofs.Common.{arith, ◌≢◌, ◌-◌, ◌*◌, ◌/◌, ◌<◌, ◌^◌, sym, ap, ◌∙◌}
 use Rattle.std.proofs.Math.Nat.{div-lt_self}
 use Rattle.std.proofs.lemmas.Nat.{pow_below}
-use Rattle.bitstream_stream.proofs.VbrWrites.{counted-first, counted-more, counted-few, counted-all, counted-last, some_of, is_other, is_same}
+use Rattle.bitstream_stream.proofs.Writing.VbrWrites.{counted-first, counted-more, counted-few, counted-all, counted-last, some_of, is_other, is_same}
 use Rattle.bitstream_stream.proofs.vbr.vbr_bits.Given.{Over}
 use Rattle.bitstream_stream.proofs.vbr.vbr_bits.Goals.{After-BITS, After-BITS-bits-then-ne}
 use Rattle.bitstream_stream.proofs.vbr.vbr_bits.Goals as goal

@@ -1,4 +1,4 @@
-use Rattle.bitstream_stream.proofs.VbrWrites.{GroupsCounted}
+use Rattle.bitstream_stream.proofs.Writing.VbrWrites.{GroupsCounted}
 use Rattle.bitstream_stream.proofs.vbr.vbr_bits.Given as goal
 
 -- the groups below `rest`, and one more, are counted

@@ -1,5 +1,5 @@
 use Rattle.std.proofs.Common.{arith, ◌≡◌, ◌≤◌, sym, ◌∙◌}
-use Rattle.bitstream_stream.proofs.GroupLemmas.{apart}
+use Rattle.bitstream_stream.proofs.Reading.GroupLemmas.{apart}
 use Rattle.bitstream_stream.proofs.ZigzagLemmas.{half_below, turned_below, even_back, odd_back}
 use Rattle.bitstream_stream.proofs.zigzag.unzigzag.Given.{Over}
 use Rattle.bitstream_stream.proofs.zigzag.unzigzag.Goals as goal

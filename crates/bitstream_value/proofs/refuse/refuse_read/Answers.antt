@@ -1,7 +1,7 @@
 use Rattle.bitstream_count.specs.Entry.{refuses}
-use Rattle.bitstream_stream.proofs.ReadsLemmas.{Reads-same, Reads-chain-ok, exit}
-use Rattle.bitstream_stream.proofs.SignedLemmas.{Reads-fine, Reads-refuses}
-use Rattle.bitstream_stream.proofs.TableLemmas.{none-then, unsigned-on_failed}
+use Rattle.bitstream_stream.proofs.Reading.ReadsLemmas.{Reads-same, Reads-chain-ok, exit}
+use Rattle.bitstream_stream.proofs.Reading.SignedLemmas.{Reads-fine, Reads-refuses}
+use Rattle.bitstream_stream.proofs.Reading.TableLemmas.{none-then, unsigned-on_failed}
 use Rattle.std.proofs.Common.{refl}
 use Rattle.bitstream_value.proofs.refuse.refuse_read.Goals as goal
 

@@ -1,7 +1,7 @@
 use Rattle.std.proofs.Common.{[], Err, refl, ap, ◌∙◌}
 use Rattle.std.proofs.lemmas.Result.{err_from_is_err_and}
-use Rattle.bitstream_stream.proofs.SinkParts.{from_ok, probe_failed, probe_refused}
-use Rattle.bitstream_stream.proofs.WriteLemmas.{unsigned-none}
+use Rattle.bitstream_stream.proofs.Writing.SinkParts.{from_ok, probe_failed, probe_refused}
+use Rattle.bitstream_stream.proofs.Writing.WriteLemmas.{unsigned-none}
 use Rattle.bitstream_value.proofs.refuse.refuse_write.Goals as goal
 
 pub returns-in_err-write_unsigned_var : goal.returns-in_err-write_unsigned_var

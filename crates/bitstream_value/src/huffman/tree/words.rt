@@ -35,7 +35,7 @@ impl PutBit for ShortWord {
 
 impl ShortWord {
     ghost use Rattle.std.specs.Prelude.{◌≡◌, []};
-    ghost use Rattle.bitstream_stream.specs.Sink.{WritesAll};
+    ghost use Rattle.bitstream_stream.specs.Writing.Sink.{WritesAll};
     ghost use Rattle.bitstream_value.specs.SymbolWords.{short_bits};
     ghost use Rattle.bitstream_value.specs.Tree.{bit_by_bit};
 

@@ -1,5 +1,5 @@
 use Rattle.std.proofs.Common.{arith, ap, ◌∙◌, ◌*◌, ◌-◌, ◌%◌, ◌^◌, ◌<◌}
-use Rattle.bitstream_order.proofs.PieceLemmas.{behind_high}
+use Rattle.bitstream_order.proofs.Moving.PieceLemmas.{behind_high}
 use Rattle.bitstream_order.proofs.order.BigEndianEndianness.behind.Goals as goal
 
 pub returns : goal.returns

@@ -1,5 +1,5 @@
 use Rattle.std.proofs.Common.{arith, ap, ◌∙◌, ◌-◌, ◌/◌, ◌^◌}
-use Rattle.bitstream_order.proofs.PieceLemmas.{behind_byte_high}
+use Rattle.bitstream_order.proofs.Moving.PieceLemmas.{behind_byte_high}
 use Rattle.bitstream_order.proofs.order.BigEndianEndianness.byte_behind.Goals as goal
 
 pub returns : goal.returns

@@ -1,5 +1,5 @@
 use Rattle.std.proofs.Common.{refl}
-use Rattle.bitstream_order.proofs.PieceLemmas.{rest_high}
+use Rattle.bitstream_order.proofs.Moving.PieceLemmas.{rest_high}
 use Rattle.bitstream_order.proofs.order.BigEndianEndianness.rest.Goals as goal
 
 pub returns : goal.returns

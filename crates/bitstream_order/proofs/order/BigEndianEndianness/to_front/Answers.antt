@@ -1,5 +1,5 @@
 use Rattle.std.proofs.Common.{ap, ◌∙◌, ◌*◌, ◌-◌, ◌%◌, ◌^◌}
-use Rattle.bitstream_order.proofs.PieceLemmas.{moved_high}
+use Rattle.bitstream_order.proofs.Moving.PieceLemmas.{moved_high}
 use Rattle.bitstream_order.proofs.order.BigEndianEndianness.to_front.Goals as goal
 
 pub returns : goal.returns

@@ -1,5 +1,5 @@
 use Rattle.std.proofs.Common.{arith, ◌<◌}
-use Rattle.bitstream_order.proofs.PieceLemmas.{behind_low}
+use Rattle.bitstream_order.proofs.Moving.PieceLemmas.{behind_low}
 use Rattle.bitstream_order.proofs.order.LittleEndianEndianness.behind.Goals as goal
 
 pub returns : goal.returns

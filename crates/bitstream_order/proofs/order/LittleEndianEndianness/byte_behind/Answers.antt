@@ -1,4 +1,4 @@
-use Rattle.bitstream_order.proofs.PieceLemmas.{behind_byte_low}
+use Rattle.bitstream_order.proofs.Moving.PieceLemmas.{behind_byte_low}
 use Rattle.bitstream_order.proofs.order.LittleEndianEndianness.byte_behind.Goals as goal
 
 pub returns : goal.returns

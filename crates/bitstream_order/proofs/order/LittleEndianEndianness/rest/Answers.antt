@@ -1,5 +1,5 @@
 use Rattle.std.proofs.Common.{refl}
-use Rattle.bitstream_order.proofs.PieceLemmas.{rest_low}
+use Rattle.bitstream_order.proofs.Moving.PieceLemmas.{rest_low}
 use Rattle.bitstream_order.proofs.order.LittleEndianEndianness.rest.Goals as goal
 
 pub returns : goal.returns

@@ -1,4 +1,4 @@
-use Rattle.bitstream_order.proofs.PieceLemmas.{moved_low}
+use Rattle.bitstream_order.proofs.Moving.PieceLemmas.{moved_low}
 use Rattle.bitstream_order.proofs.order.LittleEndianEndianness.to_front.Goals as goal
 
 pub returns : goal.returns

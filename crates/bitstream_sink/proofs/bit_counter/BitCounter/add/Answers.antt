@@ -1,6 +1,6 @@
 use Rattle.std.proofs.Common.{◌≡◌, ℕ, ◌+◌, ◌<◌, ◌≤◌, true, false, inl, inr, refl, ap, arith}
 use Rattle.std.proofs.lemmas.Bool.{cases_lt, false≢true}
-use Rattle.bitstream_stream.proofs.SinkLemmas.{exit_is}
+use Rattle.bitstream_stream.proofs.Shared.{exit_is}
 use Rattle.bitstream_sink.proofs.CountLemmas.{counted, overflowed}
 use Rattle.bitstream_sink.proofs.bit_counter.BitCounter.add.Goals as goal
 

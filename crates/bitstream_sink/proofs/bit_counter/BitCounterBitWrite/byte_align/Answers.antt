@@ -1,7 +1,7 @@
 use Rattle.std.proofs.Common.{refl, false}
 use Rattle.std.proofs.lemmas.List.{length-replicate}
 use Rattle.bitstream_stream.specs.Alignment.{to_boundary}
-use Rattle.bitstream_stream.proofs.SinkLemmas.{exit_is}
+use Rattle.bitstream_stream.proofs.Shared.{exit_is}
 use Rattle.bitstream_sink.proofs.CountLemmas.{counted, overflowed}
 use Rattle.bitstream_sink.proofs.bit_counter.BitCounterBitWrite.byte_align.Goals as goal
 

@@ -1,8 +1,9 @@
 use Rattle.std.proofs.Common.{◌∙◌, refl, sym}
 use Rattle.bitstream_number.specs.Word.{signed_word}
 use Rattle.bitstream_number.proofs.WordLemmas.{length-word}
-use Rattle.bitstream_stream.proofs.SinkLemmas.{refuses, exit_is}
-use Rattle.bitstream_stream.proofs.WriteLemmas.{signed-accepts}
+use Rattle.bitstream_stream.proofs.Writing.SinkLemmas.{refuses}
+use Rattle.bitstream_stream.proofs.Shared.{exit_is}
+use Rattle.bitstream_stream.proofs.Writing.WriteLemmas.{signed-accepts}
 use Rattle.bitstream_sink.proofs.bit_counter.BitCounterBitWrite.write_signed_counted.Goals as goal
 
 pub returns-in_err-check_signed : goal.returns-in_err-check_signed

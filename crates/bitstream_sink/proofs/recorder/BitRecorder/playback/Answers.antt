@@ -1,7 +1,7 @@
 use Rattle.std.proofs.Common.{Err, ap, sym, ◌∙◌}
 use Rattle.std.proofs.lemmas.Bool.{false≢true}
 use Rattle.std.proofs.lemmas.Result.{err_from_is_err_and}
-use Rattle.bitstream_order.specs.Growing.{growing_bytes}
+use Rattle.bitstream_order.specs.Streaming.Growing.{growing_bytes}
 use Rattle.bitstream_sink.proofs.RecorderLemmas.{play_stops, plays, played}
 use Rattle.bitstream_sink.proofs.recorder.BitRecorder.playback.Goals as goal
 

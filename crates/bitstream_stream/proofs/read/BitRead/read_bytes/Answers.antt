@@ -1,6 +1,6 @@
 use Rattle.std.proofs.Common.{rules, arith, ◌+◌, ◌<◌, [], ◌∷◌, length, take, refl}
 use Rattle.std.proofs.lemmas.List.{take_more_set}
-use Rattle.bitstream_stream.proofs.BytesLemmas.{reads-none, stops-none, stops-front, reads-byte, stops-byte, reads-more, stops-more, seen_stops}
+use Rattle.bitstream_stream.proofs.Reading.BytesLemmas.{reads-none, stops-none, stops-front, reads-byte, stops-byte, reads-more, stops-more, seen_stops}
 use Rattle.bitstream_stream.proofs.read.BitRead.read_bytes.Goals as goal
 
 pub returns-in_err-read_unsigned_var : goal.returns-in_err-read_unsigned_var

@@ -1,6 +1,6 @@
 use Rattle.std.proofs.Common.{◌≡◌, length, take, Ok}
-use Rattle.bitstream_stream.specs.Reads.{Reads}
-use Rattle.bitstream_stream.specs.ReadTable.{bytes_entry}
+use Rattle.bitstream_stream.specs.Reading.Reads.{Reads}
+use Rattle.bitstream_stream.specs.Reading.ReadTable.{bytes_entry}
 use Rattle.bitstream_stream.proofs.read.BitRead.read_bytes.Given as goal
 
 -- the bytes up to a place were read

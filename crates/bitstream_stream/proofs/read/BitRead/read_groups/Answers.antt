@@ -1,11 +1,11 @@
 use Rattle.std.proofs.Common.{arith, ◌-◌, ◌^◌, ◌<◌, sym, ap, ◌∙◌, pow_pos, ◌≤◌}
 use Rattle.bitstream_number.proofs.Masks.{masked-is}
-use Rattle.bitstream_order.proofs.SignLemmas.{half_is}
-use Rattle.bitstream_stream.proofs.GroupLemmas.{apart, mask_below}
-use Rattle.bitstream_stream.proofs.VbrReads.{short_group-stops, short_group-takes, told-start, told-stop, told-end, Turn, turn-redundant, turn-ends, turn-overflows, turn-told, turn-below}
-use Rattle.bitstream_stream.proofs.BytesLemmas.{seen_stops}
-use Rattle.bitstream_stream.proofs.SignedLemmas.{Reads-fine}
-use Rattle.bitstream_stream.proofs.TableLemmas.{unsigned-on_failed}
+use Rattle.bitstream_order.proofs.Moving.SignLemmas.{half_is}
+use Rattle.bitstream_stream.proofs.Reading.GroupLemmas.{apart, mask_below}
+use Rattle.bitstream_stream.proofs.Reading.VbrReads.{short_group-stops, short_group-takes, told-start, told-stop, told-end, Turn, turn-redundant, turn-ends, turn-overflows, turn-told, turn-below}
+use Rattle.bitstream_stream.proofs.Reading.BytesLemmas.{seen_stops}
+use Rattle.bitstream_stream.proofs.Reading.SignedLemmas.{Reads-fine}
+use Rattle.bitstream_stream.proofs.Reading.TableLemmas.{unsigned-on_failed}
 use Rattle.bitstream_stream.proofs.read.BitRead.read_groups.Given.{Over}
 use Rattle.bitstream_stream.proofs.read.BitRead.read_groups.Goals.{After-eq, then-BITS-gt8+in_ok-group, else-BITS-gt8+in_ok-read_unsigned}
 use Rattle.bitstream_stream.proofs.read.BitRead.read_groups.Goals as goal

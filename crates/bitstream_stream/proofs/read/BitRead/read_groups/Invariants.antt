@@ -1,5 +1,5 @@
 use Rattle.std.proofs.Common.{◌≡◌, ◌-◌, ◌^◌, ◌<◌, false}
-use Rattle.bitstream_stream.proofs.VbrReads.{Told}
+use Rattle.bitstream_stream.proofs.Reading.VbrReads.{Told}
 use Rattle.bitstream_stream.proofs.read.BitRead.read_groups.Given as goal
 
 -- what is still read is the rest of the call

@@ -1,6 +1,6 @@
 use Rattle.std.proofs.Common.{true}
-use Rattle.bitstream_stream.proofs.BytesLemmas.{seen_stops}
-use Rattle.bitstream_stream.proofs.VbrReads.{signed_vbr-stops, signed_vbr-takes}
+use Rattle.bitstream_stream.proofs.Reading.BytesLemmas.{seen_stops}
+use Rattle.bitstream_stream.proofs.Reading.VbrReads.{signed_vbr-stops, signed_vbr-takes}
 use Rattle.bitstream_stream.proofs.read.BitRead.read_signed_vbr.Goals as goal
 
 pub returns-in_err-place : goal.returns-in_err-place

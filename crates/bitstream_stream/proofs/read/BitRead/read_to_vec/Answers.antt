@@ -1,6 +1,6 @@
 use Rattle.std.proofs.Common.{rules, arith, ◌≡◌, ◌+◌, ◌-◌, length, sym, ap, ◌∙◌, length-append}
-use Rattle.bitstream_stream.proofs.BytesLemmas.{reads-none, stops-none, stops-front, reads-more, stops-more, seen_stops, lacks-more, grown_length, grown_part}
-use Rattle.bitstream_stream.proofs.ReadsLemmas.{Reads-growing}
+use Rattle.bitstream_stream.proofs.Reading.BytesLemmas.{reads-none, stops-none, stops-front, reads-more, stops-more, seen_stops, lacks-more, grown_length, grown_part}
+use Rattle.bitstream_stream.proofs.Reading.ReadsLemmas.{Reads-growing}
 use Rattle.bitstream_stream.proofs.read.BitRead.read_to_vec.Goals as goal
 
 pub returns-in_err-read_unsigned_var : goal.returns-in_err-read_unsigned_var

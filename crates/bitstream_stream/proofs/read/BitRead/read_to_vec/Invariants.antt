@@ -1,6 +1,6 @@
 use Rattle.std.proofs.Common.{◌≡◌, ◌-◌, ◌≤◌, length, Ok}
-use Rattle.bitstream_stream.specs.Reads.{Reads}
-use Rattle.bitstream_stream.specs.ReadTable.{bytes_entry}
+use Rattle.bitstream_stream.specs.Reading.Reads.{Reads}
+use Rattle.bitstream_stream.specs.Reading.ReadTable.{bytes_entry}
 use Rattle.bitstream_stream.proofs.read.BitRead.read_to_vec.Given as goal
 
 -- the bytes of the buffer were read

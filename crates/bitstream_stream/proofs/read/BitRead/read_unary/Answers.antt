@@ -1,11 +1,11 @@
 use Rattle.std.proofs.Common.{arith, ◌≡◌, ◌+◌, ◌^◌, subst, refl, Ok, Err}
 use Rattle.std.specs.Prelude.{◌==◌}
 use Rattle.bitstream_count.specs.declared.error.Error.TheVariants.{RunTooLong}
-use Rattle.bitstream_stream.specs.Reads.{Reads}
-use Rattle.bitstream_stream.specs.ReadTable.{unary_entry}
-use Rattle.bitstream_stream.proofs.BytesLemmas.{stops}
-use Rattle.bitstream_stream.proofs.ReadsLemmas.{Begun-nil}
-use Rattle.bitstream_stream.proofs.UnaryReads.{unary-stops, unary-ends, unary-more, unary-too_long}
+use Rattle.bitstream_stream.specs.Reading.Reads.{Reads}
+use Rattle.bitstream_stream.specs.Reading.ReadTable.{unary_entry}
+use Rattle.bitstream_stream.proofs.Reading.BytesLemmas.{stops}
+use Rattle.bitstream_stream.proofs.Reading.ReadsLemmas.{Begun-nil}
+use Rattle.bitstream_stream.proofs.Reading.UnaryReads.{unary-stops, unary-ends, unary-more, unary-too_long}
 use Rattle.bitstream_stream.proofs.read.BitRead.read_unary.Goals as goal
 
 pub loop-self-init : goal.loop-self-init

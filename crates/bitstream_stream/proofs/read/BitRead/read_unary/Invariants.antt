@@ -1,5 +1,5 @@
 use Rattle.std.proofs.Common.{◌-◌, ◌^◌, ◌<◌, not, replicate}
-use Rattle.bitstream_stream.proofs.ReadsLemmas.{Begun}
+use Rattle.bitstream_stream.proofs.Reading.ReadsLemmas.{Begun}
 use Rattle.bitstream_stream.proofs.read.BitRead.read_unary.Given as goal
 
 -- the bits that were counted, none of which is the stop bit

@@ -1,5 +1,5 @@
 use Rattle.std.proofs.Common.{arith, ◌+◌, ◌*◌, ◌%◌, Ok, Err, refl}
-use Rattle.bitstream_stream.proofs.BytesLemmas.{skips, skips-stop, skips-more, skips-front, stops}
+use Rattle.bitstream_stream.proofs.Reading.BytesLemmas.{skips, skips-stop, skips-more, skips-front, stops}
 use Rattle.bitstream_stream.proofs.read.BitRead.skip.Goals as goal
 
 pub returns-in_err-read_unsigned_var : goal.returns-in_err-read_unsigned_var

@@ -1,6 +1,6 @@
 use Rattle.std.proofs.Common.{◌+◌, ◌*◌, ◌%◌, Ok}
-use Rattle.bitstream_stream.specs.Reads.{Reads}
-use Rattle.bitstream_stream.specs.ReadTable.{skip_entry}
+use Rattle.bitstream_stream.specs.Reading.Reads.{Reads}
+use Rattle.bitstream_stream.specs.Reading.ReadTable.{skip_entry}
 use Rattle.bitstream_stream.proofs.read.BitRead.skip.Given as goal
 
 -- the bits beyond whole groups of 128 were read, and behind them one group a turn

@@ -1,11 +1,12 @@
 use Rattle.std.proofs.Common.{zero-add, add_assoc, IsTrue, ◌≡◌, ◌≢◌, ◌<◌, ℕ, Option, ◌-◌, ◌+◌, ◌%◌, Bool, true, false, replicate, [], ◌∷◌, Ok, refl, sym, ap, ◌∙◌, arith}
 use Rattle.bitstream_stream.specs.Alignment.{to_boundary}
-use Rattle.bitstream_stream.specs.Sink.{IsWithin}
-use Rattle.bitstream_stream.specs.WriteTable.{align}
-use Rattle.bitstream_stream.proofs.SinkParts.{from_ok, to_ok, probe_stops, probe_passed, probed, probed_len, part_stops, Begun-more}
-use Rattle.bitstream_stream.proofs.SinkLemmas.{within_less, no_zeros, untold}
+use Rattle.bitstream_stream.specs.Writing.Sink.{IsWithin}
+use Rattle.bitstream_stream.specs.Writing.WriteTable.{align}
+use Rattle.bitstream_stream.proofs.Writing.SinkParts.{from_ok, to_ok, probe_stops, probe_passed, probed, probed_len, part_stops, Begun-more}
+use Rattle.bitstream_stream.proofs.Writing.SinkLemmas.{within_less, no_zeros, untold}
 use Rattle.std.proofs.lemmas.List.{length-replicate}
-use Rattle.bitstream_stream.proofs.WriteLemmas.{replicate-split, replicate-more, to_boundary-step}
+use Rattle.bitstream_stream.proofs.Writing.WriteLemmas.{replicate-split, to_boundary-step}
+use Rattle.bitstream_stream.proofs.Shared.{replicate-more}
 use Rattle.bitstream_stream.proofs.write.BitWrite.byte_align.Goals as goal
 use Rattle.bitstream_stream.proofs.write.BitWrite.byte_align.Goals.{else-not-byte_aligned-via-then-not-byte_aligned+else-not-has_room, else-not-byte_aligned-via-else-not-byte_aligned}
 

@@ -1,7 +1,7 @@
 use Rattle.std.proofs.Common.{◌≡◌, ◌+◌, ℕ, replicate, false}
 use Rattle.bitstream_stream.specs.Alignment.{to_boundary}
-use Rattle.bitstream_stream.specs.Sink.{IsWithin}
-use Rattle.bitstream_stream.proofs.SinkParts.{Begun}
+use Rattle.bitstream_stream.specs.Writing.Sink.{IsWithin}
+use Rattle.bitstream_stream.proofs.Writing.SinkParts.{Begun}
 use Rattle.bitstream_stream.proofs.write.BitWrite.byte_align.Given as goal
 
 -- k zeros so far, and the rest to come, for which there is room

@@ -1,8 +1,8 @@
 use Rattle.std.proofs.Common.{arith, ◌+◌, ◌-◌, ◌*◌, ◌%◌, ℕ, pow_pos, ◌≡◌, ◌++◌, replicate, false, Ok, refl, sym, ap, ◌∙◌}
 use Rattle.std.proofs.lemmas.List.{length-replicate}
-use Rattle.bitstream_stream.specs.WriteTable.{zeros}
-use Rattle.bitstream_stream.proofs.BytesWritten.{zeros-split, word-zeros}
-use Rattle.bitstream_stream.proofs.SinkParts.{to_ok, probe_stops, probed, room_for, no_room_for, lead_more, lead_stops}
+use Rattle.bitstream_stream.specs.Writing.WriteTable.{zeros}
+use Rattle.bitstream_stream.proofs.Writing.BytesWritten.{zeros-split, word-zeros}
+use Rattle.bitstream_stream.proofs.Writing.SinkParts.{to_ok, probe_stops, probed, room_for, no_room_for, lead_more, lead_stops}
 use Rattle.bitstream_stream.proofs.write.BitWrite.pad.Goals as goal
 
 pub returns-in_err-write_unsigned_var : goal.returns-in_err-write_unsigned_var

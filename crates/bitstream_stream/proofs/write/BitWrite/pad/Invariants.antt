@@ -1,6 +1,6 @@
 use Rattle.std.proofs.Common.{◌+◌, ◌*◌, ◌%◌, replicate, false}
-use Rattle.bitstream_stream.specs.Sink.{IsWithin}
-use Rattle.bitstream_stream.proofs.SinkParts.{Begun}
+use Rattle.bitstream_stream.specs.Writing.Sink.{IsWithin}
+use Rattle.bitstream_stream.proofs.Writing.SinkParts.{Begun}
 use Rattle.bitstream_stream.proofs.write.BitWrite.pad.Given as goal
 
 -- the zeros beyond whole groups of 128 were written, and behind them one group a turn; all of them have room

@@ -1,7 +1,7 @@
 use Rattle.std.proofs.Common.{◌≡◌, ℕ, Bool, true, false, cond, arith}
 use mir.Val.{bool_byte}
-use Rattle.bitstream_stream.proofs.SinkLemmas.{restate}
-use Rattle.bitstream_stream.proofs.WriteLemmas.{unsigned-bit}
+use Rattle.bitstream_stream.proofs.Writing.SinkLemmas.{restate}
+use Rattle.bitstream_stream.proofs.Writing.WriteLemmas.{unsigned-bit}
 use Rattle.bitstream_stream.proofs.write.BitWrite.write_bit.Goals as goal
 
 number_of : (b : Bool) (n : ℕ) → n ≡ bool_byte b → n ≡ cond b 1 0

@@ -1,10 +1,10 @@
 use Rattle.std.proofs.Common.{rules, arith, ◌≡◌, ◌+◌, ◌*◌, ◌<◌, length, take, drop, get_or, take_all, Ok, refl, sym, ap, ◌∙◌}
 use Rattle.bitstream_number.specs.Word.{word, bits}
 use Rattle.bitstream_number.proofs.WordLemmas.{length-bits}
-use Rattle.bitstream_stream.specs.WriteTable.{unsigned, buffer}
-use Rattle.bitstream_stream.proofs.SinkParts.{from_ok, to_ok, probe_stops, probed, room_for, no_room_for, part_stops, Begun-more}
-use Rattle.bitstream_stream.proofs.WriteLemmas.{unsigned-fits}
-use Rattle.bitstream_stream.proofs.WriteParts.{flat_map-take, flat_map-split}
+use Rattle.bitstream_stream.specs.Writing.WriteTable.{unsigned, buffer}
+use Rattle.bitstream_stream.proofs.Writing.SinkParts.{from_ok, to_ok, probe_stops, probed, room_for, no_room_for, part_stops, Begun-more}
+use Rattle.bitstream_stream.proofs.Writing.WriteLemmas.{unsigned-fits}
+use Rattle.bitstream_stream.proofs.Writing.WriteParts.{flat_map-take, flat_map-split}
 use Rattle.bitstream_stream.proofs.write.BitWrite.write_bytes.Goals as goal
 
 pub returns-in_err-write_unsigned_var : goal.returns-in_err-write_unsigned_var

@@ -1,7 +1,7 @@
 use Rattle.std.proofs.Common.{◌+◌, ◌*◌, length, take}
 use Rattle.bitstream_number.specs.Word.{bits}
-use Rattle.bitstream_stream.specs.Sink.{IsWithin}
-use Rattle.bitstream_stream.proofs.SinkParts.{Begun}
+use Rattle.bitstream_stream.specs.Writing.Sink.{IsWithin}
+use Rattle.bitstream_stream.proofs.Writing.SinkParts.{Begun}
 use Rattle.bitstream_stream.proofs.write.BitWrite.write_bytes.Given as goal
 
 -- the bytes up to a place were written, and there is room for all

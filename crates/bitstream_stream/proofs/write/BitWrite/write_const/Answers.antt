@@ -1,5 +1,5 @@
-use Rattle.bitstream_stream.proofs.SinkLemmas.{restate}
-use Rattle.bitstream_stream.proofs.WriteLemmas.{unsigned-const}
+use Rattle.bitstream_stream.proofs.Writing.SinkLemmas.{restate}
+use Rattle.bitstream_stream.proofs.Writing.WriteLemmas.{unsigned-const}
 use Rattle.bitstream_stream.proofs.write.BitWrite.write_const.Goals as goal
 
 pub returns : goal.returns

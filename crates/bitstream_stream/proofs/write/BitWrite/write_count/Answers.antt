@@ -1,5 +1,5 @@
-use Rattle.bitstream_stream.proofs.SinkLemmas.{restate}
-use Rattle.bitstream_stream.proofs.WriteLemmas.{unsigned-count}
+use Rattle.bitstream_stream.proofs.Writing.SinkLemmas.{restate}
+use Rattle.bitstream_stream.proofs.Writing.WriteLemmas.{unsigned-count}
 use Rattle.bitstream_stream.proofs.write.BitWrite.write_count.Goals as goal
 
 pub returns : goal.returns

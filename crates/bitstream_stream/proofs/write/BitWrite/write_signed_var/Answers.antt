@@ -1,6 +1,6 @@
 use Rattle.std.proofs.Common.{refl, sym, ◌∙◌}
-use Rattle.bitstream_stream.proofs.SinkParts.{probe_stops, probed, probe_refused}
-use Rattle.bitstream_stream.proofs.WriteLemmas.{signed-none, none_of}
+use Rattle.bitstream_stream.proofs.Writing.SinkParts.{probe_stops, probed, probe_refused}
+use Rattle.bitstream_stream.proofs.Writing.WriteLemmas.{signed-none, none_of}
 use Rattle.bitstream_stream.proofs.write.BitWrite.write_signed_var.Goals as goal
 
 pub returns-in-Some : goal.returns-in-Some

@@ -2,9 +2,9 @@ use Rattle.std.proofs.Common.{arith, ◌≡◌, ◌+◌, ◌-◌, ◌*◌, ◌%�
 use Rattle.std.specs.Prelude.{◌==◌}
 use Rattle.bitstream_count.specs.Unary.{unary}
 use Rattle.bitstream_count.proofs.UnaryLemmas.{length-unary, unary-split}
-use Rattle.bitstream_stream.specs.Sink.{IsWithin, Writes}
-use Rattle.bitstream_stream.specs.WriteTable.{unary_word, bit}
-use Rattle.bitstream_stream.proofs.SinkParts.{probe_stops, probed, room_for, no_room_for, lead_more, lead_stops, last}
+use Rattle.bitstream_stream.specs.Writing.Sink.{IsWithin, Writes}
+use Rattle.bitstream_stream.specs.Writing.WriteTable.{unary_word, bit}
+use Rattle.bitstream_stream.proofs.Writing.SinkParts.{probe_stops, probed, room_for, no_room_for, lead_more, lead_stops, last}
 use Rattle.bitstream_stream.proofs.write.BitWrite.write_unary.Goals as goal
 
 pub returns-in_err-write_unsigned_var : goal.returns-in_err-write_unsigned_var
@@ -30,8 +30,8 @@ returns-in_err-write_unsigned_var-2 g c =
     record {
       writes = subst (λ k. Writes K (unary_word (k == 1) n) c.args.self.now
           c.from_residual-in_err-write_unsigned_var-2.result c.write_unsigned_var-2.new.self) c.BITS-stop.ensures
-          (lead_stops K (not stop) K.order 128 0 first c.others.result (omega arith) c.others.ensures.below
-          c.others.ensures.word (probed K _ _ _ probe) (unary_word stop n) (unary stop n) (unary stop (n - first))
+          (lead_stops K (not stop) K.order 128 0 first c.run_without_stop.result (omega arith) c.run_without_stop.ensures.below
+          c.run_without_stop.ensures.word (probed K _ _ _ probe) (unary_word stop n) (unary stop n) (unary stop (n - first))
           (n + 1)
           c.in_err-write_unsigned_var-2.ensures.writes c.from_residual-in_err-write_unsigned_var-2.ensures.1 refl
           (unary-split stop first (n - first) n (omega arith)) (length-unary stop n)
@@ -44,8 +44,8 @@ loop-done-init g c =
     let first = c.args.value % 128 in
     let probe = c.in_ok-write_unsigned_var.ensures.writes in
     record {
-      begun = lead_more K (not (c.BITS-stop.result == 1)) K.order 128 0 first c.others.result (omega arith)
-          c.others.ensures.below c.others.ensures.word (probed K _ _ _ probe) (first + 0) (omega arith)
+      begun = lead_more K (not (c.BITS-stop.result == 1)) K.order 128 0 first c.run_without_stop.result (omega arith)
+          c.run_without_stop.ensures.below c.run_without_stop.ensures.word (probed K _ _ _ probe) (first + 0) (omega arith)
           c.in_ok-write_unsigned_var-2.ensures.writes;
       room = room_for K _ _ _ probe _ _ refl (c.has_room.ensures.room.0 c.if-not-has_room.false);
     }
@@ -63,8 +63,8 @@ returns-in_err-write_unsigned_var-3 g c =
       writes = subst (λ k. Writes K (unary_word (k == 1) n) c.args.self.now
           c.from_residual-in_err-write_unsigned_var-3.result c.write_unsigned_var-in-loop-done.new.self)
           c.BITS-stop.ensures
-          (lead_stops K (not stop) K.order 128 at 128 c.others-in-loop-done.result (omega arith)
-          c.others-in-loop-done.ensures.below c.others-in-loop-done.ensures.word c.loop-done.invariant.begun
+          (lead_stops K (not stop) K.order 128 at 128 c.run_without_stop-in-loop-done.result (omega arith)
+          c.run_without_stop-in-loop-done.ensures.below c.run_without_stop-in-loop-done.ensures.word c.loop-done.invariant.begun
           (unary_word stop n) (unary stop n)
           (unary stop (n - at - 128)) (n + 1) c.in_err-write_unsigned_var-3.ensures.writes
           c.from_residual-in_err-write_unsigned_var-3.ensures.1 refl split (length-unary stop n)
@@ -76,8 +76,8 @@ loop-done-preserved g c =
     let K = g.Self.BitWrite.sink in
     let at = c.args.value % 128 + 128 * c.loop-done._done in
     record {
-      begun = lead_more K (not (c.BITS-stop.result == 1)) K.order 128 at 128 c.others-in-loop-done.result (omega arith)
-          c.others-in-loop-done.ensures.below c.others-in-loop-done.ensures.word c.loop-done.invariant.begun _
+      begun = lead_more K (not (c.BITS-stop.result == 1)) K.order 128 at 128 c.run_without_stop-in-loop-done.result (omega arith)
+          c.run_without_stop-in-loop-done.ensures.below c.run_without_stop-in-loop-done.ensures.word c.loop-done.invariant.begun _
           (omega arith)
           c.in_ok-write_unsigned_var-3.ensures.writes;
       room = c.loop-done.invariant.room;

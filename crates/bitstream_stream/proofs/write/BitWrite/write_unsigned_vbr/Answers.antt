@@ -1,7 +1,7 @@
 use Rattle.std.proofs.Common.{arith, refl}
-use Rattle.bitstream_stream.proofs.SinkParts.{probe_stops, probed, room_for, no_room_for}
-use Rattle.bitstream_stream.proofs.SinkLemmas.{exit_is}
-use Rattle.bitstream_stream.proofs.VbrWrites.{groups-start, groups-more, groups-stop, groups-last}
+use Rattle.bitstream_stream.proofs.Writing.SinkParts.{probe_stops, probed, room_for, no_room_for}
+use Rattle.bitstream_stream.proofs.Shared.{exit_is}
+use Rattle.bitstream_stream.proofs.Writing.VbrWrites.{groups-start, groups-more, groups-stop, groups-last}
 use Rattle.bitstream_stream.proofs.write.BitWrite.write_unsigned_vbr.Goals as goal
 
 pub returns-in_err-write_unsigned_var : goal.returns-in_err-write_unsigned_var

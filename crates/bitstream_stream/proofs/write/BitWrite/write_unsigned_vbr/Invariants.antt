@@ -1,7 +1,7 @@
 use Rattle.std.proofs.Common.{◌+◌, length}
 use Rattle.bitstream_count.specs.Vbr.{vbr_word}
-use Rattle.bitstream_stream.specs.Sink.{IsWithin}
-use Rattle.bitstream_stream.proofs.VbrWrites.{GroupsBegun}
+use Rattle.bitstream_stream.specs.Writing.Sink.{IsWithin}
+use Rattle.bitstream_stream.proofs.Writing.VbrWrites.{GroupsBegun}
 use Rattle.bitstream_stream.proofs.write.BitWrite.write_unsigned_vbr.Given as goal
 
 -- the first groups were written, and there is room for all

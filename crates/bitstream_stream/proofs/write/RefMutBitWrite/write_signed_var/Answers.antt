@@ -1,4 +1,4 @@
-use Rattle.bitstream_stream.proofs.SinkLemmas.{lent}
+use Rattle.bitstream_stream.proofs.Writing.SinkLemmas.{lent}
 use Rattle.bitstream_stream.proofs.write.RefMutBitWrite.write_signed_var.Goals as goal
 
 pub returns : goal.returns

@@ -1,5 +1,5 @@
 use Rattle.std.proofs.Common.{arith}
-use Rattle.bitstream_stream.proofs.SignedLemmas.{unsigned-below}
+use Rattle.bitstream_stream.proofs.Reading.SignedLemmas.{unsigned-below}
 use Rattle.bitstream_value.proofs.NonZeroLemmas.{non_zero-stops, non_zero-was_done, next_fits}
 use Rattle.bitstream_value.proofs.integer.non_zero.read_non_zero_fixed.Goals as goal
 

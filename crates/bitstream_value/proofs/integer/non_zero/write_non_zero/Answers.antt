@@ -1,5 +1,5 @@
 use Rattle.std.proofs.Common.{ap, ◌∙◌, arith}
-use Rattle.bitstream_stream.proofs.WriteParts.{all_one}
+use Rattle.bitstream_stream.proofs.Writing.WriteParts.{all_one}
 use Rattle.bitstream_value.proofs.NonZeroLemmas.{writes-less, writes-wide}
 use Rattle.bitstream_value.proofs.integer.non_zero.write_non_zero.Goals as goal
 

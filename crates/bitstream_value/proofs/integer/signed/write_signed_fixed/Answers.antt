@@ -1,4 +1,4 @@
-use Rattle.bitstream_stream.proofs.WriteParts.{all_one}
+use Rattle.bitstream_stream.proofs.Writing.WriteParts.{all_one}
 use Rattle.bitstream_value.proofs.integer.signed.write_signed_fixed.Goals as goal
 
 pub returns : goal.returns

@@ -1,4 +1,4 @@
-use Rattle.bitstream_stream.proofs.WriteParts.{all_one}
+use Rattle.bitstream_stream.proofs.Writing.WriteParts.{all_one}
 use Rattle.bitstream_value.proofs.integer.unsigned.write_number.Goals as goal
 
 pub returns : goal.returns

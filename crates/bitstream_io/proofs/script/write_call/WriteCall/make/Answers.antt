@@ -1,6 +1,6 @@
 use borrow.Author.Rules.{sfits_of}
 use Rattle.std.specs.Int.{w8, w16, w32, w64, w128}
-use Rattle.bitstream_stream.specs.WriteTable.{signed, signed_vbr}
+use Rattle.bitstream_stream.specs.Writing.WriteTable.{signed, signed_vbr}
 use Rattle.bitstream_io.proofs.ScriptLemmas.{of_value}
 use Rattle.bitstream_io.proofs.script.write_call.WriteCall.make.Goals as goal
 

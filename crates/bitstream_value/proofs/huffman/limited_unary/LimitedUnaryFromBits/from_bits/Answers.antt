@@ -1,7 +1,7 @@
 use Rattle.std.proofs.Common.{nat_eq, arith}
 use Rattle.bitstream_value.proofs.LimitedLemmas.{Counting-more, Counting-stop, Counting-refused, Counting-end}
 use Rattle.bitstream_value.proofs.huffman.limited_unary.LimitedUnaryFromBits.from_bits.Goals as goal
-use Rattle.bitstream_stream.proofs.UnaryReads.{other_bit, same_bit}
+use Rattle.bitstream_stream.proofs.Reading.UnaryReads.{other_bit, same_bit}
 
 pub returns-in_err-next_bit : goal.returns-in_err-next_bit
 returns-in_err-next_bit g c = record {

@@ -1,6 +1,6 @@
 use Rattle.std.proofs.Common.{◌≡◌, Ok, take, length}
 use Rattle.std.specs.List.{AllWithin}
-use Rattle.bitstream_stream.specs.Reads.{Reads}
+use Rattle.bitstream_stream.specs.Reading.Reads.{Reads}
 use Rattle.bitstream_value.specs.Array.{items_entry}
 use Rattle.bitstream_value.proofs.integer.array.ArrayInteger.read_var.Given as goal
 

@@ -1,6 +1,6 @@
 use Rattle.std.proofs.Common.{take, Ok}
 use Rattle.std.specs.Prelude.{flat_map}
-use Rattle.bitstream_stream.specs.Sink.{WritesAll}
+use Rattle.bitstream_stream.specs.Writing.Sink.{WritesAll}
 use Rattle.bitstream_value.proofs.integer.array.ArrayInteger.write_var.Given as goal
 
 -- the items so far were written

@@ -1,5 +1,5 @@
 use Rattle.std.proofs.Common.{◌≡◌, Ok, take, length}
-use Rattle.bitstream_stream.specs.Reads.{Reads}
+use Rattle.bitstream_stream.specs.Reading.Reads.{Reads}
 use Rattle.bitstream_value.specs.Array.{items_entry}
 use Rattle.bitstream_value.proofs.integer.array.ArrayVBRInteger.read_vbr.Given as goal
 

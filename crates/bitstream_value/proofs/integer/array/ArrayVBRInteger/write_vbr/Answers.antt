@@ -3,8 +3,8 @@ use Rattle.std.specs.Prelude.{flat_map}
 use Rattle.std.proofs.lemmas.Result.{err_from_is_err_and}
 use Rattle.std.proofs.Math.Seq.{take-length}
 use Rattle.bitstream_count.specs.Entry.{WriteEntry}
-use Rattle.bitstream_stream.specs.Sink.{WritesAll}
-use Rattle.bitstream_stream.proofs.WriteParts.{all_none, all_append, all_stop, flat_map-take, flat_map-split}
+use Rattle.bitstream_stream.specs.Writing.Sink.{WritesAll}
+use Rattle.bitstream_stream.proofs.Writing.WriteParts.{all_none, all_append, all_stop, flat_map-take, flat_map-split}
 use Rattle.bitstream_value.proofs.integer.array.ArrayVBRInteger.write_vbr.Goals as goal
 
 pub loop-item-init : goal.loop-item-init

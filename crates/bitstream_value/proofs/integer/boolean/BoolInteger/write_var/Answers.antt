@@ -1,5 +1,5 @@
 use Rattle.std.proofs.Common.{arith}
-use Rattle.bitstream_stream.proofs.WriteParts.{all_one}
+use Rattle.bitstream_stream.proofs.Writing.WriteParts.{all_one}
 use Rattle.bitstream_value.proofs.BooleanLemmas.{writes-bit, writes-refused}
 use Rattle.bitstream_value.proofs.integer.boolean.BoolInteger.write_var.Goals as goal
 

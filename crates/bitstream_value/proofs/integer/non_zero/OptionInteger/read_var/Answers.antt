@@ -1,5 +1,5 @@
 use Rattle.bitstream_value.proofs.NonZeroLemmas.{option-stops, option-was_done, if_any-is}
-use Rattle.bitstream_stream.proofs.SignedLemmas.{unsigned-below}
+use Rattle.bitstream_stream.proofs.Reading.SignedLemmas.{unsigned-below}
 use Rattle.bitstream_value.proofs.FitsLemmas.{option-below}
 use Rattle.bitstream_value.proofs.integer.non_zero.OptionInteger.read_var.Goals as goal
 

@@ -1,7 +1,7 @@
 use Rattle.std.proofs.Common.{◌≡◌, Bool, true, false, List, length, Ok, Err, refl, sym, ap, ◌∙◌, subst, arith}
 use Rattle.std.proofs.lemmas.Result.{err_from_is_err_and}
-use Rattle.bitstream_stream.specs.Sink.{WritesAll}
-use Rattle.bitstream_stream.proofs.WriteParts.{all_none}
+use Rattle.bitstream_stream.specs.Writing.Sink.{WritesAll}
+use Rattle.bitstream_stream.proofs.Writing.WriteParts.{all_none}
 use Rattle.bitstream_value.specs.HuffmanTree.{nodes_of, tree_of}
 use Rattle.bitstream_value.specs.Tree.{bit_by_bit}
 use Rattle.bitstream_value.proofs.NodesLemmas.{tree_of-stands, nodes_of-some, word-lacks}

@@ -2,8 +2,8 @@ use Rattle.std.proofs.Common.{◌-◌, ◌%◌, ◌/◌, ◌^◌, Ok, Err, List,
 use Rattle.std.specs.Prelude.{◌==◌}
 use Rattle.std.proofs.lemmas.Result.{err_from_is_err_and}
 use Rattle.bitstream_number.specs.Word.{High, word}
-use Rattle.bitstream_stream.specs.Sink.{WritesAll}
-use Rattle.bitstream_stream.proofs.WriteParts.{all_none}
+use Rattle.bitstream_stream.specs.Writing.Sink.{WritesAll}
+use Rattle.bitstream_stream.proofs.Writing.WriteParts.{all_none}
 use Rattle.bitstream_value.specs.Tree.{bit_by_bit}
 use Rattle.bitstream_value.proofs.WordsLemmas.{bits-begin, bits-more, bits-at, bits-end, wrote-more, wrote-stop}
 use Rattle.bitstream_value.proofs.huffman.tree.words.ShortWord.write.Goals as goal

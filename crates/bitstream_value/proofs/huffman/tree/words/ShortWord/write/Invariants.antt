@@ -1,6 +1,6 @@
 use Rattle.std.proofs.Common.{◌≤◌, ◌-◌, ◌/◌, ◌^◌, Ok}
 use Rattle.bitstream_number.specs.Word.{High, word}
-use Rattle.bitstream_stream.specs.Sink.{WritesAll}
+use Rattle.bitstream_stream.specs.Writing.Sink.{WritesAll}
 use Rattle.bitstream_value.specs.Tree.{bit_by_bit}
 use Rattle.bitstream_value.proofs.huffman.tree.words.ShortWord.write.Given as goal
 

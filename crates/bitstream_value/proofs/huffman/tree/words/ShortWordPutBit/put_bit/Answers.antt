@@ -1,5 +1,5 @@
 use Rattle.std.proofs.Common.{[], ◌∷◌, arith, refl, sym, append-nil}
-use Rattle.bitstream_stream.specs.Sink.{past_limit, was_done}
+use Rattle.bitstream_stream.specs.Writing.Sink.{past_limit, was_done}
 use Rattle.bitstream_value.proofs.WordsLemmas.{one-behind}
 use Rattle.bitstream_value.specs.SymbolWords.{short_bits}
 use Rattle.bitstream_value.proofs.huffman.tree.words.ShortWordPutBit.put_bit.Goals as goal

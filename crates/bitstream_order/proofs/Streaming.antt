@@ -1,0 +1,4 @@
+pub mod FaultLemmas
+pub mod SliceLemmas
+pub mod SliceMutLemmas
+pub mod TailLemmas

@@ -1,4 +1,0 @@
-use Rattle.bitstream_order.proofs.tally.Tally.grow_from.Given as goal
-
-abbrev pub ghost-grow : goal.ghost-grow
-ghost-grow g a = g.by

@@ -1,0 +1,5 @@
+pub mod Gather
+pub mod Pieces
+pub mod Send
+pub mod Shift
+pub mod TakeUnary

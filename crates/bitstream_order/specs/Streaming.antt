@@ -1,0 +1,4 @@
+pub mod Growing
+pub mod Slice
+pub mod SliceMut
+pub mod Tail

@@ -1,0 +1,42 @@
+-- How bytes in memory are read, and their places.
+use Rattle.std.specs.Prelude.{◌≡◌, ℕ, ℤ, pos, ◌+◌, ◌-◌, ◌<◌, ◌+ℤ◌, List, length, Option, Some}
+use Rattle.std.specs.Int.{FitsUnsigned, w64}
+use Rattle.std.specs.declared.io.ErrorKind.{ErrorKind}
+use Rattle.std.specs.declared.io.ErrorKind.TheVariants.{UnexpectedEof, InvalidInput}
+use Rattle.std.specs.declared.io.traits.SeekFrom.{SeekFrom}
+use Rattle.std.specs.declared.io.traits.SeekFrom.TheVariants.{Start, End, Current}
+use Rattle.bitstream_order.specs.declared.streams.slice.Slice.{Slice}
+
+-- the bytes left
+abbrev pub slice_remaining : Slice → Option (List ℕ)
+slice_remaining s = Some s.bytes.now
+
+-- all bytes, from place 0 on
+abbrev pub slice_bytes : Slice → List ℕ
+slice_bytes s = s.all.now
+
+-- the place in bytes, which may lie past the end
+abbrev pub slice_place : Slice → ℕ
+slice_place s = (length s.all.now - length s.bytes.now) + s.past
+
+-- a request is refused exactly if fewer bytes are left than it asks for, as an end, and changes nothing
+abbrev pub slice_refuses : Slice → ℕ → ErrorKind → Slice → Type 0
+slice_refuses before wanted kind after = (kind ≡ UnexpectedEof) × (length before.bytes.now < wanted)
+    × (after ≡ before)
+
+-- a request that took some bytes moved the place by as many, among the same bytes
+abbrev pub slice_takes : Slice → ℕ → Slice → Type 0
+slice_takes before count after = (slice_bytes after ≡ slice_bytes before)
+    × (slice_place after ≡ slice_place before + count)
+
+-- the byte that is meant, of bytes of this length that stand at this place
+abbrev pub byte_meant : ℕ → ℕ → SeekFrom → ℤ
+byte_meant place len (Start n) = pos n
+byte_meant place len (End offset) = pos len +ℤ offset
+byte_meant place len (Current offset) = pos place +ℤ offset
+
+-- a seek is refused exactly if its place is below 0 or above 2^64 - 1, as an invalid input, and changes nothing
+abbrev pub slice_refuses_seek : Slice → SeekFrom → ErrorKind → Slice → Type 0
+slice_refuses_seek before to kind after =
+    (kind ≡ InvalidInput) × (FitsUnsigned w64 (byte_meant (slice_place before) (length (slice_bytes before)) to) → ⊥)
+    × (after ≡ before)

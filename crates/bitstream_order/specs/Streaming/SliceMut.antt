@@ -1,0 +1,32 @@
+-- How bytes in memory are written.
+use Rattle.std.specs.Prelude.{◌≡◌, ℕ, ◌+◌, ◌<◌, List, length, take, Option, Some}
+use Rattle.std.specs.Borrow.{GName}
+use Rattle.std.specs.declared.io.ErrorKind.{ErrorKind}
+use Rattle.std.specs.declared.io.ErrorKind.TheVariants.{WriteZero}
+use Rattle.bitstream_order.specs.Reference.{Reference, to_slice}
+use Rattle.bitstream_order.specs.declared.streams.slice_mut.SliceMut.{SliceMut}
+
+-- the bytes that were written
+abbrev pub written_bytes : SliceMut → List ℕ
+written_bytes s = take s.written s.bytes.now
+
+-- the same, as what a target tells of its bytes
+abbrev pub written_contents : SliceMut → Option (List ℕ)
+written_contents s = Some (written_bytes s)
+
+-- how many bytes there are, written or free
+abbrev pub slice_capacity : SliceMut → ℕ
+slice_capacity s = length s.bytes.now
+
+-- the name of the reference to the bytes
+abbrev pub slice_name : SliceMut → GName
+slice_name s = s.bytes.ghost_name
+
+-- the reference to the bytes
+abbrev pub slice_reference : SliceMut → Reference
+slice_reference s = to_slice (slice_name s) (slice_capacity s)
+
+-- a request is refused exactly if fewer bytes are free than it has, as no room, and changes nothing
+abbrev pub slice_refuses_write : SliceMut → ℕ → ErrorKind → SliceMut → Type 0
+slice_refuses_write before wanted kind after = (kind ≡ WriteZero)
+    × (slice_capacity before < length (written_bytes before) + wanted) × (after ≡ before)

@@ -1,0 +1,103 @@
+//! What only contracts see: a count, and the refusals of a stream. They take no memory.
+ghost use Rattle.std.specs.Prelude.{◌≡◌, ℕ, ◌+◌, ◌*◌, List, [], ◌∷◌};
+ghost use Rattle.std.specs.Borrow.{ftrue};
+ghost use Rattle.bitstream_order.specs.Refusal.{Refusal};
+
+use std::marker::Model;
+
+/// A number that only contracts see, and that has no greatest value.
+#[derive(Drop)]
+pub struct GhostCount {
+    seal: (),
+    pub ghost count: { ℕ },
+}
+
+impl Model for GhostCount {
+    ghost also_owns = { λ _. ftrue };
+}
+
+// A struct with `also_owns` is neither `Send` nor `Sync` by itself. This one owns nothing.
+unsafe impl Send for GhostCount {}
+
+unsafe impl Sync for GhostCount {}
+
+const _: () = prove!(size_of::<GhostCount>() == 0);
+
+impl GhostCount {
+    /// Returns a tally of 0.
+    pub fn new() -> GhostCount
+        ensures { result.count ≡ 0 }
+    {
+        GhostCount { seal: () }
+    }
+
+    /// Does nothing at run time. The caller's proof says by what the count grows.
+    pub(crate) fn grow(&mut self, _n: u64)
+        ghost by: { ℕ }
+        ensures { self.new.count ≡ self.old.count + by }
+    {}
+
+    /// Adds n to the count.
+    pub fn add(&mut self, n: u64)
+        ensures { self.new.count ≡ self.old.count + n }
+    {
+        self.grow(n)
+    }
+
+    /// Adds the bits of n bytes to the count.
+    pub fn add_bytes(&mut self, n: usize)
+        ensures { self.new.count ≡ self.old.count + 8 * n }
+    {
+        self.grow(n as u64)
+    }
+
+    /// Does nothing at run time. The count grows by the bits of the bytes that another tally
+    /// counts.
+    fn grow_from(&mut self, _bytes: &GhostCount)
+        ghost by: { ℕ }
+        requires { by ≡ 8 * _bytes.now.count }
+        ensures { self.new.count ≡ self.old.count + by }
+    {
+        self.grow(0)
+    }
+
+    /// Adds the bits of the bytes that another tally counts to the count.
+    pub fn add_bits_of(&mut self, bytes: &GhostCount)
+        ensures { self.new.count ≡ self.old.count + 8 * bytes.now.count }
+    {
+        self.grow_from(bytes)
+    }
+}
+
+/// A list of refusals that only contracts see, the last one first.
+#[derive(Drop)]
+pub struct GhostRefusals {
+    seal: (),
+    pub ghost list: { List Refusal },
+}
+
+impl Model for GhostRefusals {
+    ghost also_owns = { λ _. ftrue };
+}
+
+// A struct with `also_owns` is neither `Send` nor `Sync` by itself. This one owns nothing.
+unsafe impl Send for GhostRefusals {}
+
+unsafe impl Sync for GhostRefusals {}
+
+const _: () = prove!(size_of::<GhostRefusals>() == 0);
+
+impl GhostRefusals {
+    /// Returns an empty list.
+    pub fn new() -> GhostRefusals
+        ensures { result.list ≡ [] }
+    {
+        GhostRefusals { seal: () }
+    }
+
+    /// Does nothing at run time. The caller's proof says by what the list grows.
+    pub fn push(&mut self, _n: u64)
+        ghost by: { Refusal }
+        ensures { self.new.list ≡ by ∷ self.old.list }
+    {}
+}

@@ -1,0 +1,55 @@
+//! Takes words from the bytes of a stream.
+ghost use Rattle.std.specs.Prelude.{◌≡◌, ℕ, ◌+◌, ◌^◌, ◌<◌, ◌≤◌};
+ghost use Rattle.bitstream_order.specs.Refusal.{MayRefuse};
+ghost use Rattle.bitstream_order.specs.Port.{port_state, requests_count};
+ghost use Rattle.bitstream_order.specs.Moving.Gather.{TakesBits, unused, seen};
+
+use crate::order::Endianness;
+use crate::port::Port;
+use crate::streams::source::Source;
+use bitstream_count::error::Error;
+use bitstream_number::number::{Numeric, Primitive, UnsignedInteger};
+
+/// Returns the number of padding bits (0 to 7) when n bits are stored in whole bytes.
+#[inline(always)]
+pub fn unused_bits(n: u32) -> u32
+    ensures { result ≡ unused n }
+{
+    (8 - n % 8) % 8
+}
+
+/// Takes the next n bits of the stream by one request, for their bytes. Returns the number of the
+/// `done` bits of `acc` and then these, and a byte whose first bits are those left of the last
+/// byte. `constant` tells whether n is known as the program is compiled (see [`Port::fetch_front`]).
+///
+/// # Errors
+///
+/// As [`Port::fetch`]. No byte is fetched then.
+#[inline(always)]
+pub fn take_bits<S: Source, E: Endianness, U: UnsignedInteger>(
+    port: &mut Port<S>,
+    acc: U,
+    done: u32,
+    n: u32,
+    constant: bool,
+) -> Result<(U, u8), Error>
+    requires below { U.value acc < 2 ^ done }
+    requires some { 1 ≤ n }
+    requires room { done + n ≤ U.BITS_SIZE }
+    ensures takes { TakesBits (MayRefuse S.remaining S.references S.refuses) E.order done (U.value acc) n
+        (port_state S.remaining S.references port.old) (seen (λ p. (U.value p.0, p.1)) result)
+        (port_state S.remaining S.references port.new) }
+    ensures requests { requests_count port.new ≡ requests_count port.old + 1 }
+{
+    let mut bytes = U::buffer();
+    let count = (n + 7) / 8;
+    match port.fetch_front(U::as_bytes_mut(&mut bytes), count as usize, constant) {
+        Ok(()) => {
+            // The bytes as one value: its first n bits are the word, and those behind them are left.
+            let value = E::of_bytes::<U>(bytes);
+            let left = E::byte_behind(value, n);
+            Ok((E::put(acc, done, E::front(value, n), n), left))
+        }
+        Err(error) => Err(error),
+    }
+}

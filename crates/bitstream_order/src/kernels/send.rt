@@ -1,0 +1,47 @@
+//! Sends words to a stream.
+ghost use Rattle.std.specs.Prelude.{◌≡◌, ℕ, ◌+◌, ◌^◌, ◌<◌, ◌≤◌, IfOk};
+ghost use Rattle.bitstream_order.specs.Refusal.{MayRefuse};
+ghost use Rattle.bitstream_number.specs.Word.{word};
+ghost use Rattle.bitstream_order.specs.Port.{port_state, requests_count};
+ghost use Rattle.bitstream_order.specs.Moving.Send.{SendsFront};
+
+use crate::order::Endianness;
+use crate::port::Port;
+use crate::streams::target::Target;
+use bitstream_count::error::Error;
+use bitstream_number::number::{Numeric, Primitive, UnsignedInteger};
+
+/// Sends the whole bytes that a queue of bits and then the n bits of a value make, by one request.
+/// Returns how many of the n bits were sent: all but fewer than 8.
+///
+/// # Errors
+///
+/// As [`Port::send`]. None of these bits is counted as sent then.
+#[inline(always)]
+pub fn send_front<T: Target, E: Endianness, U: UnsignedInteger>(
+    port: &mut Port<T>,
+    queue: u8,
+    queued: u32,
+    value: U,
+    n: u32,
+) -> Result<u32, Error>
+    requires few { queued < 8 }
+    requires small { queue < 2 ^ queued }
+    requires full { 8 ≤ queued + n }
+    requires room { n ≤ U.BITS_SIZE }
+    ensures sends { SendsFront (MayRefuse T.contents T.references T.refuses) E.order
+        (word E.order queued queue) (word E.order n (U.value value))
+        (port_state T.contents T.references port.old) result
+        (port_state T.contents T.references port.new) }
+    ensures within { IfOk result (λ done. done ≤ n) }
+    ensures rest { IfOk result (λ done. n < done + 8) }
+    ensures requests { requests_count port.new ≡ requests_count port.old + 1 }
+{
+    // The queue and then the word, as the first bits of one value. Its first bytes are the full ones.
+    let bytes = E::to_bytes(E::behind(queue, queued, E::to_front(value, n)));
+    let count = (queued + n) / 8;
+    match port.send(&U::as_bytes(&bytes)[..count as usize]) {
+        Ok(()) => Ok(8 * count - queued),
+        Err(error) => Err(error),
+    }
+}

@@ -1,0 +1,62 @@
+//! Shifts bytes behind a queue of bits.
+ghost use Rattle.std.specs.Prelude.{◌≡◌, ◌+◌, ◌-◌, ◌^◌, ◌<◌, ◌≤◌, length, take, drop};
+ghost use Rattle.bitstream_number.specs.Word.{bits};
+ghost use Rattle.bitstream_order.specs.Moving.Shift.{Shifts};
+
+use crate::order::Endianness;
+use bitstream_number::number::{Numeric, Primitive, UnsignedInteger};
+
+/// Shifts bytes in place behind a queue of bits, a value of type U at a time, and leaves the last
+/// bytes, which are fewer than U has. Returns how many bytes were shifted, and the bits that are
+/// left over, as many as were queued. Each turn carries the whole value of the turn before, of
+/// which the last bits count.
+#[inline(always)]
+fn shift_values<E: Endianness, U: UnsignedInteger>(
+    queue: u8,
+    queued: u32,
+    bytes: &mut [u8],
+) -> (usize, u8)
+    requires some { 1 ≤ queued }
+    requires few { queued < 8 }
+    requires small { queue < 2 ^ queued }
+    ensures shifts { Shifts E.order queued queue (bits E.order (take result.0 bytes.old))
+        (bits E.order (take result.0 bytes.new)) result.1 }
+    ensures small { result.1 < 2 ^ queued }
+    ensures rest { drop result.0 bytes.new ≡ drop result.0 bytes.old }
+    ensures within { result.0 ≤ length bytes.old }
+    ensures most { length bytes.old < result.0 + U.BYTES }
+    ensures len { length bytes.new ≡ length bytes.old }
+{
+    // The queue stands as the last bits of a value before the first one.
+    let rest = U::BITS_SIZE - queued;
+    let mut before = E::put(U::ZERO, rest, U::from_u8(queue), queued);
+    let mut at = 0;
+    while bytes.len() - at >= U::BYTES {
+        let end = at + U::BYTES;
+        let mut part = U::buffer();
+        U::as_bytes_mut(&mut part).copy_from_slice(&bytes[at..end]);
+        let value = E::of_bytes::<U>(part);
+        // The last bits of the value before it, and then this value but for its own last bits.
+        let shifted = E::to_bytes(E::shift_in(before, queued, value));
+        bytes[at..end].copy_from_slice(U::as_bytes(&shifted));
+        before = value;
+        at = end;
+    }
+    (at, E::cut(before, U::BITS_SIZE, rest, queued))
+}
+
+/// Shifts bytes in place behind a queue of bits, and returns the bits that are left over, as many
+/// as were queued.
+#[inline(always)]
+pub fn shift<E: Endianness>(queue: u8, queued: u32, bytes: &mut [u8]) -> u8
+    requires some { 1 ≤ queued }
+    requires few { queued < 8 }
+    requires small { queue < 2 ^ queued }
+    ensures shifts { Shifts E.order queued queue (bits E.order bytes.old)
+        (bits E.order bytes.new) result }
+    ensures small { result < 2 ^ queued }
+    ensures len { length bytes.new ≡ length bytes.old }
+{
+    let (at, left) = shift_values::<E, u64>(queue, queued, bytes);
+    shift_values::<E, u8>(left, queued, &mut bytes[at..]).1
+}

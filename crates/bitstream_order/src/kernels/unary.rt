@@ -1,0 +1,95 @@
+//! Takes unary words from the bytes of a stream.
+ghost use Rattle.std.specs.Prelude.{◌≡◌, ◌+◌, ◌-◌, ◌<◌, ◌≤◌, IfOk, IfSome, OnOk};
+ghost use Rattle.bitstream_number.specs.Word.{word};
+ghost use Rattle.bitstream_order.specs.Parts.{first_part};
+ghost use Rattle.bitstream_order.specs.Refusal.{MayRefuse};
+ghost use Rattle.bitstream_order.specs.Port.{port_state, fetched_count, requests_count};
+ghost use Rattle.bitstream_order.specs.Moving.TakeUnary.{FetchesByte, TakesUnary};
+
+use crate::order::Endianness;
+use crate::port::Port;
+use crate::streams::source::Source;
+use crate::ghosts::GhostCount;
+use bitstream_count::error::Error;
+
+/// Fetches one byte by one request.
+///
+/// # Errors
+///
+/// As [`Port::fetch`]. No byte is fetched then.
+#[inline(always)]
+fn fetch_byte<S: Source>(port: &mut Port<S>) -> Result<u8, Error>
+    ensures { FetchesByte (MayRefuse S.remaining S.references S.refuses)
+        (port_state S.remaining S.references port.old) result
+        (port_state S.remaining S.references port.new) }
+{
+    let mut byte = [0u8; 1];
+    port.fetch(&mut byte)?;
+    Ok(byte[0])
+}
+
+/// A unary word that was taken, and what is left of the byte that holds its stop bit.
+#[derive(Clone, Copy, Drop)]
+pub struct TakenUnary {
+    /// The number of bits before the stop bit.
+    pub count: u32,
+    /// A byte whose first bits are those left.
+    pub left: u8,
+    /// The number of bits left.
+    pub queued: u32,
+}
+
+/// Takes bits up to and with the first one that is `stop`: the first `queued` bits of a byte, and
+/// then those of the bytes of the stream, one byte a turn. Returns `None` if 2^32 bits come before
+/// any stop bit.
+///
+/// # Errors
+///
+/// As [`Port::fetch`]. The bits of all bytes that were fetched before are taken then.
+#[inline(always)]
+pub fn take_unary<S: Source, E: Endianness>(
+    port: &mut Port<S>,
+    turns: &mut GhostCount,
+    queue: u8,
+    queued: u32,
+    stop: bool,
+) -> Result<Option<TakenUnary>, Error>
+    requires { queued < 8 }
+    ensures takes { TakesUnary (MayRefuse S.remaining S.references S.refuses) E.order stop
+        (word E.order queued (first_part E.order queue 8 queued))
+        (port_state S.remaining S.references port.old) result
+        (port_state S.remaining S.references port.new) }
+    ensures few { IfOk result (λ answer. IfSome answer (λ run. run.queued < 8)) }
+    ensures turns { OnOk result (turns.new.count
+        ≡ turns.old.count + (fetched_count port.new - fetched_count port.old) + 1) }
+{
+    // The first turn is the queue. The bits behind the queued ones mean nothing, so a stop bit there
+    // is none.
+    turns.add(1);
+    let first = E::run_length(queue, stop);
+    if first < queued {
+        return Ok(Some(TakenUnary {
+            count: first,
+            left: E::rest(E::rest(queue, first), 1),
+            queued: queued - first - 1,
+        }));
+    }
+    let mut count = queued;
+    loop {
+        let byte = fetch_byte(port)?;
+        turns.add(1);
+        let lead = E::run_length(byte, stop);
+        // A sum that a `u32` does not hold is a run of 2^32 bits or more.
+        let Some(more) = count.checked_add(lead) else {
+            return Ok(None);
+        };
+        if lead < 8 {
+            return Ok(Some(TakenUnary {
+                count: more,
+                left: E::rest(E::rest(byte, lead), 1),
+                queued: 7 - lead,
+            }));
+        }
+        count = more;
+    }
+}

@@ -1,0 +1,9 @@
+//! Streams: what bytes are read from and written to.
+
+pub mod growing;
+pub mod lent;
+pub mod seek;
+pub mod slice;
+pub mod slice_mut;
+pub mod source;
+pub mod target;

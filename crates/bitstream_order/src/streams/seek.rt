@@ -1,0 +1,61 @@
+//! Sources that can seek.
+ghost use Rattle.std.specs.Prelude.{◌≡◌, ℕ, List, IfErr, Option};
+ghost use Rattle.std.specs.Io.KnownBytes.{Keeps};
+ghost use Rattle.std.specs.Io.Seek.{SeekMoves};
+ghost use Rattle.std.specs.IoError.{error_kind};
+ghost use Rattle.std.specs.declared.io.ErrorKind.{ErrorKind};
+ghost use Rattle.std.specs.declared.io.traits.SeekFrom.{SeekFrom};
+
+use crate::streams::lent::Lent;
+use crate::streams::source::Source;
+use std::io;
+use std::io::{Read, Seek, SeekFrom};
+
+/// A source that can seek: any `Read + Seek`, or such a source that is [`Lent`].
+pub trait SeekSource: Source {
+    // The position in bytes, if the source tells it.
+    ghost position: { Self → Option ℕ };
+
+    // All bytes from position 0 on, if the source tells them.
+    ghost bytes: { Self → Option (List ℕ) };
+
+    // How a seek may be refused, and with which kind. Of a `Read + Seek` std tells nothing.
+    ghost refuses_seek: { Self → SeekFrom → ErrorKind → Self → Type 0 };
+
+    /// Seeks by one request, and returns the new position in bytes.
+    ///
+    /// # Errors
+    ///
+    /// The source's own, as [`Seek::seek`] has them. The position stays as it was then.
+    fn seek(&mut self, to: SeekFrom) -> io::Result<u64>
+        ensures moves { SeekMoves (position self.old) (position self.new)
+            (bytes self.old) to result }
+        ensures bytes { Keeps (bytes self.old) (bytes self.new) }
+        ensures references { Self.references self.new ≡ Self.references self.old }
+        ensures refused { IfErr result (λ e. refuses_seek self.old to (error_kind e) self.new) };
+}
+
+impl<R: Read + Seek> SeekSource for R {
+    ghost position = { λ r. R.stream_position r };
+
+    ghost bytes = { λ r. R.stream_bytes r };
+
+    ghost refuses_seek = { λ _ _ _ _. Unit {0} };
+
+    fn seek(&mut self, to: SeekFrom) -> io::Result<u64> {
+        Seek::seek(self, to)
+    }
+}
+
+impl<'a, S: SeekSource> SeekSource for Lent<'a, S> {
+    ghost position = { λ lent. S.position lent.at.now };
+
+    ghost bytes = { λ lent. S.bytes lent.at.now };
+
+    ghost refuses_seek = { λ before to kind after.
+        S.refuses_seek before.at.now to kind after.at.now };
+
+    fn seek(&mut self, to: SeekFrom) -> io::Result<u64> {
+        SeekSource::seek(&mut *self.at, to)
+    }
+}

@@ -1,0 +1,155 @@
+//! Bytes in memory, as a source that refuses a read only at their end.
+ghost use Rattle.std.specs.Prelude.{◌≡◌, ◌+◌, ◌^◌, ◌<◌, [], length, unsigned_abs, Some};
+ghost use Rattle.std.specs.Int.{FitsUnsigned, w64};
+ghost use Rattle.std.specs.Option.{SomeIff};
+ghost use Rattle.bitstream_order.specs.Streaming.Tail.{IsTail};
+
+use crate::kernels::copy::{copy, copy_front};
+use crate::streams::seek::SeekSource;
+use crate::streams::source::Source;
+use std::io;
+use std::io::{ErrorKind, SeekFrom};
+
+/// Bytes in memory, which are read from their front. A read is refused exactly if fewer bytes are
+/// left than it asks for: with `UnexpectedEof`, and without taking any. So the bytes alone decide
+/// what a reader over it answers. (Of a `&[u8]` that is read as a stream std does not tell this.)
+///
+/// It seeks as std's `Cursor` does. A place past the end is allowed, and no byte is left there. A
+/// seek is refused exactly if its place is below 0 or above 2^64 - 1: with `InvalidInput`, and
+/// without moving.
+///
+/// # Examples
+///
+/// ```
+/// use bitstream_io::{BE, BitRead, BitReader, Error};
+///
+/// let mut reader = BitReader::<_, BE>::over(&[0xb1, 0xed]);
+/// assert_eq!(rt; reader.read_unsigned_var::<u16>(12)?, 0xb1e);
+/// assert!(rt; matches!(reader.read_unsigned_var::<u8>(8), Err(Error::EndOfInput)));
+/// ```
+#[derive(Drop)]
+pub struct Slice<'a> {
+    // Those left.
+    bytes: &'a [u8],
+    all: &'a [u8],
+    // How many bytes the place lies past the end.
+    past: u64,
+    ghost tail: { IsTail bytes.now all.now },
+    ghost ended: { 0 < past → bytes.now ≡ [] },
+    ghost places: { length all.now + past < 2 ^ 64 },
+}
+
+impl<'a> Slice<'a> {
+    ghost use Rattle.bitstream_order.specs.Streaming.Slice.{byte_meant, slice_bytes, slice_place, slice_remaining};
+
+    /// Returns a source of these bytes, at their start.
+    pub fn new(bytes: &'a [u8]) -> Slice<'a>
+        ensures bytes { result.bytes.now ≡ bytes.now }
+        ensures all { slice_bytes result ≡ bytes.now }
+        ensures place { slice_place result ≡ 0 }
+    {
+        Slice {
+            bytes,
+            all: bytes,
+            past: 0,
+        }
+    }
+
+    /// Returns the bytes left.
+    pub fn rest(&self) -> &'a [u8]
+        ensures { slice_remaining self.now ≡ Some result.now }
+    {
+        self.bytes
+    }
+
+    /// Returns the place in bytes.
+    fn place(&self) -> u64
+        ensures { result ≡ slice_place self.now }
+    {
+        (self.all.len() - self.bytes.len()) as u64 + self.past
+    }
+
+    /// Returns the place in bytes that is meant, if there is one.
+    fn place_meant(&self, to: SeekFrom) -> Option<u64>
+        ensures { SomeIff result
+            (FitsUnsigned w64 (byte_meant (slice_place self.now) (length (slice_bytes self.now)) to))
+            (unsigned_abs (byte_meant (slice_place self.now) (length (slice_bytes self.now)) to)) }
+    {
+        match to {
+            SeekFrom::Start(place) => Some(place),
+            SeekFrom::End(offset) => (self.all.len() as u64).checked_add_signed(offset),
+            SeekFrom::Current(offset) => self.place().checked_add_signed(offset),
+        }
+    }
+
+    /// Goes to a place in bytes.
+    fn go_to(&mut self, place: u64)
+        ensures place { slice_place self.new ≡ place }
+        ensures all { slice_bytes self.new ≡ slice_bytes self.old }
+    {
+        let all = self.all;
+        let front = place.min(all.len() as u64);
+        self.bytes = &all[front as usize..];
+        self.past = place - front;
+    }
+}
+
+impl<'a> Source for Slice<'a> {
+    ghost use Rattle.bitstream_order.specs.Streaming.Slice.{slice_remaining, slice_refuses, slice_takes};
+
+    ghost remaining = { slice_remaining };
+
+    ghost references = { λ _. [] };
+
+    ghost refuses = { slice_refuses };
+
+    ghost takes = { slice_takes };
+
+    #[inline(always)]
+    fn read_exact(&mut self, buf: &mut [u8]) -> io::Result<()> {
+        let bytes = self.bytes;
+        if bytes.len() < buf.len() {
+            return Err(io::Error::from(ErrorKind::UnexpectedEof));
+        }
+        let (front, back) = bytes.split_at(buf.len());
+        copy(buf, front);
+        self.bytes = back;
+        Ok(())
+    }
+
+    /// Copies as many bytes as the buffer holds, if there are so many, and takes the first `count`. If
+    /// that number is known as the program is compiled, it copies only these.
+    #[inline(always)]
+    fn read_front(&mut self, buf: &mut [u8], count: usize, constant: bool) -> io::Result<()> {
+        if constant {
+            return self.read_exact(&mut buf[..count]);
+        }
+        let bytes = self.bytes;
+        if !copy_front(buf, bytes, count) {
+            return Err(io::Error::from(ErrorKind::UnexpectedEof));
+        }
+        let (_, rest) = bytes.split_at(count);
+        self.bytes = rest;
+        Ok(())
+    }
+}
+
+impl<'a> SeekSource for Slice<'a> {
+    ghost use Rattle.bitstream_order.specs.Streaming.Slice.{slice_bytes, slice_place, slice_refuses_seek};
+
+    ghost position = { λ slice. Some (slice_place slice) };
+
+    ghost bytes = { λ slice. Some (slice_bytes slice) };
+
+    ghost refuses_seek = { slice_refuses_seek };
+
+    fn seek(&mut self, to: SeekFrom) -> io::Result<u64> {
+        match self.place_meant(to) {
+            Some(place) => {
+                self.go_to(place);
+                Ok(place)
+            }
+            None => Err(io::Error::from(ErrorKind::InvalidInput)),
+        }
+    }
+}

@@ -1,0 +1,88 @@
+//! Bytes in memory, as a target that refuses a write only if it has no room for it.
+ghost use Rattle.std.specs.Prelude.{◌≡◌, ◌∷◌, ◌-◌, ◌≤◌, [], length};
+
+use crate::kernels::copy::copy;
+use crate::streams::target::Target;
+use std::io;
+use std::io::ErrorKind;
+
+/// Bytes in memory, which are written from their front. A request is refused exactly if fewer bytes
+/// are free than it has: as `WriteZero`, and without writing any. So a program packs into a buffer of
+/// its own, with no allocator, and its writer fails for want of room alone. (Of a `&mut [u8]` that is
+/// written to as a stream std does not tell this.)
+///
+/// # Examples
+///
+/// ```
+/// use bitstream_io::{BE, BitWrite, BitWriter};
+///
+/// let mut buffer = [0u8; 4];
+/// let mut writer = BitWriter::<_, BE>::over(&mut buffer);
+/// writer.write_unsigned_var(12, 0xb1e_u16)?;
+/// writer.byte_align()?;
+/// let packed = writer.into_writer();
+/// assert_eq!(rt; packed.as_slice(), [0xb1, 0xe0].as_slice());
+/// assert_eq!(rt; packed.free(), 2);
+/// ```
+#[derive(Drop)]
+pub struct SliceMut<'a> {
+    bytes: &'a mut [u8],
+    // How many of them are written.
+    written: usize,
+    ghost room: { written ≤ length bytes.now },
+}
+
+impl<'a> SliceMut<'a> {
+    ghost use Rattle.bitstream_order.specs.Streaming.SliceMut.{slice_capacity, slice_name, written_bytes};
+
+    /// Returns a target that writes to these bytes, from their front.
+    pub fn new(bytes: &'a mut [u8]) -> SliceMut<'a>
+        ensures written { written_bytes result ≡ [] }
+        ensures capacity { slice_capacity result ≡ length bytes.old }
+        ensures name { slice_name result ≡ bytes.entry.ghost_name }
+    {
+        SliceMut { bytes, written: 0 }
+    }
+
+    /// Returns the bytes that were written.
+    pub fn as_slice(&self) -> &[u8]
+        ensures { result.now ≡ written_bytes self.now }
+    {
+        &self.bytes[..self.written]
+    }
+
+    /// Returns how many bytes are free.
+    pub fn free(&self) -> usize
+        ensures { result ≡ slice_capacity self.now - length (written_bytes self.now) }
+    {
+        self.bytes.len() - self.written
+    }
+}
+
+impl<'a> Target for SliceMut<'a> {
+    ghost use Rattle.bitstream_order.specs.Streaming.SliceMut.{slice_reference, slice_refuses_write, written_contents};
+
+    ghost contents = { written_contents };
+
+    ghost references = { λ target. slice_reference target ∷ [] };
+
+    ghost refuses = { slice_refuses_write };
+
+    ghost flushes = { λ before after. after ≡ before };
+
+    #[inline(always)]
+    fn write_all(&mut self, bytes: &[u8]) -> io::Result<()> {
+        let written = self.written;
+        if self.bytes.len() - written < bytes.len() {
+            return Err(io::Error::from(ErrorKind::WriteZero));
+        }
+        let end = written + bytes.len();
+        copy(&mut self.bytes[written..end], bytes);
+        self.written = end;
+        Ok(())
+    }
+
+    fn flush(&mut self) -> io::Result<()> {
+        Ok(())
+    }
+}

@@ -1,0 +1,96 @@
+//! Sources of bytes.
+ghost use Rattle.std.specs.Prelude.{◌≡◌, ◌≤◌, ℕ, List, [], ◌∷◌, IfErr, OnOk, Option, length, take};
+ghost use Rattle.bitstream_order.specs.Reference.{Reference, by_name};
+ghost use Rattle.std.specs.Io.KnownBytes.{Consumes};
+ghost use Rattle.std.specs.IoError.{error_kind};
+ghost use Rattle.std.specs.declared.io.ErrorKind.{ErrorKind};
+
+use crate::streams::lent::Lent;
+use std::io;
+use std::io::Read;
+
+/// A source of bytes: any `Read`, or a source that is [`Lent`].
+pub trait Source {
+    // The bytes left, if the source tells them.
+    ghost remaining: { Self → Option (List ℕ) };
+
+    // The references through which the source is reached. A request keeps them.
+    ghost references: { Self → List Reference };
+
+    // How a request for a number of bytes may be refused, and with which kind. Of a `Read` std
+    // tells nothing.
+    ghost refuses: { Self → ℕ → ErrorKind → Self → Type 0 };
+
+    // What a request that took a number of bytes did besides. Of a `Read` std tells nothing.
+    ghost takes: { Self → ℕ → Self → Type 0 };
+
+    /// Fills the whole buffer by one request.
+    ///
+    /// # Errors
+    ///
+    /// The source's own, as [`Read::read_exact`] has them. The source need not tell which bytes it
+    /// took then.
+    fn read_exact(&mut self, buf: &mut [u8]) -> io::Result<()>
+        ensures bytes { OnOk result (Consumes (remaining self.old) (remaining self.new) buf.new) }
+        ensures takes { OnOk result (takes self.old (length buf.old) self.new) }
+        ensures references { references self.new ≡ references self.old }
+        ensures refused { IfErr result
+            (λ e. refuses self.old (length buf.old) (error_kind e) self.new) };
+
+    /// Fills the first `count` bytes of the buffer, which has as many or more, by one request, for these
+    /// bytes alone. The rest of the buffer is unspecified: a source in memory may fill it too, since a
+    /// copy of constant length is cheaper. `constant` tells whether `count` is a compile-time constant, and
+    /// changes speed only.
+    ///
+    /// # Errors
+    ///
+    /// As [`read_exact`](Source::read_exact).
+    #[inline(always)]
+    fn read_front(&mut self, buf: &mut [u8], count: usize, _constant: bool) -> io::Result<()>
+        requires { count ≤ length buf.old }
+        ensures bytes { OnOk result
+            (Consumes (remaining self.old) (remaining self.new) (take count buf.new)) }
+        ensures len { length buf.new ≡ length buf.old }
+        ensures takes { OnOk result (takes self.old count self.new) }
+        ensures references { references self.new ≡ references self.old }
+        ensures refused { IfErr result (λ e. refuses self.old count (error_kind e) self.new) }
+    {
+        self.read_exact(&mut buf[..count])
+    }
+}
+
+impl<R: Read> Source for R {
+    ghost remaining = { λ r. R.remaining r };
+
+    ghost references = { λ _. [] };
+
+    ghost refuses = { λ _ _ _ _. Unit {0} };
+
+    ghost takes = { λ _ _ _. Unit {0} };
+
+    #[inline(always)]
+    fn read_exact(&mut self, buf: &mut [u8]) -> io::Result<()> {
+        Read::read_exact(self, buf)
+    }
+}
+
+impl<'a, S: Source> Source for Lent<'a, S> {
+    ghost remaining = { λ lent. S.remaining lent.at.now };
+
+    ghost references = { λ lent. by_name lent.at.ghost_name ∷ S.references lent.at.now };
+
+    ghost refuses = { λ before wanted kind after.
+        S.refuses before.at.now wanted kind after.at.now };
+
+    ghost takes = { λ before count after. S.takes before.at.now count after.at.now };
+
+    #[inline(always)]
+    fn read_exact(&mut self, buf: &mut [u8]) -> io::Result<()> {
+        Source::read_exact(&mut *self.at, buf)
+    }
+
+    #[inline(always)]
+    fn read_front(&mut self, buf: &mut [u8], count: usize, constant: bool) -> io::Result<()> {
+        Source::read_front(&mut *self.at, buf, count, constant)
+    }
+}

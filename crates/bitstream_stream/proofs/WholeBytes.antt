@@ -1,0 +1,2 @@
+pub mod ByteReadsLemmas
+pub mod ByteWritesLemmas

@@ -1,0 +1,9 @@
+pub mod BytesWritten
+pub mod RoomLemmas
+pub mod SinkLemmas
+pub mod SinkParts
+pub mod UnaryWrites
+pub mod VbrWrites
+pub mod WriteLemmas
+pub mod WriteParts
+pub mod WriterLemmas

@@ -1,5 +1,0 @@
-use Rattle.bitstream_stream.proofs.ByteWritesLemmas.{writes_lent}
-use Rattle.bitstream_stream.proofs.byte_write.RefMutByteWrite.pad.Goals as goal
-
-pub returns : goal.returns
-returns g c = record { writes = writes_lent g.W.ByteWrite.sink _ _ (cc) _ _ c.pad.ensures.writes }

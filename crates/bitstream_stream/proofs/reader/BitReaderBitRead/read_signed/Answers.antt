@@ -1,7 +1,0 @@
-use Rattle.bitstream_stream.proofs.reader.BitReaderBitRead.read_signed.Goals as goal
-
-pub returns-clause-reads : goal.returns-clause-reads
-returns-clause-reads g c = rw c.BITS.ensures at c.read_signed_word.ensures.reads
-
-pub returns-clause-asks : goal.returns-clause-asks
-returns-clause-asks g c = rw c.BITS.ensures at c.read_signed_word.ensures.asks

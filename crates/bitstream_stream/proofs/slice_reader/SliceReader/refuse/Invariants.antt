@@ -1,5 +1,0 @@
-use Rattle.bitstream_stream.specs.Memory.{end_of}
-use Rattle.bitstream_stream.proofs.slice_reader.SliceReader.refuse.Given as goal
-
-abbrev pub ghost-note_end : goal.ghost-note_end
-ghost-note_end g a = end_of a._left.now

@@ -1,5 +1,0 @@
-use Rattle.bitstream_stream.proofs.BytesLemmas.{bytes-failed}
-use Rattle.bitstream_stream.proofs.slice_reader.read.SliceReaderBitRead.read_bytes.Goals as goal
-
-pub returns-then-self : goal.returns-then-self
-returns-then-self g c = record { reads = bytes-failed _ _ _ c.if-self.true }

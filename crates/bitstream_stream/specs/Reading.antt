@@ -1,0 +1,10 @@
+pub mod Memory
+pub mod MemorySeek
+pub mod MemorySource
+pub mod MemoryState
+pub mod MemoryTakes
+pub mod Place
+pub mod ReadTable
+pub mod Reader
+pub mod Reads
+pub mod Seek

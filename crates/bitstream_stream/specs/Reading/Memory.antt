@@ -1,0 +1,51 @@
+-- What is known of a reader of bytes in memory.
+use Rattle.std.specs.Prelude.{◌≡◌, ℕ, ◌+◌, ◌-◌, ◌*◌, ◌/◌, ◌<◌, Bool, List, [], length, take, drop, Some, if◌then◌else◌}
+use Rattle.std.specs.Prelude.{None}
+use Rattle.std.specs.declared.io.ErrorKind.TheVariants.{UnexpectedEof}
+use Rattle.bitstream_number.specs.Word.{Order, bits}
+use Rattle.bitstream_order.specs.Refusal.{Refusal}
+use Rattle.bitstream_stream.specs.Reading.Reads.{ReaderState}
+
+-- how many bytes hold the bits taken of the first byte: it, or none
+abbrev pub held : ℕ → ℕ
+held bit = (bit + 7) / 8
+
+-- the bits left to read, of bytes of whose first some bits are taken
+abbrev pub rest_bits : Order → List ℕ → ℕ → List Bool
+rest_bits o bytes bit = drop bit (bits o bytes)
+
+-- the number of bits taken, of which `bit` are of the first byte left
+abbrev pub taken_bits : List ℕ → List ℕ → ℕ → ℕ
+taken_bits all bytes bit = 8 * (length all - length bytes) + bit
+
+-- The state of a reader of all these bytes, that has left those from the one that has the next bit, and took `bit` bits
+-- of it. A byte of which some bits are taken is fetched, and its other bits are queued.
+abbrev pub memory_state : Order → List ℕ → List ℕ → ℕ → Bool → List Refusal → ReaderState
+memory_state o all bytes bit failed refusals = record {
+  queue = if failed then [] else rest_bits o (take (held bit) bytes) bit;
+  bytes = Some (drop (held bit) bytes);
+  taken = taken_bits all bytes bit;
+  fetched = (taken_bits all bytes bit + 7) / 8;
+  failed = failed;
+  refusals = refusals;
+  references = [];
+}
+
+-- a refusal at the end of bytes, of which none is lost
+pub record EndsInMemory (refusal : Refusal) : Type 0 where
+  pub left : List ℕ
+  pub kind : refusal.kind ≡ UnexpectedEof
+  pub before : refusal.before ≡ Some left
+  pub after : refusal.after ≡ Some left
+  pub few : length left < refusal.wanted
+
+-- The refusal of one byte more than are left.
+abbrev pub end_of : List ℕ → Refusal
+end_of left = record {
+  kind = UnexpectedEof;
+  wanted = length left + 1;
+  capacity = None;
+  before = Some left;
+  after =
+      Some left;
+}

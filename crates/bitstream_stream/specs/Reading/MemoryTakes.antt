@@ -1,0 +1,40 @@
+-- What is taken from bytes in memory.
+use Rattle.std.specs.Prelude.{◌≡◌, ℕ, ◌+◌, ◌*◌, ◌/◌, ◌%◌, ◌^◌, ◌<◌, ◌≤◌, ◌∷◌, true, false, length, take, drop, Some}
+use Rattle.bitstream_number.specs.Word.{Order, word}
+use Rattle.bitstream_order.specs.Refusal.{Refusal}
+use Rattle.bitstream_stream.specs.Reading.Memory.{held, rest_bits, EndsInMemory}
+use Rattle.bitstream_stream.specs.declared.read.slice_reader.SliceReader.{SliceReader}
+
+-- a reader goes on by n bits, which are there
+pub record GoesOn {E : Type 0} (n : ℕ) (old new : SliceReader E) : Type 0 where
+  pub enough : old.bit + n ≤ 8 * length old.bytes.now
+  pub all : new.all.now ≡ old.all.now
+  pub bytes : new.bytes.now ≡ drop ((old.bit + n) / 8) old.bytes.now
+  pub bit : new.bit ≡ (old.bit + n) % 8
+  pub failed : new.failed ≡ old.failed
+  pub refusals : new.refusals.list ≡ old.refusals.list
+
+-- a reader stands at the bit at this place of its bytes, and has not failed
+pub record IsAt {E : Type 0} (place : ℕ) (old new : SliceReader E) : Type 0 where
+  pub all : new.all.now ≡ old.all.now
+  pub bytes : new.bytes.now ≡ drop (place / 8) old.all.now
+  pub bit : new.bit ≡ place % 8
+  pub failed : new.failed ≡ false
+  pub refusals : new.refusals.list ≡ old.refusals.list
+
+-- the next n bits are the word of v, and are taken
+pub record TakesNumber {E : Type 0} (o : Order) (n v : ℕ) (old new : SliceReader E) : Type 0 where
+  pub goes : GoesOn n old new
+  pub word : take n (rest_bits o old.bytes.now old.bit) ≡ word o n v
+  pub below : v < 2 ^ n
+
+-- a reader fails at the end of its bytes, and loses none
+pub record FailsAtEnd {E : Type 0} (old new : SliceReader E) : Type 0 where
+  pub refusal : Refusal
+  pub allowed : EndsInMemory refusal
+  pub before : refusal.before ≡ Some (drop (held old.bit) old.bytes.now)
+  pub all : new.all.now ≡ old.all.now
+  pub bytes : new.bytes.now ≡ old.bytes.now
+  pub bit : new.bit ≡ old.bit
+  pub failed : new.failed ≡ true
+  pub refusals : new.refusals.list ≡ refusal ∷ old.refusals.list

@@ -1,0 +1,4 @@
+pub mod ByteReader
+pub mod ByteReads
+pub mod ByteSink
+pub mod ByteWriter

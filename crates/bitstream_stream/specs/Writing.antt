@@ -1,0 +1,6 @@
+pub mod Carries
+pub mod CarriesLaws
+pub mod Room
+pub mod Sink
+pub mod WriteTable
+pub mod Writer

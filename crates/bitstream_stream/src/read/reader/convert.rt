@@ -1,0 +1,96 @@
+//! The ways from a reader of bits to its stream, and to a reader of bytes over it.
+ghost use Rattle.std.specs.Prelude.{◌≡◌, ◌↔◌, ◌%◌, ◌∷◌, false, Ok, IsSome, IfSome};
+ghost use Rattle.std.specs.Option.{ghost_name_of};
+ghost use Rattle.bitstream_order.specs.Reference.{by_name};
+ghost use Rattle.bitstream_order.specs.Port.{new_port_state};
+ghost use Rattle.bitstream_stream.specs.WholeBytes.ByteReader.{byte_reader_state};
+
+use super::BitReader;
+use crate::bytes::byte_read::ByteRead;
+use crate::bytes::byte_reader::ByteReader;
+use crate::read::BitRead;
+use bitstream_order::streams::lent::Lent;
+use bitstream_order::order::Endianness;
+use bitstream_order::streams::source::Source;
+
+impl<R: Source, E: Endianness> BitReader<R, E> {
+    ghost use Rattle.std.specs.Borrow.{Lends, LendsIf, follows_if, name_if_some, sem};
+    ghost use Rattle.bitstream_stream.specs.Ways.{reader_stream, reader_with, aligned_reader, byte_reader_name};
+    ghost use Rattle.bitstream_stream.specs.contracts.read.reader.BitReader.{the_row};
+
+    /// Returns the stream. The queued bits are dropped.
+    pub fn into_reader(self) -> R
+        ensures stream { result ≡ reader_stream self }
+        ensures bytes { R.remaining result ≡ (⟦<Self as BitRead>⟧.source.state self).bytes }
+    {
+        self.port.into_inner()
+    }
+
+    /// Lends the stream, if the reader is at a byte boundary and has not failed. The reader does
+    /// not count what is then taken from the stream.
+    pub fn reader(&mut self) -> Option<&mut R>
+        ensures there { IsSome result ↔ (((⟦<Self as BitRead>⟧.source.state self.old).failed ≡ false)
+            × ((⟦<Self as BitRead>⟧.source.state self.old).taken % 8 ≡ 0)) }
+        ensures stream { IfSome result (λ stream. stream.now ≡ reader_stream self.old) }
+        ensures* writes_back { sem 𝓛 (LendsIf (the_row R.row E.row) R.row self.entry result
+            (reader_with self.old) self.old) }
+    {
+        if self.byte_aligned() {
+            Some(self.port.lend())
+        } else {
+            None
+        }
+    }
+
+    /// Skips the bits up to the next byte boundary, as [`byte_align`](BitRead::byte_align) does,
+    /// and lends the stream, even if the reader has failed. The reader does not count what is then
+    /// taken from the stream.
+    pub fn aligned_reader(&mut self) -> &mut R
+        ensures stream { result.now ≡ reader_stream self.old }
+        ensures* writes_back { sem 𝓛 (Lends (the_row R.row E.row) R.row self.entry result
+            (λ stream. reader_with (aligned_reader self.old) stream)) }
+    {
+        self.drop_queue();
+        self.port.lend()
+    }
+
+    /// Returns a new reader of bytes over the stream, in the same order, if this reader is at a
+    /// byte boundary and has not failed. When the new one is dropped, this one goes on with the
+    /// bytes that it left. It does not count the bytes that the new one took.
+    pub fn bytereader<'a>(&'a mut self) -> Option<ByteReader<Lent<'a, R>, E>>
+        ensures there { IsSome result ↔ (((⟦<Self as BitRead>⟧.source.state self.old).failed ≡ false)
+            × ((⟦<Self as BitRead>⟧.source.state self.old).taken % 8 ≡ 0)) }
+        ensures state { IfSome result (λ reader.
+            ⟦<ByteReader<Lent<'a, R>, E> as ByteRead>⟧.source.state reader
+            ≡ byte_reader_state (new_port_state (R.remaining (reader_stream self.old))
+            (by_name (byte_reader_name reader) ∷ R.references (reader_stream self.old)))) }
+        ensures* writes_back { sem 𝓛 (follows_if (the_row R.row E.row) R.row self.entry.ghost_name
+            (name_if_some byte_reader_name result) (reader_with self.old) self.old) }
+    {
+        Self::byte_reader_of(self.reader())
+    }
+
+    /// Returns a new reader of bytes over a stream that was lent, if one was.
+    fn byte_reader_of<'a>(stream: Option<&'a mut R>) -> Option<ByteReader<Lent<'a, R>, E>>
+        ensures name { name_if_some byte_reader_name result ≡ ghost_name_of stream.entry }
+        ensures state { IfSome stream.entry (λ lent. IfSome result (λ reader.
+            ⟦<ByteReader<Lent<'a, R>, E> as ByteRead>⟧.source.state reader
+            ≡ byte_reader_state (new_port_state (R.remaining lent.now)
+            (by_name (byte_reader_name reader) ∷ R.references lent.now)))) }
+    {
+        match stream {
+            Some(stream) => Some(ByteReader::new(Lent::new(stream))),
+            None => None,
+        }
+    }
+
+    /// Returns a new reader of bytes over the stream, in the same order. The queued bits are
+    /// dropped.
+    pub fn into_bytereader(self) -> ByteReader<R, E>
+        ensures { ⟦<ByteReader<R, E> as ByteRead>⟧.source.state result
+            ≡ byte_reader_state (new_port_state (R.remaining (reader_stream self))
+            (R.references (reader_stream self))) }
+    {
+        ByteReader::new(self.into_reader())
+    }
+}

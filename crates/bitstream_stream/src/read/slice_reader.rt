@@ -1,0 +1,123 @@
+//! A reader of the bits of bytes in memory, which knows its place, its rest and its end.
+ghost use Rattle.std.specs.Prelude.{◌≡◌, ◌+◌, ◌*◌, ◌<◌, ◌≤◌, ◌^◌, ◌↔◌, IsTrue, false, [], length, Some, IfSome};
+ghost use Rattle.bitstream_order.specs.Streaming.Tail.{IsTail};
+ghost use Rattle.bitstream_stream.specs.Reading.Reader.{new_reader_state};
+
+use crate::capped::capped;
+use crate::read::BitRead;
+use bitstream_order::order::Endianness;
+use bitstream_order::ghosts::GhostRefusals;
+use std::marker::PhantomData;
+
+mod bytes;
+mod moves;
+mod read;
+mod run;
+mod seek;
+mod convert;
+mod window;
+mod words;
+
+/// Reads bits from bytes in memory: [`over`](SliceReader::over) makes one.
+///
+/// It holds no queue: its place is a bit of the bytes. So it tells how many bits were
+/// [read](SliceReader::bits_read) and are [left](SliceReader::bits_left), and the [rest](SliceReader::rest)
+/// of the bytes, and [goes](SliceReader::seek_bits) to any of their bits. It is refused only at the end of
+/// the bytes, as [`EndOfInput`](bitstream_count::error::Error). A refused call takes nothing, but for the
+/// bits up to a whole byte, which [take_bytes](SliceReader::take_bytes) and [part](SliceReader::part) drop
+/// first. The reader has failed then: each later call for a value answers `Failed`, until a seek makes
+/// it read again.
+///
+/// # Examples
+///
+/// ```
+/// use bitstream_io::{BE, BitRead, Error, SliceReader};
+///
+/// let mut reader = SliceReader::<BE>::over(&[0xb1, 0xed, 0x3b]);
+/// assert_eq!(rt; reader.read_unsigned_var::<u16>(12)?, 0xb1e);
+/// assert_eq!(rt; (reader.bits_read(), reader.bits_left()), (12, 12));
+/// assert_eq!(rt; reader.rest(), [0x3b].as_slice());
+/// assert!(rt; matches!(reader.read_unsigned_var::<u16>(13), Err(Error::EndOfInput)));
+/// ```
+#[derive(Drop)]
+pub struct SliceReader<'a, E> {
+    all: &'a [u8],
+    // Those from the one that has the next bit.
+    bytes: &'a [u8],
+    // How many bits of that byte are taken.
+    bit: u32,
+    failed: bool,
+    refusals: GhostRefusals,
+    order: PhantomData<E>,
+    ghost tail: { IsTail bytes.now all.now },
+    ghost few: { bit < 8 },
+    ghost some: { 0 < bit → 1 ≤ length bytes.now },
+}
+
+impl<'a, E: Endianness> SliceReader<'a, E> {
+    ghost use Rattle.bitstream_stream.specs.Reading.Reads.{bits_left};
+    ghost use Rattle.bitstream_stream.specs.Reading.Memory.{taken_bits};
+    ghost use Rattle.bitstream_stream.specs.Reading.MemorySeek.{memory_bytes};
+    ghost use Rattle.bitstream_stream.specs.Reading.MemorySource.{memory_source};
+
+    /// Returns a reader of these bytes, at their start.
+    pub fn over(bytes: &'a [u8]) -> SliceReader<'a, E>
+        ensures state { (memory_source E.order).state result ≡ new_reader_state (Some bytes.now) [] }
+        ensures bytes { memory_bytes result ≡ bytes.now }
+    {
+        SliceReader {
+            all: bytes,
+            bytes,
+            bit: 0,
+            failed: false,
+            refusals: GhostRefusals::new(),
+            order: PhantomData,
+        }
+    }
+
+    /// Returns how many bits were taken.
+    fn taken(&self) -> u128
+        ensures { result ≡ taken_bits self.now.all.now self.now.bytes.now self.now.bit }
+    {
+        8 * (self.all.len() - self.bytes.len()) as u128 + self.bit as u128
+    }
+
+    /// Returns how many bits were read: at most 2^64 - 1, and exactly that number if it is less.
+    pub fn bits_read(&self) -> u64
+        ensures most { result ≤ ((memory_source E.order).state self.now).taken }
+        ensures exact { ((memory_source E.order).state self.now).taken < 2 ^ 64
+            → result ≡ ((memory_source E.order).state self.now).taken }
+    {
+        capped(self.taken())
+    }
+
+    /// Returns how many bits are left: at most 2^64 - 1, and exactly that number if it is less. Of a
+    /// reader that has failed, those that were left before the call that was refused.
+    pub fn bits_left(&self) -> u64
+        ensures most { ((memory_source E.order).state self.now).failed ≡ false
+            → IfSome (bits_left E.order ((memory_source E.order).state self.now))
+            (λ left. result ≤ length left) }
+        ensures exact { ((memory_source E.order).state self.now).failed ≡ false
+            → IfSome (bits_left E.order ((memory_source E.order).state self.now))
+            (λ left. length left < 2 ^ 64 → result ≡ length left) }
+    {
+        capped(8 * self.bytes.len() as u128 - self.bit as u128)
+    }
+
+    /// Returns whether no bit is left. Of a reader that has failed, whether none was left before.
+    pub fn is_at_end(&self) -> bool
+        ensures { ((memory_source E.order).state self.now).failed ≡ false
+            → IfSome (bits_left E.order ((memory_source E.order).state self.now))
+            (λ left. IsTrue result ↔ (length left ≡ 0)) }
+    {
+        self.bytes.is_empty()
+    }
+
+    /// Returns the bytes of which no bit is taken, also of a reader that has failed.
+    pub fn rest(&self) -> &'a [u8]
+        ensures { ((memory_source E.order).state self.now).bytes ≡ Some result.now }
+    {
+        let bytes = self.bytes;
+        if self.bit > 0 { &bytes[1..] } else { bytes }
+    }
+}

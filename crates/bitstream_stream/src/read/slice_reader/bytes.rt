@@ -1,0 +1,97 @@
+//! Bytes of bytes in memory, and parts of them that are lent.
+ghost use Rattle.std.specs.Prelude.{◌≡◌, ℕ, ◌+◌, ◌*◌, ◌≤◌, false, [], List, length, take, Some, IfOk};
+ghost use Rattle.bitstream_order.specs.Moving.Gather.{seen};
+ghost use Rattle.bitstream_stream.specs.Reading.Reads.{Reads};
+ghost use Rattle.bitstream_stream.specs.Reading.ReadTable.{bytes_entry, whole_bytes_entry};
+ghost use Rattle.bitstream_stream.specs.Reading.Reader.{new_reader_state};
+
+use super::SliceReader;
+use bitstream_count::error::Error;
+use bitstream_order::order::Endianness;
+use bitstream_order::kernels::shift::shift;
+
+impl<'a, E: Endianness> SliceReader<'a, E> {
+    ghost use Rattle.bitstream_stream.specs.Reading.MemorySource.{memory_source};
+
+    /// Reads bytes at a byte boundary.
+    #[inline(always)]
+    pub(super) fn read_aligned(&mut self, buf: &mut [u8]) -> Result<(), Error>
+        requires fine { self.old.failed ≡ false }
+        requires none { self.old.bit ≡ 0 }
+        ensures { Reads (memory_source E.order) (bytes_entry E.order (length buf.old)) self.old
+            (seen (λ _. buf.new) result) self.new }
+    {
+        let count = buf.len();
+        let bytes = self.bytes;
+        if bytes.len() < count {
+            return Err(self.refuse());
+        }
+        buf.copy_from_slice(&bytes[..count]);
+        self.go_bytes(count);
+        Ok(())
+    }
+
+    /// Reads bytes off a byte boundary.
+    pub(super) fn read_shifted(&mut self, buf: &mut [u8]) -> Result<(), Error>
+        requires fine { self.old.failed ≡ false }
+        requires some { 1 ≤ self.old.bit }
+        ensures { Reads (memory_source E.order) (bytes_entry E.order (length buf.old)) self.old
+            (seen (λ _. buf.new) result) self.new }
+    {
+        let count = buf.len();
+        let bytes = self.bytes;
+        if bytes.len() <= count {
+            return Err(self.refuse());
+        }
+        let queued = 8 - self.bit;
+        let queue = E::first(E::rest(bytes[0], self.bit), queued);
+        buf.copy_from_slice(&bytes[1..count + 1]);
+        let _left = shift::<E>(queue, queued, buf);
+        self.go_bytes(count);
+        Ok(())
+    }
+
+    /// Drops the bits up to the next whole byte, as `byte_align` does, and lends the next `count` bytes,
+    /// which are taken. They are not copied.
+    ///
+    /// # Errors
+    ///
+    /// `EndOfInput` if fewer are left: the reader has failed. `Failed` if it had failed before.
+    pub fn take_bytes(&mut self, count: usize) -> Result<&'a [u8], Error>
+        ensures reads { Reads (memory_source E.order) (whole_bytes_entry count) self.old
+            (seen (λ _. tt) result) self.new }
+        ensures bytes { IfOk result (λ lent. (bytes : List ℕ)
+            → ((memory_source E.order).state self.old).bytes ≡ Some bytes
+            → lent.now ≡ take count bytes) }
+    {
+        if self.failed {
+            return Err(Error::Failed);
+        }
+        self.go_on((8 - self.bit) % 8);
+        let bytes = self.bytes;
+        if bytes.len() < count {
+            return Err(self.refuse());
+        }
+        self.go_bytes(count);
+        Ok(&bytes[..count])
+    }
+
+    /// Takes the next `count` bytes, as [`take_bytes`](SliceReader::take_bytes) does, and returns a reader
+    /// of them alone: its end is theirs.
+    ///
+    /// # Errors
+    ///
+    /// `EndOfInput` if fewer are left: this reader has failed. `Failed` if it had failed before.
+    pub fn part(&mut self, count: usize) -> Result<SliceReader<'a, E>, Error>
+        ensures reads { Reads (memory_source E.order) (whole_bytes_entry count) self.old
+            (seen (λ _. tt) result) self.new }
+        ensures part { IfOk result (λ part. (bytes : List ℕ)
+            → ((memory_source E.order).state self.old).bytes ≡ Some bytes
+            → (memory_source E.order).state part ≡ new_reader_state (Some (take count bytes)) []) }
+    {
+        match self.take_bytes(count) {
+            Ok(bytes) => Ok(SliceReader::over(bytes)),
+            Err(error) => Err(error),
+        }
+    }
+}

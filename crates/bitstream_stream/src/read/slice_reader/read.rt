@@ -1,0 +1,130 @@
+//! The calls of a reader of bits, over bytes in memory.
+ghost use Rattle.std.specs.Prelude.{◌≡◌, ◌==◌};
+ghost use Rattle.bitstream_order.specs.Moving.Gather.{seen};
+ghost use Rattle.bitstream_stream.specs.Reading.Reads.{Reads};
+ghost use Rattle.bitstream_stream.specs.Reading.ReadTable.{unsigned_entry, signed_entry, unary_entry};
+
+use super::SliceReader;
+use super::run::run_in_window;
+use crate::read::BitRead;
+use bitstream_count::count::{Count, SignedCount};
+use bitstream_count::error::Error;
+use bitstream_number::number::{Numeric, Primitive, SignedInteger, UnsignedInteger, Width};
+use bitstream_order::order::Endianness;
+
+impl<'a, E: Endianness> BitRead for SliceReader<'a, E> {
+    ghost use Rattle.bitstream_stream.specs.Reading.MemorySource.{memory_source};
+
+    ghost source = { memory_source E.order };
+
+    #[inline(always)]
+    fn read_unsigned_counted<C: Count, U: UnsignedInteger>(&mut self, bits: C) -> Result<U, Error> {
+        self.read_word(bits.bits(), false)
+    }
+
+    #[inline(always)]
+    fn read_signed_counted<C: SignedCount, S: SignedInteger>(
+        &mut self,
+        bits: C,
+    ) -> Result<S, Error> {
+        self.read_signed_word(bits.bits(), false)
+    }
+
+    #[inline(always)]
+    fn read_bit(&mut self) -> Result<bool, Error> {
+        let bit = self.read_one()?;
+        Ok(bit % 2 == 1)
+    }
+
+    #[inline(always)]
+    fn read_unsigned_var<U: UnsignedInteger>(&mut self, bits: u32) -> Result<U, Error> {
+        self.read_word(bits, false)
+    }
+
+    #[inline(always)]
+    fn read_unsigned<B: Width, U: UnsignedInteger>(&mut self) -> Result<U, Error>
+        ensures { Reads ⟦<Self as BitRead>⟧.source (unsigned_entry E.order U.BITS_SIZE B.BITS)
+            self.old (seen U.value result) self.new }
+    {
+        self.read_word(B::BITS, true)
+    }
+
+    #[inline(always)]
+    fn read_signed_var<S: SignedInteger>(&mut self, bits: u32) -> Result<S, Error> {
+        self.read_signed_word(bits, false)
+    }
+
+    #[inline(always)]
+    fn read_signed<B: Width, S: SignedInteger>(&mut self) -> Result<S, Error>
+        ensures { Reads ⟦<Self as BitRead>⟧.source (signed_entry E.order S.BITS_SIZE B.BITS)
+            self.old (seen S.integer result) self.new }
+    {
+        self.read_signed_word(B::BITS, true)
+    }
+
+    #[inline(always)]
+    fn read_to<V: Primitive>(&mut self) -> Result<V, Error> {
+        self.read_as_to::<E, V>()
+    }
+
+    #[inline(always)]
+    fn read_as_to<F: Endianness, V: Primitive>(&mut self) -> Result<V, Error> {
+        let mut bytes = V::buffer();
+        self.read_bytes(V::as_bytes_mut(&mut bytes))?;
+        Ok(F::value_of_bytes(bytes))
+    }
+
+    #[inline(always)]
+    fn read_unary<S: Width>(&mut self) -> Result<u32, Error>
+        ensures { Reads ⟦<Self as BitRead>⟧.source (unary_entry (S.BITS == 1)) self.old result self.new }
+    {
+        let stop = S::BITS == 1;
+        if !self.failed && self.bytes.len() >= 8 {
+            let run = run_in_window::<E>(self.bytes, self.bit, stop);
+            if run + self.bit < 64 {
+                self.go_to((self.bit + run + 1) as u64);
+                return Ok(run);
+            }
+        }
+        self.read_run(stop)
+    }
+
+    #[inline(always)]
+    fn read_bytes(&mut self, buf: &mut [u8]) -> Result<(), Error> {
+        if self.failed {
+            return Err(Error::Failed);
+        }
+        if self.bit == 0 {
+            self.read_aligned(buf)
+        } else {
+            self.read_shifted(buf)
+        }
+    }
+
+    fn skip(&mut self, bits: u32) -> Result<(), Error> {
+        if self.failed {
+            return Err(Error::Failed);
+        }
+        let total = self.bit as u64 + bits as u64;
+        let bytes = self.bytes;
+        if (total + 7) / 8 > bytes.len() as u64 {
+            return Err(self.refuse());
+        }
+        self.go_to(total);
+        Ok(())
+    }
+
+    fn byte_aligned(&self) -> bool {
+        !self.failed && self.bit == 0
+    }
+
+    fn byte_align(&mut self) {
+        if !self.failed {
+            self.go_on((8 - self.bit) % 8);
+        }
+    }
+
+    fn fail(&mut self) {
+        self.failed = true;
+    }
+}

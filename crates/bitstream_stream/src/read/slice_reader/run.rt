@@ -1,0 +1,83 @@
+//! Runs of bits of bytes in memory.
+ghost use Rattle.std.specs.Prelude.{◌≡◌, ◌+◌, ◌<◌, ◌≤◌, length};
+ghost use Rattle.bitstream_count.specs.Unary.{lead};
+ghost use Rattle.bitstream_number.specs.Word.{bits};
+ghost use Rattle.bitstream_stream.specs.Reading.Memory.{rest_bits};
+ghost use Rattle.bitstream_stream.specs.Reading.Reads.{Reads};
+ghost use Rattle.bitstream_stream.specs.Reading.ReadTable.{unary_entry};
+
+use super::SliceReader;
+use super::window::eight;
+use bitstream_count::error::Error;
+use bitstream_order::order::Endianness;
+
+/// Returns how many bits, behind the first few, come before the first one that is `stop`, if that stands
+/// in the first eight bytes.
+#[inline(always)]
+pub(super) fn run_in_window<E: Endianness>(bytes: &[u8], bit: u32, stop: bool) -> u32
+    requires few { bit < 8 }
+    requires eight { 8 ≤ length bytes.now }
+    ensures most { result ≤ 64 }
+    ensures run { result + bit < 64 → result ≡ lead stop (rest_bits E.order bytes.now bit) }
+{
+    E::lead_behind(eight::<E>(bytes), bit, stop)
+}
+
+/// Returns a number and how many bits of some bytes come before the first one that is `stop`.
+fn run_from<E: Endianness>(bytes: &[u8], first: u32, stop: bool) -> u128
+    ensures { result ≡ first + lead stop (bits E.order bytes.now) }
+{
+    let mut count = first as u128;
+    let mut at = 0;
+    while at < bytes.len() {
+        let lead = E::run_length(bytes[at], stop);
+        if lead < 8 {
+            return count + lead as u128;
+        }
+        count += 8;
+        at += 1;
+    }
+    count
+}
+
+/// Returns how many bits of some bytes, behind the first few, come before the first one that is `stop`.
+pub(super) fn run_length<E: Endianness>(bytes: &[u8], bit: u32, stop: bool) -> u128
+    requires few { bit < 8 }
+    requires some { 0 < bit → 1 ≤ length bytes.now }
+    ensures { result ≡ lead stop (rest_bits E.order bytes.now bit) }
+{
+    if bit == 0 {
+        return run_from::<E>(bytes, 0, stop);
+    }
+    let lead = E::run_length(E::rest(bytes[0], bit), stop);
+    if lead < 8 - bit {
+        return lead as u128;
+    }
+    run_from::<E>(&bytes[1..], 8 - bit, stop)
+}
+
+impl<'a, E: Endianness> SliceReader<'a, E> {
+    ghost use Rattle.bitstream_stream.specs.Reading.MemorySource.{memory_source};
+
+    /// Reads a run near the end, or a long one.
+    #[inline(never)]
+    pub(super) fn read_run(&mut self, stop: bool) -> Result<u32, Error>
+        ensures { Reads (memory_source E.order) (unary_entry stop) self.old result self.new }
+    {
+        if self.failed {
+            return Err(Error::Failed);
+        }
+        let run = run_length::<E>(self.bytes, self.bit, stop);
+        let most = 8 * self.bytes.len() as u128 - self.bit as u128;
+        if run > u32::MAX as u128 {
+            self.go_to(self.bit as u64 + 4294967296);
+            self.failed = true;
+            return Err(Error::RunTooLong);
+        }
+        if run >= most {
+            return Err(self.refuse());
+        }
+        self.go_to(self.bit as u64 + run as u64 + 1);
+        Ok(run as u32)
+    }
+}

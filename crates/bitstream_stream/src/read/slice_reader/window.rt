@@ -1,0 +1,99 @@
+//! The first eight bytes of some as one number.
+ghost use Rattle.std.specs.Prelude.{◌≡◌, ◌*◌, ◌<◌, ◌≤◌, length, take, IfSome, None};
+ghost use Rattle.bitstream_number.specs.Word.{word, bits};
+
+use bitstream_order::order::Endianness;
+
+/// Returns the first eight bytes as a number.
+#[inline(always)]
+pub(super) fn eight<E: Endianness>(bytes: &[u8]) -> u64
+    requires { 8 ≤ length bytes.now }
+    ensures { take (8 * length (take 8 bytes.now)) (word E.order 64 result)
+        ≡ bits E.order (take 8 bytes.now) }
+{
+    let mut front = [0u8; 8];
+    front.copy_from_slice(&bytes[..8]);
+    E::of_bytes::<u64>(front)
+}
+
+/// Returns fewer than eight bytes as a number, with zeros behind them.
+#[inline(never)]
+fn padded<E: Endianness>(bytes: &[u8]) -> u64
+    requires { length bytes.now < 8 }
+    ensures { take (8 * length (take 8 bytes.now)) (word E.order 64 result)
+        ≡ bits E.order (take 8 bytes.now) }
+{
+    let mut front = [0u8; 8];
+    front[..bytes.len()].copy_from_slice(bytes);
+    E::of_bytes::<u64>(front)
+}
+
+/// Returns the first bytes, up to eight, as a number.
+#[inline(always)]
+pub(super) fn load<E: Endianness>(bytes: &[u8]) -> u64
+    ensures { take (8 * length (take 8 bytes.now)) (word E.order 64 result)
+        ≡ bits E.order (take 8 bytes.now) }
+{
+    if bytes.len() >= 8 {
+        eight::<E>(bytes)
+    } else {
+        padded::<E>(bytes)
+    }
+}
+
+/// Returns the first N bytes as a number, with zeros behind them.
+#[inline(always)]
+pub(super) fn first<const N: usize, E: Endianness>(bytes: &[u8]) -> u64
+    requires few { N ≤ 8 }
+    requires there { N ≤ length bytes.now }
+    ensures { take (8 * N) (word E.order 64 result) ≡ bits E.order (take N bytes.now) }
+{
+    let mut front = [0u8; 8];
+    front[..N].copy_from_slice(&bytes[..N]);
+    E::of_bytes::<u64>(front)
+}
+
+/// Returns the first bytes as a number, with zeros behind them: of a number of bytes that is mostly
+/// known as the program is compiled.
+#[inline(always)]
+fn exact<E: Endianness>(bytes: &[u8], need: u32) -> u64
+    requires few { need ≤ 8 }
+    requires there { need ≤ length bytes.now }
+    ensures { take (8 * need) (word E.order 64 result) ≡ bits E.order (take need bytes.now) }
+{
+    match need {
+        1 => first::<1, E>(bytes),
+        2 => first::<2, E>(bytes),
+        3 => first::<3, E>(bytes),
+        4 => first::<4, E>(bytes),
+        5 => first::<5, E>(bytes),
+        6 => first::<6, E>(bytes),
+        7 => first::<7, E>(bytes),
+        8 => first::<8, E>(bytes),
+        _ => first::<0, E>(bytes),
+    }
+}
+
+/// Returns a number whose word begins with the first bits of some bytes, if there are so many.
+#[inline(always)]
+pub(super) fn fetch<E: Endianness>(bytes: &[u8], total: u32, constant: bool) -> Option<u64>
+    requires { total ≤ 64 }
+    ensures some { IfSome result (λ w. (total ≤ 8 * length bytes.now)
+        × (take total (word E.order 64 w) ≡ take total (bits E.order bytes.now))) }
+    ensures none { result ≡ None → 8 * length bytes.now < total }
+{
+    let need = (total + 7) / 8;
+    if constant {
+        if bytes.len() < need as usize {
+            return None;
+        }
+        return Some(exact::<E>(bytes, need));
+    }
+    if bytes.len() >= 8 {
+        return Some(eight::<E>(bytes));
+    }
+    if bytes.len() < need as usize {
+        return None;
+    }
+    Some(padded::<E>(bytes))
+}

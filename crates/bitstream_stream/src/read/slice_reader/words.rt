@@ -1,0 +1,143 @@
+//! Numbers of bytes in memory: a window of eight bytes serves up to 56 bits.
+ghost use Rattle.std.specs.Prelude.{◌≡◌, ◌+◌, ◌*◌, ◌<◌, ◌≤◌, false, length};
+ghost use Rattle.bitstream_order.specs.Moving.Gather.{seen};
+ghost use Rattle.bitstream_stream.specs.Reading.Reads.{Reads};
+ghost use Rattle.bitstream_stream.specs.Reading.ReadTable.{unsigned_entry, signed_entry};
+
+use super::SliceReader;
+use super::window::{fetch, first, load};
+use bitstream_count::error::Error;
+use bitstream_number::number::{Numeric, SignedInteger, UnsignedInteger};
+use bitstream_order::order::Endianness;
+use bitstream_order::kernels::sign::signed_of;
+
+impl<'a, E: Endianness> SliceReader<'a, E> {
+    ghost use Rattle.bitstream_stream.specs.Reading.MemorySource.{memory_source};
+    ghost use Rattle.bitstream_stream.specs.Reading.MemoryTakes.{TakesNumber};
+
+    /// Takes a number of at most 56 bits, which are there.
+    #[inline(always)]
+    fn take_few(&mut self, bits: u32) -> u64
+        requires few { bits ≤ 56 }
+        requires enough { self.old.bit + bits ≤ 8 * length self.old.bytes.now }
+        ensures { TakesNumber E.order bits result self.old self.new }
+    {
+        let value = E::middle(load::<E>(self.bytes), self.bit, bits);
+        self.go_on(bits);
+        value
+    }
+
+    /// Takes a number of more than 56 bits, which are there.
+    #[inline(never)]
+    fn take_many<U: UnsignedInteger>(&mut self, bits: u32) -> U
+        requires many { 56 < bits }
+        requires room { bits ≤ U.BITS_SIZE }
+        requires enough { self.old.bit + bits ≤ 8 * length self.old.bytes.now }
+        ensures { TakesNumber E.order bits (U.value result) self.old self.new }
+    {
+        let first = U::from_u64(self.take_few(56));
+        let more = bits - 56;
+        if more <= 56 {
+            let second = U::from_u64(self.take_few(more));
+            return E::put(first, 56, second, more);
+        }
+        let second = U::from_u64(self.take_few(56));
+        let last = U::from_u64(self.take_few(more - 56));
+        E::put(E::put(first, 56, second, 56), 112, last, more - 56)
+    }
+
+    /// Takes a number, whose bits are there.
+    #[inline(always)]
+    fn take_word<U: UnsignedInteger>(&mut self, bits: u32) -> U
+        requires room { bits ≤ U.BITS_SIZE }
+        requires enough { self.old.bit + bits ≤ 8 * length self.old.bytes.now }
+        ensures { TakesNumber E.order bits (U.value result) self.old self.new }
+    {
+        if bits <= 56 {
+            U::from_u64(self.take_few(bits))
+        } else {
+            self.take_many(bits)
+        }
+    }
+
+    /// Reads a number near the end, or of many bits.
+    #[inline(never)]
+    fn read_slow<U: UnsignedInteger>(&mut self, bits: u32) -> Result<U, Error>
+        requires fine { self.old.failed ≡ false }
+        requires room { bits ≤ U.BITS_SIZE }
+        ensures { Reads (memory_source E.order) (unsigned_entry E.order U.BITS_SIZE bits) self.old
+            (seen U.value result) self.new }
+    {
+        if self.has(bits) {
+            Ok(self.take_word(bits))
+        } else {
+            Err(self.refuse())
+        }
+    }
+
+    /// Reads a number. `constant` tells whether `bits` is known as the program is compiled.
+    #[inline(always)]
+    pub(super) fn read_word<U: UnsignedInteger>(
+        &mut self,
+        bits: u32,
+        constant: bool,
+    ) -> Result<U, Error>
+        ensures { Reads (memory_source E.order) (unsigned_entry E.order U.BITS_SIZE bits) self.old
+            (seen U.value result) self.new }
+    {
+        if self.failed {
+            return Err(Error::Failed);
+        }
+        if bits > U::BITS_SIZE {
+            return Err(Error::ReadBits);
+        }
+        if bits > 56 {
+            return self.read_slow(bits);
+        }
+        match fetch::<E>(self.bytes, self.bit + bits, constant) {
+            Some(value) => {
+                let word = E::middle(value, self.bit, bits);
+                self.go_on(bits);
+                Ok(U::from_u64(word))
+            }
+            None => Err(self.refuse()),
+        }
+    }
+
+    /// Reads one bit as a number.
+    #[inline(always)]
+    pub(super) fn read_one(&mut self) -> Result<u64, Error>
+        ensures { Reads (memory_source E.order) (unsigned_entry E.order 64 1) self.old result self.new }
+    {
+        if self.failed {
+            return Err(Error::Failed);
+        }
+        let bytes = self.bytes;
+        if bytes.is_empty() {
+            return Err(self.refuse());
+        }
+        let bit = E::middle(first::<1, E>(bytes), self.bit, 1);
+        self.go_on(1);
+        Ok(bit)
+    }
+
+    /// Reads the two's complement of a number.
+    #[inline(always)]
+    pub(super) fn read_signed_word<S: SignedInteger>(
+        &mut self,
+        bits: u32,
+        constant: bool,
+    ) -> Result<S, Error>
+        ensures { Reads (memory_source E.order) (signed_entry E.order S.BITS_SIZE bits) self.old
+            (seen S.integer result) self.new }
+    {
+        if self.failed {
+            return Err(Error::Failed);
+        }
+        if bits == 0 {
+            return Err(Error::NoSignBit);
+        }
+        let word: S::Unsigned = self.read_word(bits, constant)?;
+        Ok(signed_of(word, bits))
+    }
+}

@@ -1,0 +1,19 @@
+//! Words of one bit, repeated.
+ghost use Rattle.std.specs.Prelude.{◌≡◌, ℕ, ◌^◌, ◌<◌, ◌≤◌, not, replicate};
+ghost use Rattle.bitstream_number.specs.Word.{Order, word};
+
+use bitstream_number::number::{Numeric, UnsignedInteger};
+
+/// Returns the number whose n bits are all other than the stop bit.
+#[inline(always)]
+pub(crate) fn run_without_stop<U: UnsignedInteger>(stop: bool, n: u32) -> U
+    requires { n ≤ U.BITS_SIZE }
+    ensures word { (o : Order) → word o n (U.value result) ≡ replicate n (not stop) }
+    ensures below { U.value result < 2 ^ n }
+{
+    if stop {
+        U::ZERO
+    } else {
+        U::ALL.shr_default(U::BITS_SIZE - n)
+    }
+}

@@ -1,0 +1,446 @@
+//! A writer of bits to a stream of bytes.
+ghost use Rattle.std.specs.Prelude.{◌≡◌, ℕ, ◌+◌, ◌*◌, ◌<◌, ◌≤◌, ◌^◌, ◌⊎◌, ◌==◌, false, true, length, replicate, OnOk, Err};
+
+use crate::width::{check, check_signed};
+use crate::write::run::run_without_stop;
+use crate::piece::PIECE;
+use crate::vbr::{most_gathered, split_group};
+use crate::width::count_bits;
+use crate::write::BitWrite;
+use bitstream_count::count::{Count, SignedCount};
+use bitstream_count::error::Error;
+use bitstream_number::number::{Numeric, Primitive, SignedInteger, UnsignedInteger, Width};
+use bitstream_order::order::Endianness;
+use bitstream_order::port::Port;
+use bitstream_order::kernels::send::send_front;
+use bitstream_order::kernels::shift::shift;
+use bitstream_order::kernels::sign::complement;
+use bitstream_order::streams::target::Target;
+use std::marker::PhantomData;
+
+mod memory;
+mod queue;
+mod convert;
+
+/// Writes bits to a stream of bytes. A byte is sent as soon as it is full, so fewer than 8 bits are
+/// queued at any time. Queued bits are lost when the writer is dropped: align it first.
+///
+/// # Examples
+///
+/// ```
+/// use bitstream_io::{BE, BitWrite, BitWriter, Bits};
+///
+/// let mut writer = BitWriter::<_, BE>::new(Vec::new(rt.alloc()));
+/// writer.write_unsigned::<Bits<4>, u8>(0xb)?;
+/// writer.write_signed_var::<i8>(4, -3)?;
+/// writer.write_bit(true)?;
+/// writer.byte_align()?;
+/// assert_eq!(rt; writer.into_writer().as_slice(), [0xbd, 0x80].as_slice());
+/// ```
+#[derive(Drop)]
+pub struct BitWriter<W, E> {
+    port: Port<W>,
+    queue: u8,
+    queued: u32,
+    failed: bool,
+    order: PhantomData<E>,
+    ghost few: { queued < 8 },
+    ghost small: { queue < 2 ^ queued },
+    ghost empty: { failed ≡ true → queued ≡ 0 },
+}
+
+impl<W: Target, E: Endianness> BitWriter<W, E> {
+    ghost use Rattle.bitstream_number.specs.Word.{word, bits};
+    ghost use Rattle.bitstream_order.specs.Refusal.{MayRefuse};
+    ghost use Rattle.bitstream_stream.specs.Writing.Carries.{failed_writer};
+    ghost use Rattle.bitstream_stream.specs.Writing.Writer.{writer_state, new_writer_state, queued_bits, requests_made, AsksForBytes, AsksForWord, Pushes};
+
+    /// Returns a writer to a stream. No request is made yet.
+    pub fn new(stream: W) -> BitWriter<W, E>
+        ensures { writer_state W.contents W.references result
+            ≡ new_writer_state (W.contents stream) (W.references stream) }
+    {
+        BitWriter {
+            port: Port::new(stream),
+            queue: 0,
+            queued: 0,
+            failed: false,
+            order: PhantomData,
+        }
+    }
+
+    /// Does what [`new`](BitWriter::new) does, with the order as an argument.
+    pub fn endian(stream: W, _order: E) -> BitWriter<W, E>
+    where
+        E: Drop,
+        ensures { writer_state W.contents W.references result
+            ≡ new_writer_state (W.contents stream) (W.references stream) }
+    {
+        BitWriter::new(stream)
+    }
+
+    /// Makes the writer fail, drops its queue, and answers the error of the refused request.
+    fn refuse(&mut self, error: Error) -> Result<(), Error>
+        ensures answer { result ≡ Err error }
+        ensures fails { writer_state W.contents W.references self.new
+            ≡ failed_writer (writer_state W.contents W.references self.old) }
+        ensures requests { requests_made self.new ≡ requests_made self.old }
+    {
+        self.queue = 0;
+        self.queued = 0;
+        self.failed = true;
+        Err(error)
+    }
+
+    /// Writes the n lowest bits of a value.
+    #[inline(always)]
+    fn push<U: UnsignedInteger>(&mut self, value: U, n: u32) -> Result<(), Error>
+        requires sound { self.old.failed ≡ false }
+        requires room { n ≤ U.BITS_SIZE }
+        ensures pushes { Pushes (MayRefuse W.contents W.references W.refuses) E.order (word E.order n (U.value value))
+            (writer_state W.contents W.references self.old) result
+            (writer_state W.contents W.references self.new) }
+        ensures asks { AsksForWord n self.old self.new }
+    {
+        if self.queued + n < 8 {
+            let part = E::cut(value, n, 0, n);
+            self.queue = E::put::<u8>(self.queue, self.queued, part, n);
+            self.queued += n;
+            return Ok(());
+        }
+        match send_front::<W, E, U>(&mut self.port, self.queue, self.queued, value, n) {
+            Ok(gone) => {
+                self.queue = E::cut(value, n, gone, n - gone);
+                self.queued = n - gone;
+                Ok(())
+            }
+            Err(error) => self.refuse(error),
+        }
+    }
+
+    /// Writes bytes by one request. The queue must be empty.
+    #[inline(always)]
+    fn send_aligned(&mut self, bytes: &[u8]) -> Result<(), Error>
+        requires sound { self.old.failed ≡ false }
+        requires none { self.old.queued ≡ 0 }
+        requires some { 1 ≤ length bytes.now }
+        ensures pushes { Pushes (MayRefuse W.contents W.references W.refuses) E.order (bits E.order bytes.now)
+            (writer_state W.contents W.references self.old) result
+            (writer_state W.contents W.references self.new) }
+        ensures requests { requests_made self.new ≡ requests_made self.old + 1 }
+    {
+        match self.port.send(bytes) {
+            Ok(()) => Ok(()),
+            Err(error) => self.refuse(error),
+        }
+    }
+
+    /// Writes bytes by one request, behind the queued bits. They are shifted in place.
+    fn send_shifted(&mut self, bytes: &mut [u8]) -> Result<(), Error>
+        requires sound { self.old.failed ≡ false }
+        requires queued { 1 ≤ self.old.queued }
+        requires some { 1 ≤ length bytes.old }
+        ensures pushes { Pushes (MayRefuse W.contents W.references W.refuses) E.order (bits E.order bytes.old)
+            (writer_state W.contents W.references self.old) result
+            (writer_state W.contents W.references self.new) }
+        ensures queued { OnOk result (queued_bits self.new ≡ queued_bits self.old) }
+        ensures requests { requests_made self.new ≡ requests_made self.old + 1 }
+    {
+        let left = shift::<E>(self.queue, self.queued, bytes);
+        match self.port.send(bytes) {
+            Ok(()) => {
+                self.queue = left;
+                Ok(())
+            }
+            Err(error) => self.refuse(error),
+        }
+    }
+
+    /// Writes bytes behind the queued bits, in pieces of at most N bytes.
+    #[inline(never)]
+    fn send_pieces<const N: usize>(&mut self, bytes: &[u8]) -> Result<(), Error>
+        requires sound { self.old.failed ≡ false }
+        requires queued { 1 ≤ self.old.queued }
+        requires some { 1 ≤ N }
+        requires few { N ≤ 1024 }
+        ensures pushes { Pushes (MayRefuse W.contents W.references W.refuses) E.order (bits E.order bytes.now)
+            (writer_state W.contents W.references self.old) result
+            (writer_state W.contents W.references self.new) }
+        ensures asks { AsksForBytes N (length bytes.now) self.old result self.new }
+    {
+        let mut scratch = [0u8; N];
+        let mut at = 0;
+        while at < bytes.len() {
+            let end = at + N.min(bytes.len() - at);
+            let piece = &mut scratch[..end - at];
+            piece.copy_from_slice(&bytes[at..end]);
+            self.send_shifted(piece)?;
+            at = end;
+        }
+        Ok(())
+    }
+
+    /// Writes bytes: by one request if the writer is aligned, else in pieces of at most N bytes.
+    #[inline(always)]
+    fn push_bytes<const N: usize>(&mut self, bytes: &[u8]) -> Result<(), Error>
+        requires sound { self.old.failed ≡ false }
+        requires some { 1 ≤ N }
+        requires few { N ≤ 1024 }
+        ensures pushes { Pushes (MayRefuse W.contents W.references W.refuses) E.order (bits E.order bytes.now)
+            (writer_state W.contents W.references self.old) result
+            (writer_state W.contents W.references self.new) }
+        ensures asks { AsksForBytes N (length bytes.now) self.old result self.new }
+    {
+        if self.queued > 0 {
+            return self.send_pieces::<N>(bytes);
+        }
+        if bytes.is_empty() {
+            return Ok(());
+        }
+        self.send_aligned(bytes)
+    }
+
+    /// Writes the given number of zero bytes, in pieces.
+    fn push_zeros(&mut self, bytes: usize) -> Result<(), Error>
+        requires { self.old.failed ≡ false }
+        ensures { Pushes (MayRefuse W.contents W.references W.refuses) E.order (replicate (8 * bytes) false)
+            (writer_state W.contents W.references self.old) result
+            (writer_state W.contents W.references self.new) }
+    {
+        let zeros = [0u8; PIECE];
+        let mut left = bytes;
+        while left > 0 {
+            let piece = left.min(PIECE);
+            self.push_bytes::<PIECE>(&zeros[..piece])?;
+            left -= piece;
+        }
+        Ok(())
+    }
+}
+
+impl<W: Target, E: Endianness> BitWrite for BitWriter<W, E> {
+    ghost use Rattle.bitstream_number.specs.Word.{word, count_width};
+    ghost use Rattle.bitstream_order.specs.Parts.{value_bytes};
+    ghost use Rattle.bitstream_stream.specs.Writing.Writer.{writer_sink, AsksForBytes, AsksForWord};
+    ghost use Rattle.bitstream_stream.specs.Writing.Sink.{Writes};
+    ghost use Rattle.bitstream_stream.specs.Writing.WriteTable.{unsigned, signed, plain, unary_word, bit as one_bit, count as count_entry, buffer};
+
+    ghost sink = { writer_sink W.contents W.refuses W.references E.order };
+
+    #[inline(always)]
+    fn write_unsigned_counted<C: Count, U: UnsignedInteger>(
+        &mut self,
+        count: C,
+        value: U,
+    ) -> Result<(), Error>
+        ensures writes { Writes ⟦<Self as BitWrite>⟧.sink
+            (unsigned E.order U.BITS_SIZE (C.number count) (U.value value))
+            self.old result self.new }
+        ensures asks { AsksForWord (C.number count) self.old self.new }
+    {
+        self.write_unsigned_var(count.bits(), value)
+    }
+
+    #[inline(always)]
+    fn write_signed_counted<C: SignedCount, S: SignedInteger>(
+        &mut self,
+        count: C,
+        value: S,
+    ) -> Result<(), Error>
+        ensures writes { Writes ⟦<Self as BitWrite>⟧.sink
+            (signed E.order S.BITS_SIZE (C.number count) (S.integer value))
+            self.old result self.new }
+        ensures asks { AsksForWord (C.number count) self.old self.new }
+    {
+        self.write_signed_var(count.bits(), value)
+    }
+
+    #[inline(always)]
+    fn write_unsigned_var<U: UnsignedInteger>(&mut self, bits: u32, value: U) -> Result<(), Error>
+        ensures writes { Writes ⟦<Self as BitWrite>⟧.sink
+            (unsigned E.order U.BITS_SIZE bits (U.value value))
+            self.old result self.new }
+        ensures asks { AsksForWord bits self.old self.new }
+    {
+        if self.failed {
+            return Err(Error::Failed);
+        }
+        check(bits, value)?;
+        self.push(value, bits)
+    }
+
+    #[inline(always)]
+    fn write_unsigned<B: Width, U: UnsignedInteger>(&mut self, value: U) -> Result<(), Error>
+        ensures writes { Writes ⟦<Self as BitWrite>⟧.sink
+            (unsigned E.order U.BITS_SIZE B.BITS (U.value value))
+            self.old result self.new }
+        ensures asks { AsksForWord B.BITS self.old self.new }
+    {
+        self.write_unsigned_var(B::BITS, value)
+    }
+
+    #[inline(always)]
+    fn write_signed_var<S: SignedInteger>(&mut self, bits: u32, value: S) -> Result<(), Error>
+        ensures writes { Writes ⟦<Self as BitWrite>⟧.sink
+            (signed E.order S.BITS_SIZE bits (S.integer value))
+            self.old result self.new }
+        ensures asks { AsksForWord bits self.old self.new }
+    {
+        if self.failed {
+            return Err(Error::Failed);
+        }
+        check_signed(bits, value)?;
+        self.push(complement(value, bits), bits)
+    }
+
+    #[inline(always)]
+    fn write_signed<B: Width, S: SignedInteger>(&mut self, value: S) -> Result<(), Error>
+        ensures writes { Writes ⟦<Self as BitWrite>⟧.sink
+            (signed E.order S.BITS_SIZE B.BITS (S.integer value))
+            self.old result self.new }
+        ensures asks { AsksForWord B.BITS self.old self.new }
+    {
+        self.write_signed_var(B::BITS, value)
+    }
+
+    fn write_const<B: Width, V: Width>(&mut self) -> Result<(), Error>
+        requires word { B.BITS ≤ 32 }
+        requires value { (V.BITS < 2 ^ B.BITS) ⊎ (B.BITS ≡ 0) }
+        ensures writes { Writes ⟦<Self as BitWrite>⟧.sink
+            (plain (word E.order B.BITS V.BITS)) self.old result self.new }
+        ensures asks { AsksForWord B.BITS self.old self.new }
+    {
+        self.write_unsigned::<B, u32>(V::BITS)
+    }
+
+    #[inline(always)]
+    fn write_unary<S: Width>(&mut self, value: u32) -> Result<(), Error>
+        requires { S.BITS < 2 }
+        ensures writes { Writes ⟦<Self as BitWrite>⟧.sink (unary_word (S.BITS == 1) value)
+            self.old result self.new }
+        ensures asks { value < 64 → AsksForWord (value + 1) self.old self.new }
+    {
+        if self.failed {
+            return Err(Error::Failed);
+        }
+        let stop = S::BITS == 1;
+        for _done in 0..value / 64 {
+            self.push(run_without_stop::<u64>(stop, 64), 64)?;
+        }
+        let last = value % 64;
+        self.push(
+            E::put::<u64>(run_without_stop(stop, last), last, u64::from(stop), 1),
+            last + 1,
+        )
+    }
+
+    fn write_count<C: Count>(&mut self, count: C) -> Result<(), Error>
+        ensures writes { Writes ⟦<Self as BitWrite>⟧.sink
+            (count_entry E.order C.MAX (C.number count)) self.old result self.new }
+        ensures asks { AsksForWord (count_width C.MAX) self.old self.new }
+    {
+        self.write_unsigned_var(count_bits(C::MAX), count.bits())
+    }
+
+    #[inline(always)]
+    fn write_bit(&mut self, bit: bool) -> Result<(), Error>
+        ensures writes { Writes ⟦<Self as BitWrite>⟧.sink (one_bit bit)
+            self.old result self.new }
+        ensures asks { AsksForWord 1 self.old self.new }
+    {
+        if self.failed {
+            return Err(Error::Failed);
+        }
+        self.push(u8::from(bit), 1)
+    }
+
+    #[inline(always)]
+    fn write_from<V: Primitive>(&mut self, value: V) -> Result<(), Error>
+        ensures writes { Writes ⟦<Self as BitWrite>⟧.sink
+            (buffer E.order (value_bytes E.order V.be_bytes V.le_bytes value))
+            self.old result self.new }
+        ensures asks { AsksForBytes 8 V.BYTES self.old result self.new }
+    {
+        self.write_as_from::<E, V>(value)
+    }
+
+    #[inline(always)]
+    fn write_as_from<F: Endianness, V: Primitive>(&mut self, value: V) -> Result<(), Error>
+        ensures writes { Writes ⟦<Self as BitWrite>⟧.sink
+            (buffer E.order (value_bytes F.order V.be_bytes V.le_bytes value))
+            self.old result self.new }
+        ensures asks { AsksForBytes 8 V.BYTES self.old result self.new }
+    {
+        let bytes = F::value_to_bytes(value);
+        if self.failed {
+            return Err(Error::Failed);
+        }
+        self.push_bytes::<8>(V::as_bytes(&bytes))
+    }
+
+    #[inline(always)]
+    fn write_bytes(&mut self, bytes: &[u8]) -> Result<(), Error>
+        ensures writes { Writes ⟦<Self as BitWrite>⟧.sink (buffer E.order bytes.now)
+            self.old result self.new }
+        ensures asks { AsksForBytes 1024 (length bytes.now) self.old result self.new }
+    {
+        if self.failed {
+            return Err(Error::Failed);
+        }
+        self.push_bytes::<PIECE>(bytes)
+    }
+
+    fn pad(&mut self, bits: u32) -> Result<(), Error> {
+        if self.failed {
+            return Err(Error::Failed);
+        }
+        if bits <= 128 {
+            return self.push(0u128, bits);
+        }
+        let first = (8 - self.queued) % 8;
+        self.push(0u8, first)?;
+        let rest = bits - first;
+        self.push_zeros((rest / 8) as usize)?;
+        self.push(0u8, rest % 8)
+    }
+
+    fn byte_align(&mut self) -> Result<(), Error> {
+        if self.failed {
+            return Err(Error::Failed);
+        }
+        self.push(0u8, (8 - self.queued) % 8)
+    }
+
+    fn write_unsigned_vbr<F: Width, U: UnsignedInteger>(&mut self, value: U) -> Result<(), Error> {
+        if self.failed {
+            return Err(Error::Failed);
+        }
+        let most = most_gathered::<F, U>();
+        let mut word = U::ZERO;
+        let mut bits = 0;
+        let mut rest = value;
+        while let Some((group, next)) = split_group::<F, U>(rest) {
+            word = E::put(word, bits, group, F::BITS);
+            bits += F::BITS;
+            rest = next;
+            if bits > most {
+                self.push(word, bits)?;
+                word = U::ZERO;
+                bits = 0;
+            }
+        }
+        if bits == 0 {
+            self.push(rest, F::BITS)
+        } else {
+            self.push(E::put(word, bits, rest, F::BITS), bits + F::BITS)
+        }
+    }
+
+    fn byte_aligned(&self) -> bool {
+        !self.failed && self.queued == 0
+    }
+
+    fn has_room(&self, _bits: u128) -> bool {
+        true
+    }
+}

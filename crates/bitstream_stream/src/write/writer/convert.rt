@@ -1,0 +1,123 @@
+//! The ways from a writer of bits to its stream, and to a writer of bytes to it.
+ghost use Rattle.std.specs.Prelude.{◌≡◌, ◌↔◌, ◌%◌, ◌∷◌, false, Ok, IsSome, IfSome, IfOk, OnOk};
+ghost use Rattle.std.specs.Option.{ghost_name_of};
+ghost use Rattle.bitstream_order.specs.Reference.{by_name};
+ghost use Rattle.bitstream_order.specs.Port.{new_port_state};
+ghost use Rattle.bitstream_order.specs.Refusal.{MayRefuse};
+
+use super::BitWriter;
+use crate::bytes::byte_writer::ByteWriter;
+use crate::write::BitWrite;
+use bitstream_count::error::Error;
+use bitstream_order::streams::lent::Lent;
+use bitstream_order::order::Endianness;
+use bitstream_order::streams::target::Target;
+
+impl<W: Target, E: Endianness> BitWriter<W, E> {
+    ghost use Rattle.std.specs.Borrow.{LendsIf, LendsSoOk, follows_if, name_if_some, sem};
+    ghost use Rattle.bitstream_stream.specs.WholeBytes.ByteWriter.{byte_writer_state};
+    ghost use Rattle.bitstream_stream.specs.Writing.Writer.{writer_state};
+    ghost use Rattle.bitstream_stream.specs.Ways.{writer_stream, writer_with, byte_writer_name, IsAlignedStream, EndsAligned, EndsUnaligned, Flushes};
+    ghost use Rattle.bitstream_stream.specs.contracts.write.writer.BitWriter.{the_row};
+
+    /// Returns the stream. The queued bits are dropped.
+    pub fn into_writer(self) -> W
+        ensures { result ≡ writer_stream self }
+    {
+        self.port.into_inner()
+    }
+
+    /// Lends the stream, if the writer is at a byte boundary and has not failed. The writer does
+    /// not count what is then added to the stream.
+    pub fn writer(&mut self) -> Option<&mut W>
+        ensures there { IsSome result ↔ (((⟦<Self as BitWrite>⟧.sink.failed self.old) ≡ false)
+            × (⟦<Self as BitWrite>⟧.sink.len self.old % 8 ≡ 0)) }
+        ensures stream { IfSome result (λ stream. stream.now ≡ writer_stream self.old) }
+        ensures* writes_back { sem 𝓛 (LendsIf (the_row W.row E.row) W.row self.entry result
+            (writer_with self.old) self.old) }
+    {
+        if self.byte_aligned() {
+            Some(self.port.lend())
+        } else {
+            None
+        }
+    }
+
+    /// Writes zeros up to the next byte boundary, as [`byte_align`](BitWrite::byte_align) does, and
+    /// lends the stream. The writer does not count what is then added to the stream.
+    ///
+    /// # Errors
+    ///
+    /// As [`byte_align`](BitWrite::byte_align).
+    pub fn aligned_writer(&mut self) -> Result<&mut W, Error>
+        ensures stream { IfOk result
+            (λ stream. IsAlignedStream ⟦<Self as BitWrite>⟧.sink self.old stream.now) }
+        ensures* writes_back { sem 𝓛 (LendsSoOk (the_row W.row E.row) W.row self.entry result
+            (EndsAligned ⟦<Self as BitWrite>⟧.sink self.old)
+            (EndsUnaligned ⟦<Self as BitWrite>⟧.sink self.old result)) }
+    {
+        self.byte_align()?;
+        Ok(self.port.lend())
+    }
+
+    /// Returns a new writer of bytes to the stream, in the same order, if this writer is at a byte
+    /// boundary and has not failed. This one does not count what the new one writes.
+    pub fn bytewriter<'a>(&'a mut self) -> Option<ByteWriter<Lent<'a, W>, E>>
+        ensures there { IsSome result ↔ (((⟦<Self as BitWrite>⟧.sink.failed self.old) ≡ false)
+            × (⟦<Self as BitWrite>⟧.sink.len self.old % 8 ≡ 0)) }
+        ensures state { IfSome result (λ writer.
+            byte_writer_state ⟦<Lent<'a, W> as Target>⟧.contents
+            ⟦<Lent<'a, W> as Target>⟧.references writer
+            ≡ new_port_state (W.contents (writer_stream self.old))
+            (by_name (byte_writer_name writer) ∷ W.references (writer_stream self.old))) }
+        ensures* writes_back { sem 𝓛 (follows_if (the_row W.row E.row) W.row self.entry.ghost_name
+            (name_if_some byte_writer_name result) (writer_with self.old) self.old) }
+    {
+        Self::byte_writer_of(self.writer())
+    }
+
+    /// Returns a new writer of bytes to a stream that was lent, if one was.
+    fn byte_writer_of<'a>(stream: Option<&'a mut W>) -> Option<ByteWriter<Lent<'a, W>, E>>
+        ensures name { name_if_some byte_writer_name result ≡ ghost_name_of stream.entry }
+        ensures state { IfSome stream.entry (λ lent. IfSome result (λ writer.
+            byte_writer_state ⟦<Lent<'a, W> as Target>⟧.contents
+            ⟦<Lent<'a, W> as Target>⟧.references writer
+            ≡ new_port_state (W.contents lent.now) (by_name (byte_writer_name writer) ∷ W.references lent.now))) }
+    {
+        match stream {
+            Some(stream) => Some(ByteWriter::new(Lent::new(stream))),
+            None => None,
+        }
+    }
+
+    /// Returns a new writer of bytes to the stream, in the same order. The queued bits are dropped.
+    pub fn into_bytewriter(self) -> ByteWriter<W, E>
+        ensures { byte_writer_state W.contents W.references result
+            ≡ new_port_state (W.contents (writer_stream self))
+            (W.references (writer_stream self)) }
+    {
+        ByteWriter::new(self.into_writer())
+    }
+
+    /// Flushes the stream: it passes on what it has buffered itself. The queued bits stay in the
+    /// writer.
+    ///
+    /// # Errors
+    ///
+    /// As of the calls of [`BitWrite`]: if the stream refuses, the writer has failed, and its
+    /// queued bits are lost.
+    pub fn flush(&mut self) -> Result<(), Error>
+        ensures flushes { Flushes (MayRefuse W.contents W.references W.refuses)
+            (writer_state W.contents W.references self.old) result
+            (writer_state W.contents W.references self.new) }
+        ensures flushed { OnOk result (W.flushes (writer_stream self.old) (writer_stream self.new)) }
+    {
+        if self.failed {
+            return Err(Error::Failed);
+        }
+        match self.port.flush() {
+            Ok(()) => Ok(()),
+            Err(error) => self.refuse(error),
+        }
+    }
+}

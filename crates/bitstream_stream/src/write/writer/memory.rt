@@ -1,0 +1,39 @@
+//! What a writer to bytes in memory tells.
+ghost use Rattle.std.specs.Prelude.{◌≡◌, ◌+◌, ◌-◌, ◌*◌, ◌<◌, ◌≤◌, ◌^◌, length};
+
+use super::BitWriter;
+use crate::capped::capped;
+use bitstream_order::order::Endianness;
+use bitstream_order::streams::slice_mut::SliceMut;
+
+impl<'a, E: Endianness> BitWriter<SliceMut<'a>, E> {
+    ghost use Rattle.bitstream_order.specs.Streaming.SliceMut.{slice_capacity, written_bytes};
+    ghost use Rattle.bitstream_stream.specs.Ways.{writer_stream};
+    ghost use Rattle.bitstream_stream.specs.Writing.Writer.{queued_bits};
+
+    /// Returns the whole bytes that were written.
+    pub fn written(&self) -> &[u8]
+        ensures { result.now ≡ written_bytes (writer_stream self.now) }
+    {
+        self.port.stream().as_slice()
+    }
+
+    /// Returns how many bits were written, those of the last, unfinished byte among them: at most
+    /// 2^64 - 1, and exactly that number if it is less. A writer that has failed has lost those.
+    pub fn bits_written(&self) -> u64
+        ensures most { result
+            ≤ 8 * length (written_bytes (writer_stream self.now)) + queued_bits self.now }
+        ensures exact { 8 * length (written_bytes (writer_stream self.now)) + queued_bits self.now < 2 ^ 64
+            → result ≡ 8 * length (written_bytes (writer_stream self.now)) + queued_bits self.now }
+    {
+        capped(8 * self.written().len() as u128 + self.queued as u128)
+    }
+
+    /// Returns how many bytes are free. Bits of an unfinished byte will take one of them.
+    pub fn bytes_left(&self) -> usize
+        ensures { result ≡ slice_capacity (writer_stream self.now)
+            - length (written_bytes (writer_stream self.now)) }
+    {
+        self.port.stream().free()
+    }
+}

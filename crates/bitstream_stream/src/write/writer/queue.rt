@@ -1,0 +1,61 @@
+//! What a writer holds, to be looked at.
+ghost use Rattle.std.specs.Prelude.{◌≡◌, ◌<◌, ◌^◌, [], Some};
+
+use super::BitWriter;
+use bitstream_order::streams::growing::Growing;
+use bitstream_order::order::Endianness;
+use bitstream_order::streams::target::Target;
+use std::alloc::Allocator;
+
+impl<W: Target, E: Endianness> BitWriter<W, E> {
+    ghost use Rattle.bitstream_stream.specs.Ways.{writer_stream};
+    ghost use Rattle.bitstream_stream.specs.Writing.Writer.{queued_bits, queue_number, has_failed};
+
+    /// Returns the stream, to be looked at.
+    pub fn stream(&self) -> &W
+        ensures { result.now ≡ writer_stream self.now }
+    {
+        self.port.stream()
+    }
+
+    /// Returns how many bits wait in the writer.
+    pub fn queued(&self) -> u32
+        ensures bits { result ≡ queued_bits self.now }
+        ensures few { result < 8 }
+    {
+        self.queued
+    }
+
+    /// Returns the number of the bits that wait in the writer.
+    pub fn queue(&self) -> u8
+        ensures number { result ≡ queue_number self.now }
+        ensures small { result < 2 ^ queued_bits self.now }
+    {
+        self.queue
+    }
+
+    /// Returns whether the writer has failed.
+    pub fn failed(&self) -> bool
+        ensures { result ≡ has_failed self.now }
+    {
+        self.failed
+    }
+}
+
+impl<A: Allocator, E: Endianness> BitWriter<Growing<A>, E> {
+    ghost use Rattle.bitstream_order.specs.Streaming.Growing.{growing_contents};
+    ghost use Rattle.bitstream_stream.specs.Writing.Writer.{writer_state, new_writer_state};
+
+    /// Removes all bits and bytes, also of a writer that has failed: it is as a new one is then. The
+    /// vector keeps its memory.
+    pub fn clear(&mut self)
+        ensures { writer_state growing_contents (λ _. []) self.new
+            ≡ new_writer_state (Some []) [] }
+    {
+        self.port.restart();
+        self.port.lend().clear();
+        self.queue = 0;
+        self.queued = 0;
+        self.failed = false;
+    }
+}
