@@ -65,8 +65,11 @@ pub fn signed_counts_go_back<const MAX: u32>(
     Result<SignedBitCount<MAX>, ()>,
     Option<SignedBitCount<MAX>>,
 )
+    // The count comes back from its number.
     ensures number { result.0 ≡ Ok count.entry }
+    // It comes back from the `BitCount` of the same number of bits.
     ensures count { result.1 ≡ Ok count.entry }
+    // It comes back by `signed_count` of that `BitCount`.
     ensures signed { result.2 ≡ Some count.entry }
 {
     (
@@ -109,9 +112,11 @@ pub fn unary_words_read_back()
 /// A number is answered only if the bits begin with its unary word. `RunTooLong` is answered only
 /// if they begin with 2^32 bits that are not the stop bit.
 pub fn unary_words_alone_are_read()
+    // If a number is answered, it is below 2^32, and the bits taken are its unary word.
     ensures number { (stop : Bool) (bits : List Bool) (n k : ℕ)
         → read_unary stop bits ≡ Takes n (Ok k)
         → (k < 2 ^ 32) × (n ≤ length bits) × (take n bits ≡ unary stop k) }
+    // An error is `RunTooLong`, and 2^32 bits are taken then, none of them the stop bit.
     ensures error { (stop : Bool) (bits : List Bool) (n : ℕ) (error : Error)
         → read_unary stop bits ≡ Takes n (Err error)
         → (error ≡ RunTooLong) × (n ≡ 2 ^ 32) × (n ≤ length bits)
@@ -141,13 +146,17 @@ pub fn variable_width_words_alone_are_read()
 /// The word that is written for a number is accepted, and it is the only one that the strict reader
 /// accepts for that number. The same holds for signed numbers.
 pub fn variable_width_words_are_the_only_ones()
+    // The strict reader accepts the word that is written for a number of the type below the limit.
     ensures accepted { (o : Order) (field width limit v : ℕ) → 2 ≤ field → 0 < width
         → limit ≤ 2 ^ width → v < limit → IsAccepted true o field width limit (vbr_word o field v) v }
+    // A word that it accepts for a number is the one that is written for that number.
     ensures only { (o : Order) (field width limit v : ℕ) (w : List Bool) → 2 ≤ field
         → IsAccepted true o field width limit w v → w ≡ vbr_word o field v }
+    // The strict reader accepts the word that is written for a signed number of the type.
     ensures signed_accepted { (o : Order) (field width : ℕ) (x : ℤ) → 2 ≤ field → 0 < width
         → FitsSignedBits width x
         → IsAccepted true o field width (2 ^ width) (vbr_word o field (zig x)) (zig x) }
+    // A word that it accepts for a signed number is the one that is written for that number.
     ensures signed_only { (o : Order) (field width v : ℕ) (x : ℤ) (w : List Bool) → 2 ≤ field
         → IsAccepted true o field width (2 ^ width) w v → zag v ≡ x → w ≡ vbr_word o field (zig x) }
 {}
@@ -155,14 +164,18 @@ pub fn variable_width_words_are_the_only_ones()
 /// Of all words that the lenient reader accepts for a number, the one that is written is the
 /// shortest. The same holds for signed numbers.
 pub fn variable_width_words_are_shortest()
+    // The lenient reader accepts the word that is written for a number of the type below the limit.
     ensures accepted { (o : Order) (field width limit v : ℕ) → 2 ≤ field → 0 < width
         → limit ≤ 2 ^ width → v < limit → IsAccepted false o field width limit (vbr_word o field v) v }
+    // A word that it accepts for a number is the one that is written, or is longer.
     ensures shortest { (o : Order) (field width limit v : ℕ) (w : List Bool) → 2 ≤ field
         → IsAccepted false o field width limit w v
         → (w ≡ vbr_word o field v) ⊎ (length (vbr_word o field v) < length w) }
+    // The lenient reader accepts the word that is written for a signed number of the type.
     ensures signed_accepted { (o : Order) (field width : ℕ) (x : ℤ) → 2 ≤ field → 0 < width
         → FitsSignedBits width x
         → IsAccepted false o field width (2 ^ width) (vbr_word o field (zig x)) (zig x) }
+    // A word that it accepts for a signed number is the one that is written, or is longer.
     ensures signed_shortest { (o : Order) (field width v : ℕ) (x : ℤ) (w : List Bool) → 2 ≤ field
         → IsAccepted false o field width (2 ^ width) w v → zag v ≡ x
         → (w ≡ vbr_word o field (zig x)) ⊎ (length (vbr_word o field (zig x)) < length w) }

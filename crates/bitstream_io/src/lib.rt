@@ -66,8 +66,8 @@ pub mod read {
     pub use bitstream_order::streams::seek::SeekSource;
     pub use bitstream_order::streams::slice::Slice;
     pub use bitstream_order::streams::source::Source;
-    pub use bitstream_stream::read::place::bit_place;
     pub use bitstream_stream::read::BitRead;
+    pub use bitstream_stream::read::place::bit_place;
     pub use bitstream_stream::read::reader::BitReader;
     pub use bitstream_stream::read::slice_reader::SliceReader;
     pub use bitstream_value::parse::{FromBitStream, FromBitStreamUsing, FromBitStreamWith};

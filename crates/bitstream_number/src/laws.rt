@@ -10,19 +10,26 @@ use crate::number::{Numeric, Primitive, SignedInteger, UnsignedInteger};
 
 /// The word of a number at n bits has n bits, and gives the number back, modulo 2^n.
 pub fn words_hold_numbers()
+    // The word of a number at n bits has n bits.
     ensures length { (o : Order) (n v : ℕ) → length (word o n v) ≡ n }
+    // The number of that word is v, modulo 2^n.
     ensures number { (o : Order) (n v : ℕ) → number o (word o n v) ≡ v % 2 ^ n }
+    // A list of bits is the word of its own number.
     ensures word { (o : Order) (w : List Bool) → word o (length w) (number o w) ≡ w }
+    // Two numbers below 2^n are the same if their words at n bits are.
     ensures same { (o : Order) (n u v : ℕ) → u < 2 ^ n → v < 2 ^ n
         → word o n u ≡ word o n v → u ≡ v }
+    // A signed number that fits in n bits, where n is not 0, comes back from its two's complement.
     ensures signed { (o : Order) (n : ℕ) (x : ℤ) → 0 < n → FitsSignedBits n x
         → signed_number o (signed_word o n x) ≡ x }
 {}
 
 /// The number of two words, one after the other, is made of the two words' numbers.
 pub fn words_split()
+    // Big-endian: the first word is the high part of the number of both.
     ensures high { (first second : List Bool) → number High (first ++ second)
         ≡ number High first * 2 ^ length second + number High second }
+    // Little-endian: the first word is the low part of the number of both.
     ensures low { (first second : List Bool) → number Low (first ++ second)
         ≡ number Low first + number Low second * 2 ^ length first }
 {}
@@ -35,7 +42,9 @@ pub fn bytes_are_words()
 /// Every signed number has a place of its own in the order 0, -1, 1, -2, 2, .. (zigzag), and every
 /// place is taken.
 pub fn zigzags_go_back()
+    // A signed number is the one that stands at its place.
     ensures signed { (x : ℤ) → zag (zig x) ≡ x }
+    // A place is that of the signed number that stands there.
     ensures unsigned { (n : ℕ) → zig (zag n) ≡ n }
 {}
 
@@ -59,7 +68,9 @@ pub fn ors_are_sums<U: UnsignedInteger>(high: U, low: U) -> U
 /// A shift by the type's size or more leaves 0.
 pub fn shifts_past_the_size_are_zero<U: UnsignedInteger>(value: U, by: u32) -> (U, U)
     requires { U.BITS_SIZE ≤ by }
+    // The left shift gives 0.
     ensures left { U.value result.0 ≡ 0 }
+    // The right shift gives 0.
     ensures right { U.value result.1 ≡ 0 }
 {
     value.known();
@@ -69,7 +80,9 @@ pub fn shifts_past_the_size_are_zero<U: UnsignedInteger>(value: U, by: u32) -> (
 /// A right shift of a signed value divides it by a power of 2 and rounds down.
 pub fn signed_shifts_round_down<S: SignedInteger>(value: S, by: u32) -> S
     requires { by < S.BITS_SIZE }
+    // The result times 2^`by` is at most the value.
     ensures below { (S.integer result *ℤ pos (2 ^ by)) ≤ℤ S.integer value }
+    // One more than the result, times 2^`by`, is above the value.
     ensures above { S.integer value <ℤ ((S.integer result +ℤ pos 1) *ℤ pos (2 ^ by)) }
 {
     value >> by
@@ -77,7 +90,9 @@ pub fn signed_shifts_round_down<S: SignedInteger>(value: S, by: u32) -> S
 
 /// An unsigned value comes back from its bytes, in either byte order.
 pub fn unsigned_bytes_go_back<U: UnsignedInteger>(value: U) -> (U, U)
+    // The value made of its big-endian bytes is the same number.
     ensures high { U.value result.0 ≡ U.value value }
+    // The value made of its little-endian bytes is the same number.
     ensures low { U.value result.1 ≡ U.value value }
 {
     let high = U::from_be_bytes(value.to_be_bytes());
@@ -90,7 +105,9 @@ pub fn unsigned_bytes_go_back<U: UnsignedInteger>(value: U) -> (U, U)
 
 /// A signed value comes back from its bytes, in either byte order.
 pub fn signed_bytes_go_back<S: SignedInteger>(value: S) -> (S, S)
+    // The value made of its big-endian bytes is the same number.
     ensures high { S.integer result.0 ≡ S.integer value }
+    // The value made of its little-endian bytes is the same number.
     ensures low { S.integer result.1 ≡ S.integer value }
 {
     let high = S::from_be_bytes(value.to_be_bytes());
@@ -103,7 +120,9 @@ pub fn signed_bytes_go_back<S: SignedInteger>(value: S) -> (S, S)
 
 /// Bytes come back from the value that is made of them, in either byte order.
 pub fn values_go_back<V: Primitive>(high: V::Bytes, low: V::Bytes) -> (V::Bytes, V::Bytes)
+    // The big-endian bytes of the value made of them are the same bytes.
     ensures high { V.Bytes.items result.0 ≡ V.Bytes.items high }
+    // The little-endian bytes of the value made of them are the same bytes.
     ensures low { V.Bytes.items result.1 ≡ V.Bytes.items low }
 {
     (

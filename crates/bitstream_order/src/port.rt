@@ -9,10 +9,9 @@ ghost use Rattle.bitstream_order.specs.Reference.{capacity_of};
 ghost use Rattle.bitstream_order.specs.Refusal.{Refusal, MayRefuse, MayRefuseSeek};
 ghost use Rattle.bitstream_order.specs.Port.{port_state, fetched_count, port_stream, with_stream, Fetches, Sends, Seeks, Places};
 
-use crate::ghosts::GhostRefusals;
+use crate::ghosts::{GhostCount, GhostRefusals};
 use crate::streams::seek::SeekSource;
 use crate::streams::source::Source;
-use crate::ghosts::GhostCount;
 use crate::streams::target::Target;
 use bitstream_count::error::Error;
 use std::io;
@@ -98,10 +97,15 @@ impl<S> Port<S> {
 
     /// Returns a new port to a stream: nothing was asked of the stream yet.
     pub fn new(stream: S) -> Port<S>
+        // The port holds this stream.
         ensures stream { result.stream ≡ stream }
+        // No byte was fetched yet.
         ensures fetched { result.fetched.count ≡ 0 }
+        // No byte was sent yet.
         ensures sent { result.sent.count ≡ 0 }
+        // No request was made yet.
         ensures requests { result.requests.count ≡ 0 }
+        // No request was refused yet.
         ensures refusals { result.refusals.list ≡ [] }
     {
         Port {
@@ -115,7 +119,9 @@ impl<S> Port<S> {
 
     /// Lends the stream. What is done to it then is not counted.
     pub fn lend(&mut self) -> &mut S
+        // What is lent is the port's stream.
         ensures value { result.now ≡ port_stream self.old }
+        // When the borrow ends, only the stream may have changed: it is as it was left.
         ensures* writes_back { sem 𝓛
             (Lends (the_row S.row) S.row self.entry result (with_stream self.old)) }
     {
@@ -131,10 +137,15 @@ impl<S> Port<S> {
 
     /// Forgets what was asked of the stream, which stays as it is.
     pub fn restart(&mut self)
+        // The stream stays as it is.
         ensures stream { port_stream self.new ≡ port_stream self.old }
+        // No byte counts as fetched.
         ensures fetched { self.new.fetched.count ≡ 0 }
+        // No byte counts as sent.
         ensures sent { self.new.sent.count ≡ 0 }
+        // No request counts as made.
         ensures requests { self.new.requests.count ≡ 0 }
+        // No refusal is recorded any more.
         ensures refusals { self.new.refusals.list ≡ [] }
     {
         self.fetched = GhostCount::new();
@@ -187,12 +198,15 @@ impl<S: Source> Port<S> {
     #[inline(always)]
     pub fn fetch_front(&mut self, buf: &mut [u8], count: usize, constant: bool) -> Result<(), Error>
         requires { count ≤ length buf.old }
+        // The buffer's front gets the next `count` bytes by one request, or it is refused.
         ensures fetches { Fetches (MayRefuse S.remaining S.references S.refuses)
             (port_state S.remaining S.references self.old) (take count buf.new) result
             (port_state S.remaining S.references self.new) }
+        // The buffer keeps its length.
         ensures len { length buf.new ≡ length buf.old }
     {
         let before = Snapshot::of(&self.stream);
+        // A request counts even if it is refused.
         self.requests.add(1);
         match self.stream.read_front(buf, count, constant) {
             Ok(()) => {
@@ -221,6 +235,7 @@ impl<S: Target> Port<S> {
             (port_state S.contents S.references self.new) }
     {
         let before = Snapshot::of(&self.stream);
+        // A request counts even if it is refused.
         self.requests.add(1);
         match self.stream.write_all(bytes) {
             Ok(()) => {
@@ -247,18 +262,23 @@ impl<S: Target> Port<S> {
     ///
     /// As [`send`](Port::send). The stream holds the same bytes then too.
     pub fn flush(&mut self) -> Result<(), Error>
+        // One request is made, and no byte is sent, whether it is refused or not.
         ensures sends { Sends (MayRefuse S.contents S.references S.refuses)
             (port_state S.contents S.references self.old) [] result
             (port_state S.contents S.references self.new) }
+        // The stream holds the same bytes as before, if it tells them.
         ensures bytes { Keeps (S.contents (port_stream self.old))
             (S.contents (port_stream self.new)) }
+        // If it succeeds, the stream did what it says that a flush does.
         ensures flushed { OnOk result (S.flushes (port_stream self.old) (port_stream self.new)) }
     {
         let before = Snapshot::of(&self.stream);
+        // A request counts even if it is refused.
         self.requests.add(1);
         match self.stream.flush() {
             Ok(()) => Ok(()),
             Err(refused) => {
+                // A flush sends no bytes.
                 record_refused_write(&mut self.refusals, &before, &self.stream, 0, &refused);
                 Err(refusal(refused))
             }
@@ -275,14 +295,19 @@ impl<S: SeekSource> Port<S> {
     /// `OutOfMemory` if the stream refuses with that kind, else `Stream` with its kind. The
     /// position stays as it was then.
     pub fn seek(&mut self, to: SeekFrom) -> Result<u64, Error>
+        // One request is made. Fetched bytes are counted anew, or stay counted if it is refused.
         ensures seeks { Seeks (MayRefuseSeek S.remaining S.references S.refuses_seek to)
             (port_state S.remaining S.references self.old) result
             (port_state S.remaining S.references self.new) }
+        // If the stream tells its position, that becomes the answer, or stays if the seek is
+        // refused. If it tells its bytes too, the answer is the place meant.
         ensures moves { SeekMoves (S.position (port_stream self.old))
             (S.position (port_stream self.new)) (S.bytes (port_stream self.old)) to result }
+        // All bytes of the stream stay the same, if it tells them.
         ensures bytes { Keeps (S.bytes (port_stream self.old)) (S.bytes (port_stream self.new)) }
     {
         let before = Snapshot::of(&self.stream);
+        // A request counts even if it is refused.
         self.requests.add(1);
         match self.stream.seek(to) {
             Ok(at) => {
@@ -290,6 +315,7 @@ impl<S: SeekSource> Port<S> {
                 Ok(at)
             }
             Err(refused) => {
+                // A seek asks for no bytes.
                 record_refused_read(&mut self.refusals, &before, &self.stream, 0, &refused);
                 Err(refusal(refused))
             }
@@ -303,19 +329,25 @@ impl<S: SeekSource> Port<S> {
     ///
     /// `OutOfMemory` if the stream refuses with that kind, else `Stream` with its kind.
     pub fn position(&mut self) -> Result<u64, Error>
+        // One request is made, and no byte is fetched or sent, whether it is refused or not.
         ensures places { Places (MayRefuseSeek S.remaining S.references S.refuses_seek (Current (pos 0)))
             (port_state S.remaining S.references self.old) result
             (port_state S.remaining S.references self.new) }
+        // A position that the stream tells stays the same.
         ensures stays { StaysAt (S.position (port_stream self.old)) (S.position (port_stream self.new)) }
+        // If it succeeds, the answer is the position that the stream tells, if it tells one.
         ensures answer { OnOk result (IfSome (S.position (port_stream self.old))
             (λ position. result ≡ Ok position)) }
+        // All bytes of the stream stay the same, if it tells them.
         ensures bytes { Keeps (S.bytes (port_stream self.old)) (S.bytes (port_stream self.new)) }
     {
         let before = Snapshot::of(&self.stream);
+        // A request counts even if it is refused.
         self.requests.add(1);
         match self.stream.seek(SeekFrom::Current(0)) {
             Ok(at) => Ok(at),
             Err(refused) => {
+                // A seek asks for no bytes.
                 record_refused_read(&mut self.refusals, &before, &self.stream, 0, &refused);
                 Err(refusal(refused))
             }

@@ -7,8 +7,8 @@ use bitstream_count::count::{Count, SignedCount};
 use bitstream_count::error::Error;
 use bitstream_number::number::{Primitive, SignedInteger, UnsignedInteger, Width};
 use bitstream_order::order::Endianness;
-use bitstream_stream::width::{check, check_signed};
 use bitstream_stream::vbr::vbr_bits;
+use bitstream_stream::width::{check, check_signed};
 use bitstream_stream::write::BitWrite;
 use std::marker::PhantomData;
 

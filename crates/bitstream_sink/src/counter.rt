@@ -41,8 +41,11 @@ pub trait Counter: Default
     ///
     /// `Overflowed` if the sum is above the greatest number. Nothing is added then.
     fn checked_add_assign(&mut self, other: Self) -> Result<(), Overflowed>
+        // It succeeds exactly if the sum is not above the greatest number.
         ensures holds { IsOk result ↔ (value self.old + value other ≤ greatest) }
+        // If it succeeds, the number is the sum of both.
         ensures sum { OnOk result (value self.new ≡ value self.old + value other) }
+        // If not, the number stays as it was.
         ensures unchanged { OnErr result (self.new ≡ self.old) };
 
     /// Returns the product with another number.

@@ -7,8 +7,8 @@ use crate::counter::{Counter, Overflowed};
 use bitstream_count::count::{Count, SignedCount};
 use bitstream_count::error::Error;
 use bitstream_number::number::{Primitive, SignedInteger, UnsignedInteger, Width};
-use bitstream_order::streams::growing::Growing;
 use bitstream_order::order::Endianness;
+use bitstream_order::streams::growing::Growing;
 use bitstream_stream::write::BitWrite;
 use bitstream_stream::write::writer::BitWriter;
 use std::alloc::{AllocError, Allocator};
@@ -105,7 +105,9 @@ impl<N, E: Endianness, A: Allocator> BitRecorder<N, E, A> {
     where
         N: Counter,
         requires { length (recorded_bits E.order self.now) ≤ N.greatest }
+        // The answer is the number of bits that were recorded.
         ensures bits { N.value result ≡ length (recorded_bits E.order self.now) }
+        // It is the length of the recorder as a sink.
         ensures len { N.value result ≡ ⟦<Self as BitWrite>⟧.sink.len self.now }
     {
         match self.written_checked() {
@@ -123,7 +125,9 @@ impl<N, E: Endianness, A: Allocator> BitRecorder<N, E, A> {
     pub fn written_checked(&self) -> Result<N, Overflowed>
     where
         N: Counter,
+        // Answers the number of bits that were recorded, or an error exactly if N does not hold it.
         ensures bits { Counts N.value N.greatest (length (recorded_bits E.order self.now)) result }
+        // The same is said of the recorder's length as a sink.
         ensures len { Counts N.value N.greatest (⟦<Self as BitWrite>⟧.sink.len self.now) result }
     {
         value_of::<N>(self.bits())
@@ -141,10 +145,14 @@ impl<N, E: Endianness, A: Allocator> BitRecorder<N, E, A> {
     /// [`write_unsigned_var`](BitWrite::write_unsigned_var) of the sink: if the second one
     /// answers an error, the whole bytes stand there.
     pub fn playback<W: BitWrite>(&self, target: &mut W) -> Result<(), Error>
+        // Unless the recorder has failed, the whole bytes are written, and then the bits behind
+        // them as one word, up to the first error.
         ensures writes { recorder_failed self.now ≡ false →
             WritesAll W.sink (playback_entries W.sink.order self.now) target.old result target.new }
+        // If it succeeds and both have one order, just the recorded bits are appended.
         ensures same_order { W.sink.order ≡ E.order → OnOk result
             (Appended W.sink target.old (recorded_bits E.order self.now) target.new) }
+        // If the recorder has failed, `Failed` is answered and nothing is appended.
         ensures failed { recorder_failed self.now ≡ true →
             (result ≡ Err Failed) × Kept W.sink target.old target.new }
     {

@@ -30,8 +30,8 @@ use crate::read::reader::BitReader;
 use crate::read::slice_reader::SliceReader;
 use crate::write::BitWrite;
 use crate::write::writer::BitWriter;
-use bitstream_order::streams::growing::Growing;
 use bitstream_order::order::Endianness;
+use bitstream_order::streams::growing::Growing;
 use bitstream_order::streams::slice::Slice;
 use bitstream_order::streams::slice_mut::SliceMut;
 use bitstream_order::streams::source::Source;
@@ -41,10 +41,12 @@ use std::alloc::Allocator;
 /// Reading two numbers, one after the other, is reading one number of the bits of both. The first
 /// one is its high part if the order is big-endian, its low part if little-endian.
 pub fn words_join()
+    // Big-endian: two reads, the first as the high part, find what one read of both finds.
     ensures high { (size a b p : ℕ) (bits : List Bool) → a + b ≤ size →
         (chain (unsigned_entry High size a) (λ first.
         chain (unsigned_entry High size b) (λ second. gives (first * 2 ^ b + second)))).reads p bits
         ≡ (unsigned_entry High size (a + b)).reads p bits }
+    // Little-endian: two reads, the first as the low part, find what one read of both finds.
     ensures low { (size a b p : ℕ) (bits : List Bool) → a + b ≤ size →
         (chain (unsigned_entry Low size a) (λ first.
         chain (unsigned_entry Low size b) (λ second. gives (first + second * 2 ^ a)))).reads p bits
@@ -54,9 +56,11 @@ pub fn words_join()
 /// Reading or writing the bytes of a number, in the order of the bits, is reading or writing the
 /// number as one word.
 pub fn bytes_are_numbers()
+    // A read of n bytes finds the bytes of the number that a read of 8 * n bits finds.
     ensures reads { (o : Order) (n p : ℕ) (bits : List Bool) →
         (chain (unsigned_entry o (8 * n) (8 * n)) (λ v. gives (bytes_in o n v))).reads p bits
         ≡ (bytes_entry o n).reads p bits }
+    // A write of the n bytes of a number is a write of that number at 8 * n bits.
     ensures writes { (o : Order) (n v len : ℕ) → v < 2 ^ (8 * n) →
         buffer o (bytes_in o n v) len ≡ unsigned o (8 * n) (8 * n) v len }
 {}
@@ -142,8 +146,10 @@ pub fn memory_ends<E: Endianness>()
 /// Wherever a reader of bytes in memory stands, its bytes left are those behind its place, and so are its
 /// bits left, if it has not failed.
 pub fn memory_tells_its_rest<E: Endianness>()
+    // The bytes left are those behind the fetched ones.
     ensures bytes { (reader : SliceReader E) → ((memory_source E.order).state reader).bytes
         ≡ Some (drop ((memory_source E.order).state reader).fetched (memory_bytes reader)) }
+    // Unless the reader has failed, the bits left are those behind the bits taken.
     ensures bits { (reader : SliceReader E) → ((memory_source E.order).state reader).failed ≡ false
         → bits_left E.order ((memory_source E.order).state reader)
         ≡ Some (drop ((memory_source E.order).state reader).taken (bits_of E.order (memory_bytes reader))) }

@@ -5,8 +5,7 @@ ghost use Rattle.bitstream_order.specs.Moving.Gather.{seen};
 ghost use Rattle.bitstream_stream.specs.Reading.Reads.{BitSource, Reads, ReadsConst, ReadsGrowing, failed_reader, lent_source};
 ghost use Rattle.bitstream_stream.specs.Reading.ReadTable.{bit_entry, unsigned_entry, signed_entry, const_entry, unary_entry, count_entry, align_entry, bytes_entry, skip_entry, is_full, groups_entry, vbr_entry, any_vbr_entry, signed_vbr_entry, any_signed_vbr_entry};
 
-use crate::piece::grow;
-use crate::piece::GROWTH;
+use crate::piece::{GROWTH, grow};
 use crate::vbr::is_redundant;
 use crate::width::count_bits;
 use crate::zigzag::unzigzag;
@@ -200,6 +199,7 @@ pub trait BitRead {
         let number = self.read_unsigned_var(count_bits(C::MAX))?;
         match C::of(number) {
             Some(count) => Ok(count),
+            // `C::MAX` is 1 less than a power of two, so it is the greatest number of so many bits.
             None => unreachable!(),
         }
     }
@@ -371,7 +371,9 @@ pub trait BitRead {
 
     /// Returns the reader by reference, for a function that takes a reader by value.
     fn by_ref(&mut self) -> &mut Self
+        // It reaches this reader, as it is.
         ensures value { result.now ≡ self.old }
+        // It is this very reference, so what is done by it is done to this reader.
         ensures same_reference { result.ghost_name ≡ self.entry.ghost_name }
     {
         self

@@ -14,6 +14,7 @@ pub fn vbr_bits<F: Width, U: UnsignedInteger>(value: U) -> u32
     ensures { (o : Order) → length (vbr_word o F.BITS (U.value value)) ≡ result }
 {
     value.known();
+    // One bit of a group says whether another one follows.
     let payload = F::BITS - 1;
     let mut bits = F::BITS;
     let mut rest = value;
@@ -22,6 +23,7 @@ pub fn vbr_bits<F: Width, U: UnsignedInteger>(value: U) -> u32
         bits += 2 * F::BITS;
         rest = rest.shr_default(2 * payload);
     }
+    // One group is left, or two.
     if rest >> payload != U::ZERO {
         bits += F::BITS;
     }
@@ -35,8 +37,11 @@ pub fn vbr_bits<F: Width, U: UnsignedInteger>(value: U) -> u32
 pub(crate) fn split_group<F: Width, U: UnsignedInteger>(value: U) -> Option<(U, U)>
     requires some { 2 ≤ F.BITS }
     requires within { F.BITS < U.BITS_SIZE }
+    // If two parts are answered, the number's groups are the first part and then those of the
+    // second, which is less than the number.
     ensures first { IfSome result (λ parts.
         IsFirstGroup F.BITS (U.value value) (U.value parts.0) (U.value parts.1)) }
+    // If `None` is answered, the number has one group, which is its word at `F::BITS` bits.
     ensures last { result ≡ None → IsLastGroup F.BITS (U.value value) }
 {
     let payload = F::BITS - 1;
@@ -44,6 +49,7 @@ pub(crate) fn split_group<F: Width, U: UnsignedInteger>(value: U) -> Option<(U, 
     if rest == U::ZERO {
         return None;
     }
+    // The bit that says that another group follows.
     let more = U::ONE << payload;
     let digits = value & (more - U::ONE);
     Some((more | digits, rest))

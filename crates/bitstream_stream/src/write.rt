@@ -1,7 +1,7 @@
 //! The calls of a sink of bits.
-use crate::write::run::run_without_stop;
 use crate::vbr::{split_group, vbr_bits};
 use crate::width::count_bits;
+use crate::write::run::run_without_stop;
 use crate::zigzag::zigzag;
 use bitstream_count::count::{BitCount, Count, SignedCount};
 use bitstream_count::error::Error;
@@ -280,7 +280,9 @@ pub trait BitWrite {
     fn by_ref(&mut self) -> &mut Self
     where
         Self: Sized,
+        // It is this very reference, so what is done by it is done to this sink.
         ensures same_reference { result.ghost_name ≡ self.entry.ghost_name }
+        // It reaches this sink, as it is.
         ensures same_value { result.now ≡ self.old }
     {
         self

@@ -47,7 +47,9 @@ pub trait Integer: Sized {
     /// Reads a value of `B::BITS` bits, a width that is never rejected.
     fn read<B: Width, R: BitRead>(reader: &mut R) -> Result<Self, Error>
         requires { IsWidth B.BITS }
+        // It is a read of the type's entry at `B::BITS` bits.
         ensures reads { Reads R.source (reads R.source.order B.BITS) reader.old result reader.new }
+        // A value that is answered fits `B::BITS` bits.
         ensures fits { IfOk result (λ value. Fits B.BITS value) }
     {
         Self::read_var(reader, BitCount::unknown(B::BITS))
@@ -61,8 +63,10 @@ pub trait Integer: Sized {
     /// `BoolWidth` for a `bool` of any number of bits but 1, `NonZeroWidth` for a `NonZero` of its
     /// type's size in bits, or of more. No bit of the value is read then.
     fn read_var<C: Count, R: BitRead>(reader: &mut R, bits: C) -> Result<Self, Error>
+        // It is a read of the type's entry at `bits` bits.
         ensures reads { Reads R.source (reads R.source.order (C.number bits))
             reader.old result reader.new }
+        // A value that is answered fits `bits` bits.
         ensures fits { IfOk result (λ value. Fits (C.number bits) value) };
 
     /// Writes a value in `B::BITS` bits, a width that is never rejected.

@@ -21,10 +21,13 @@ use bitstream_stream::write::BitWrite;
 /// No path of a tree is the beginning of another one. A path is read back, whatever follows it. A
 /// read takes a path, and answers the symbol at its leaf.
 pub fn paths_are_read<S>()
+    // If the same bits begin with two paths, both are the same path, to the same symbol.
     ensures apart { (t : Tree S) (u v x y : List Bool) (a b : S) → IsPath t u a → IsPath t v b
         → u ++ x ≡ v ++ y → (u ≡ v) × (a ≡ b) }
+    // A path is read as the symbol at its leaf, whatever follows it.
     ensures back { (t : Tree S) (w : List Bool) (s : S) (p : ℕ) (more : List Bool) → IsPath t w s
         → (path_entry t).reads p (w ++ more) ≡ Takes (length w) (Ok s) }
+    // If a read answers, it took the bits of a path and answers the symbol at its leaf.
     ensures taken { (t : Tree S) (p : ℕ) (bits : List Bool) (n : ℕ) (answer : Result S Error)
         → (path_entry t).reads p bits ≡ Takes n answer
         → (n ≤ length bits) × ((s : S) × (answer ≡ Ok s) × IsPath t (take n bits) s) }
@@ -33,10 +36,13 @@ pub fn paths_are_read<S>()
 /// A symbol has a word exactly if a leaf has the same symbol. The word is the path of the first
 /// such leaf, and is read as that leaf's symbol.
 pub fn symbols_have_words<S>()
+    // A symbol has a word exactly if a leaf has the same symbol.
     ensures known { (same : S → S → Bool) (t : Tree S) (s : S) → IsSome (first_path same t s)
         ↔ ((w : List Bool) × (x : S) × IsPath t w x × (same x s ≡ true)) }
+    // The word is the path of the first such leaf, and is what is written.
     ensures first { (same : S → S → Bool) (t : Tree S) (s : S) (w : List Bool)
         → first_path same t s ≡ Some w → IsFirstPath same t s w × (symbol_word same t s ≡ w) }
+    // The word is read as a symbol that is the same, whatever follows it.
     ensures back { (same : S → S → Bool) (t : Tree S) (s : S) (w : List Bool)
         → first_path same t s ≡ Some w → (x : S) × (same x s ≡ true)
         × ((p : ℕ) (more : List Bool) → (path_entry t).reads p (w ++ more) ≡ Takes (length w) (Ok x)) }
@@ -45,8 +51,10 @@ pub fn symbols_have_words<S>()
 /// The words of limited unary are the paths of a tree, whose leaves are `None` and the numbers below
 /// the maximum.
 pub fn limited_runs_are_paths()
+    // The word of `None`, or of a number below the maximum, is a path to that value.
     ensures word { (stop : Bool) (most : ℕ) (v : Option ℕ) → IfSome v (λ k. k < most)
         → IsPath (limited_tree stop 0 most) (limited_unary stop most v) v }
+    // A path leads to `None` or to a number below the maximum, and is the word of that value.
     ensures path { (stop : Bool) (most : ℕ) (w : List Bool) (v : Option ℕ)
         → IsPath (limited_tree stop 0 most) w v
         → IfSome v (λ k. k < most) × (w ≡ limited_unary stop most v) }

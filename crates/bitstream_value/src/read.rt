@@ -37,8 +37,10 @@ pub trait BitReadExt: BitRead {
     /// As [`Integer::read`].
     fn read<B: Width, I: Integer>(&mut self) -> Result<I, Error>
         requires { I.IsWidth B.BITS }
+        // It is a read of the type's entry at `B::BITS` bits.
         ensures reads { Reads Self.source (I.reads Self.source.order B.BITS)
             self.old result self.new }
+        // A value that is answered fits `B::BITS` bits.
         ensures fits { IfOk result (λ value. I.Fits B.BITS value) };
 
     /// Reads a value of the given number of bits.
@@ -47,8 +49,10 @@ pub trait BitReadExt: BitRead {
     ///
     /// As [`Integer::read_var`].
     fn read_var<I: Integer>(&mut self, bits: u32) -> Result<I, Error>
+        // It is a read of the type's entry at `bits` bits.
         ensures reads { Reads Self.source (I.reads Self.source.order bits)
             self.old result self.new }
+        // A value that is answered fits `bits` bits.
         ensures fits { IfOk result (λ value. I.Fits bits value) };
 
     /// Reads a value of the given number of bits.
@@ -57,8 +61,10 @@ pub trait BitReadExt: BitRead {
     ///
     /// As [`Integer::read_var`].
     fn read_counted<C: Count, I: Integer>(&mut self, bits: C) -> Result<I, Error>
+        // It is a read of the type's entry at `bits` bits.
         ensures reads { Reads Self.source (I.reads Self.source.order (C.number bits))
             self.old result self.new }
+        // A value that is answered fits `bits` bits.
         ensures fits { IfOk result (λ value. I.Fits (C.number bits) value) };
 
     /// Reads a value of variable width, in groups of `F::BITS` bits.

@@ -11,7 +11,9 @@ use bitstream_stream::write::BitWrite;
 /// Answers the error and takes no bits, or answers `Failed` if the reader has failed.
 pub(crate) fn refuse_read<T, R: BitRead>(reader: &mut R, error: Error) -> Result<T, Error>
     requires { is_run_too_long {A = T} (Err error) ≡ false }
+    // No bit is taken, and the error is answered, or `Failed` if the reader has failed.
     ensures reads { Reads R.source (refuses error) reader.old result reader.new }
+    // It never succeeds.
     ensures error { IsErr result }
 {
     // A read of no bits answers an error only if the reader has failed.

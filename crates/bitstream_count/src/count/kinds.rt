@@ -16,7 +16,9 @@ pub trait Count: Sealed + Copy {
 
     /// Returns the number of bits.
     fn bits(self) -> u32
+        // The answer is the count's number.
         ensures value { result ≡ number self }
+        // It is at most `MAX`.
         ensures bound { result ≤ MAX };
 
     /// Returns a count of the given number of bits, or `None` if that is above `MAX`.
@@ -35,8 +37,11 @@ pub trait SignedCount: Sealed + Copy {
 
     /// Returns the number of bits, the sign bit included.
     fn bits(self) -> u32
+        // The answer is the count's number.
         ensures value { result ≡ number self }
+        // It is at least 1, since the sign bit is one of them.
         ensures some { 1 ≤ result }
+        // It is at most `MAX`.
         ensures bound { result ≤ MAX };
 
     /// Returns a count of the given number of bits, or `None` if that is 0 or above `MAX`.

@@ -56,8 +56,11 @@ impl<const MAX: u32> BitCount<MAX> {
 impl<const MAX: u32, U: UnsignedInteger> LsbMask<MAX, U> {
     /// Returns the number of the bits above, and the number of the lowest bits.
     pub fn split(&self, v: U) -> (U, CheckedUnsigned<MAX, U>)
+        // The count of the low value is n, the one at which this mask splits.
         ensures count { result.1.0 ≡ self.now }
+        // The number is the high value times 2^n, plus the low value.
         ensures split { U.value v ≡ U.value result.0 * 2 ^ self.now + U.value result.1.1 }
+        // The low value is the number modulo 2^n.
         ensures low { U.value result.1.1 ≡ U.value v % 2 ^ self.now }
     {
         let bits = self.count.bits();

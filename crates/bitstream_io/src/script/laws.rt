@@ -43,10 +43,12 @@ pub fn played_calls_are_direct_calls()
 
 /// To make the calls of one list and then those of another is to make the calls of both.
 pub fn write_runs_join()
+    // The words are those of the first list, and then those of the second from the length reached.
     ensures words { (o : Order) (first second : List WriteCall) (len : ℕ)
         → let words = write_run (write_entries None o first) len in
         write_run (write_entries None o (first ++ second)) len
         ≡ words ++ write_run (write_entries None o second) (len + length words) }
+    // So are the answers: those of the first list, and then those of the second.
     ensures answers { (o : Order) (first second : List WriteCall) (len : ℕ)
         → let words = write_run (write_entries None o first) len in
         write_refusals (write_entries None o (first ++ second)) len
@@ -79,11 +81,13 @@ pub fn lists_of_reads_are_known<R: BitRead>()
 /// 0 bits), whatever bits follow. The reads begin at the same place in a byte as the writes, which may
 /// be another number of bits.
 pub fn written_calls_are_read()
+    // The matching reads of the accepted calls answer the values that these wrote.
     ensures answers { (o : Order) (calls : List WriteCall) (len p : ℕ) (more : List Bool)
         → All IsCall calls → p % 8 ≡ len % 8
         → let kept = accepted_calls o calls len in
         run_answers (read_run (read_entries o (matching_reads kept)) p
         (write_run (write_entries None o calls) len ++ more)) ≡ answers_of kept }
+    // They take just the bits that were written.
     ensures place { (o : Order) (calls : List WriteCall) (len p : ℕ) (more : List Bool)
         → All IsCall calls → p % 8 ≡ len % 8
         → let words = write_run (write_entries None o calls) len in
@@ -107,27 +111,39 @@ pub fn written_calls_come_back<R: BitRead>()
 /// whatever follows. Of a number that was written in no bits 0 is read. A number of variable width is
 /// read back by the lenient read too.
 pub fn written_words_are_read()
+    // A bit is read back.
     ensures bit { (b : Bool) → IsReadAs (bit b ∷ []) bit_entry b }
+    // A number that fits n bits of its type is read back. One written in no bits is read as 0.
     ensures unsigned { (o : Order) (size n v : ℕ) → n ≤ size → (v < 2 ^ n) ⊎ (n ≡ 0)
         → IsReadAs (unsigned o size n v ∷ []) (unsigned_entry o size n) (value_in n v) }
+    // A signed number that fits n bits of its type, where n is not 0, is read back.
     ensures signed { (o : Order) (size n : ℕ) (x : ℤ) → 0 < n → n ≤ size → FitsSignedBits n x
         → IsReadAs (signed o size n x ∷ []) (signed_entry o size n) x }
+    // A constant that fits its bits is found to be what was written.
     ensures constant { (o : Order) (n v : ℕ) → v < 2 ^ n
         → IsReadAs (plain (word o n v) ∷ []) (const_entry o n v) true }
+    // A unary number below 2^32 is read back, with either stop bit.
     ensures unary { (stop : Bool) (k : ℕ) → k < 2 ^ 32
         → IsReadAs (unary_word stop k ∷ []) (unary_entry stop) k }
+    // A count up to its greatest number is read back.
     ensures count { (o : Order) (max n : ℕ) → n ≤ max
         → IsReadAs (count o max n ∷ []) (count_entry o max) n }
+    // Bytes are read back by a read of as many bytes.
     ensures bytes { (o : Order) (bytes : List ℕ) → All (λ b. b < 256) bytes
         → IsReadAs (buffer o bytes ∷ []) (bytes_entry o (length bytes)) bytes }
+    // A skip of n bits takes just the n zeros that were written.
     ensures skip { (n : ℕ) → IsReadAs (zeros n ∷ []) (skip_entry n) tt }
+    // A number of the type below the limit is read back from its groups by the strict read.
     ensures vbr { (o : Order) (field size limit v : ℕ) → 2 ≤ field → 0 < size → limit ≤ 2 ^ size
         → v < limit → IsReadAs (vbr o field v ∷ []) (vbr_entry o field size limit) v }
+    // It is read back by the lenient read, too.
     ensures any_vbr { (o : Order) (field size limit v : ℕ) → 2 ≤ field → 0 < size → limit ≤ 2 ^ size
         → v < limit → IsReadAs (vbr o field v ∷ []) (any_vbr_entry o field size limit) v }
+    // A signed number of the type is read back from its groups by the strict read.
     ensures signed_vbr { (o : Order) (field size : ℕ) (x : ℤ) → 2 ≤ field → 0 < size
         → FitsSignedBits size x
         → IsReadAs (signed_vbr o field x ∷ []) (signed_vbr_entry o field size) x }
+    // It is read back by the lenient read, too.
     ensures any_signed_vbr { (o : Order) (field size : ℕ) (x : ℤ) → 2 ≤ field → 0 < size
         → FitsSignedBits size x
         → IsReadAs (signed_vbr o field x ∷ []) (any_signed_vbr_entry o field size) x }
@@ -136,33 +152,45 @@ pub fn written_words_are_read()
 /// The same holds for the types of values: what a value's calls write is read back as the value. In
 /// no bits a `NonZero` is read as 1, and an `Option` as `None`.
 pub fn written_values_are_read<A>()
+    // A `bool` is read back from one bit.
     ensures bool { (b : Bool) → IsReadAs (truth 1 b ∷ []) (truth_entry 1) b }
+    // A `NonZero` whose number less 1 fits n bits, fewer than its type's, is read back. One written
+    // in no bits is read as 1.
     ensures non_zero { (after : ℕ → A) (o : Order) (size n v : ℕ) → n < size
         → (v - 1 < 2 ^ n) ⊎ (n ≡ 0)
         → IsReadAs (non_zero o size n v ∷ []) (non_zero_entry after o size n)
         (after (value_in n (v - 1))) }
+    // An `Option` of a `NonZero` whose number fits n bits of its type is read back. One written in
+    // no bits is read as `None`.
     ensures option { (after : ℕ → A) (o : Order) (size n v : ℕ) → n ≤ size
         → (v < 2 ^ n) ⊎ (n ≡ 0)
         → IsReadAs (unsigned o size n v ∷ []) (option_entry after o size n)
         (if_any after (value_in n v)) }
+    // A `NonZero` of the type is read back from groups of bits.
     ensures non_zero_vbr { (after : ℕ → A) (o : Order) (field size v : ℕ) → 2 ≤ field → 0 < size
         → v - 1 < 2 ^ size - 1
         → IsReadAs (vbr o field (v - 1) ∷ []) (non_zero_vbr_entry after o field size)
         (after (v - 1)) }
+    // An `Option` of a `NonZero` of the type is read back from groups of bits.
     ensures option_vbr { (after : ℕ → A) (o : Order) (field size v : ℕ) → 2 ≤ field → 0 < size
         → v < 2 ^ size
         → IsReadAs (vbr o field v ∷ []) (option_vbr_entry after o field size) (if_any after v) }
+    // A checked number is read back with its count.
     ensures checked { (count : A) (o : Order) (size n v : ℕ) → n ≤ size → v < 2 ^ n
         → IsReadAs (plain (word o n v) ∷ []) (checked_entry count o size n) (count, pos v) }
+    // A checked signed number is read back with its count.
     ensures signed_checked { (count : A) (o : Order) (size n : ℕ) (x : ℤ) → 0 < n → n ≤ size
         → FitsSignedBits n x
         → IsReadAs (plain (signed_word o n x) ∷ []) (signed_checked_entry count o size n) (count, x) }
+    // An array is read back if each of its items is.
     ensures array { (entry : ReadEntry A) (writes : A → List WriteEntry) (items : List A)
         → All (λ x. IsReadAs (writes x) entry x) items
         → IsReadAs (flat_map writes items) (items_entry entry (length items)) items }
+    // A symbol that has a word is read back as a symbol that is the same.
     ensures symbol { (same : A → A → Bool) (t : Tree A) (s : A) (w : List Bool)
         → first_path same t s ≡ Some w
         → (x : A) × (same x s ≡ true) × IsReadAs (bit_by_bit w) (path_entry t) x }
+    // `None`, or a number below the maximum, is read back.
     ensures limited_unary { (stop : Bool) (most : ℕ) (v : Option ℕ) → IfSome v (λ k. k < most)
         → IsReadAs (bit_by_bit (limited_unary stop most v)) (path_entry (limited_tree stop 0 most)) v }
 {}

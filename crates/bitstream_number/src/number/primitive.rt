@@ -16,7 +16,9 @@ pub trait Buffer: Copy {
 
     /// Returns the bytes as a mutable slice.
     fn bytes_mut(&mut self) -> &mut [u8]
+        // The slice holds the bytes of the buffer.
         ensures value { result.now ≡ items self.old }
+        // When the borrow ends, the buffer holds the bytes that were left in the slice.
         ensures* writes_back { sem 𝓛 (Lends Self.row (Array byte 0) self.entry result of) };
 
     ghost items_law: { (bs : List ℕ) → items (of bs) ≡ bs };
@@ -60,12 +62,16 @@ pub trait Primitive: Sized {
 
     /// Returns the bytes of the value, most significant byte first (big-endian).
     fn to_be_bytes(self) -> Self::Bytes
+        // The buffer holds the big-endian bytes of the value.
         ensures bytes { Self.Bytes.items result ≡ be_bytes self }
+        // There are `BYTES` of them.
         ensures len { length (Self.Bytes.items result) ≡ BYTES };
 
     /// Returns the bytes of the value, least significant byte first (little-endian).
     fn to_le_bytes(self) -> Self::Bytes
+        // The buffer holds the little-endian bytes of the value.
         ensures bytes { Self.Bytes.items result ≡ le_bytes self }
+        // There are `BYTES` of them.
         ensures len { length (Self.Bytes.items result) ≡ BYTES };
 
     /// Returns the value with these bytes, most significant byte first (big-endian).
@@ -85,7 +91,9 @@ pub trait Primitive: Sized {
 
     /// Returns the bytes in a buffer as a mutable slice.
     final fn as_bytes_mut(bytes: &mut Self::Bytes) -> &mut [u8]
+        // The slice holds the bytes of the buffer.
         ensures value { result.now ≡ Self.Bytes.items bytes.old }
+        // When the borrow ends, the buffer holds the bytes that were left in the slice.
         ensures* writes_back { sem 𝓛
             (Lends Self.Bytes.row (Array byte 0) bytes.entry result Self.Bytes.of) }
     {

@@ -45,10 +45,14 @@ pub(crate) fn copy(to: &mut [u8], from: &[u8])
 #[inline(always)]
 pub(crate) fn copy_front(to: &mut [u8], from: &[u8], count: usize) -> bool
     requires { count ≤ length to.old }
+    // The buffer keeps its length.
     ensures len { length to.new ≡ length to.old }
+    // Answers `true` exactly if there are `count` bytes.
     ensures enough { IsTrue result ↔ (count ≤ length from.now) }
+    // If it does, the buffer begins with the first `count` bytes.
     ensures copied { IsTrue result → take count to.new ≡ take count from.now }
 {
+    // There are enough bytes for the whole buffer, whose length is mostly a constant.
     if from.len() >= to.len() {
         copy(to, &from[..to.len()]);
         return true;
@@ -56,6 +60,7 @@ pub(crate) fn copy_front(to: &mut [u8], from: &[u8], count: usize) -> bool
     if from.len() < count {
         return false;
     }
+    // Near the end of the bytes only those asked for are copied.
     copy(&mut to[..count], &from[..count]);
     true
 }

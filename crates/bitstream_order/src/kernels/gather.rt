@@ -36,12 +36,16 @@ pub fn take_bits<S: Source, E: Endianness, U: UnsignedInteger>(
     requires below { U.value acc < 2 ^ done }
     requires some { 1 ≤ n }
     requires room { done + n ≤ U.BITS_SIZE }
+    // The next n bits of the stream follow the `done` bits, and those left of the last byte are
+    // answered beside. Or the request is refused.
     ensures takes { TakesBits (MayRefuse S.remaining S.references S.refuses) E.order done (U.value acc) n
         (port_state S.remaining S.references port.old) (seen (λ p. (U.value p.0, p.1)) result)
         (port_state S.remaining S.references port.new) }
+    // Exactly one request is made, whether it is refused or not.
     ensures requests { requests_count port.new ≡ requests_count port.old + 1 }
 {
     let mut bytes = U::buffer();
+    // Only the bytes that hold these bits are asked for.
     let count = (n + 7) / 8;
     match port.fetch_front(U::as_bytes_mut(&mut bytes), count as usize, constant) {
         Ok(()) => {

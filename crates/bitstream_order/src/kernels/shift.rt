@@ -19,12 +19,18 @@ fn shift_values<E: Endianness, U: UnsignedInteger>(
     requires some { 1 ≤ queued }
     requires few { queued < 8 }
     requires small { queue < 2 ^ queued }
+    // The queue and the old bits of the shifted bytes are their new bits and the bits left over.
     ensures shifts { Shifts E.order queued queue (bits E.order (take result.0 bytes.old))
         (bits E.order (take result.0 bytes.new)) result.1 }
+    // The bits left over are as many as were queued.
     ensures small { result.1 < 2 ^ queued }
+    // The bytes behind the shifted ones stay as they were.
     ensures rest { drop result.0 bytes.new ≡ drop result.0 bytes.old }
+    // No more bytes are shifted than there are.
     ensures within { result.0 ≤ length bytes.old }
+    // Fewer bytes than U has are left unshifted.
     ensures most { length bytes.old < result.0 + U.BYTES }
+    // The number of bytes stays the same.
     ensures len { length bytes.new ≡ length bytes.old }
 {
     // The queue stands as the last bits of a value before the first one.
@@ -42,6 +48,7 @@ fn shift_values<E: Endianness, U: UnsignedInteger>(
         before = value;
         at = end;
     }
+    // The last bits of the last value are left over. If no value was shifted, they are the queue.
     (at, E::cut(before, U::BITS_SIZE, rest, queued))
 }
 
@@ -52,11 +59,15 @@ pub fn shift<E: Endianness>(queue: u8, queued: u32, bytes: &mut [u8]) -> u8
     requires some { 1 ≤ queued }
     requires few { queued < 8 }
     requires small { queue < 2 ^ queued }
+    // The queue and the old bits of the bytes are their new bits and the bits left over.
     ensures shifts { Shifts E.order queued queue (bits E.order bytes.old)
         (bits E.order bytes.new) result }
+    // The bits left over are as many as were queued.
     ensures small { result < 2 ^ queued }
+    // The number of bytes stays the same.
     ensures len { length bytes.new ≡ length bytes.old }
 {
     let (at, left) = shift_values::<E, u64>(queue, queued, bytes);
+    // Fewer than 8 bytes are left, which go one by one.
     shift_values::<E, u8>(left, queued, &mut bytes[at..]).1
 }

@@ -6,10 +6,10 @@ ghost use Rattle.bitstream_order.specs.Refusal.{MayRefuse};
 ghost use Rattle.bitstream_order.specs.Port.{port_state, fetched_count, requests_count};
 ghost use Rattle.bitstream_order.specs.Moving.TakeUnary.{FetchesByte, TakesUnary};
 
+use crate::ghosts::GhostCount;
 use crate::order::Endianness;
 use crate::port::Port;
 use crate::streams::source::Source;
-use crate::ghosts::GhostCount;
 use bitstream_count::error::Error;
 
 /// Fetches one byte by one request.
@@ -55,11 +55,15 @@ pub fn take_unary<S: Source, E: Endianness>(
     stop: bool,
 ) -> Result<Option<TakenUnary>, Error>
     requires { queued < 8 }
+    // The queued bits and then those fetched are the unary word and the bits left. Or the run is
+    // too long, or a request is refused.
     ensures takes { TakesUnary (MayRefuse S.remaining S.references S.refuses) E.order stop
         (word E.order queued (first_part E.order queue 8 queued))
         (port_state S.remaining S.references port.old) result
         (port_state S.remaining S.references port.new) }
+    // If a word was taken, fewer than 8 bits are left behind it.
     ensures few { IfOk result (λ answer. IfSome answer (λ run. run.queued < 8)) }
+    // Unless a request is refused, it takes one turn more than it fetches bytes.
     ensures turns { OnOk result (turns.new.count
         ≡ turns.old.count + (fetched_count port.new - fetched_count port.old) + 1) }
 {
@@ -67,6 +71,7 @@ pub fn take_unary<S: Source, E: Endianness>(
     // is none.
     turns.add(1);
     let first = E::run_length(queue, stop);
+    // The stop bit is in the queue, so no byte is needed.
     if first < queued {
         return Ok(Some(TakenUnary {
             count: first,
@@ -74,8 +79,10 @@ pub fn take_unary<S: Source, E: Endianness>(
             queued: queued - first - 1,
         }));
     }
+    // No queued bit is the stop bit, so all of them count.
     let mut count = queued;
     loop {
+        // One more byte is needed, and for now no other: the stop bit may be in it.
         let byte = fetch_byte(port)?;
         turns.add(1);
         let lead = E::run_length(byte, stop);
@@ -83,6 +90,7 @@ pub fn take_unary<S: Source, E: Endianness>(
         let Some(more) = count.checked_add(lead) else {
             return Ok(None);
         };
+        // The stop bit is in this byte, and the bits behind it are left.
         if lead < 8 {
             return Ok(Some(TakenUnary {
                 count: more,

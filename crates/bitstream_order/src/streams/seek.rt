@@ -28,10 +28,15 @@ pub trait SeekSource: Source {
     ///
     /// The source's own, as [`Seek::seek`] has them. The position stays as it was then.
     fn seek(&mut self, to: SeekFrom) -> io::Result<u64>
+        // If the source tells its position, that becomes the answer, or stays if the seek is
+        // refused. If it tells its bytes too, the answer is the place meant.
         ensures moves { SeekMoves (position self.old) (position self.new)
             (bytes self.old) to result }
+        // All bytes of the source stay the same, if it tells them.
         ensures bytes { Keeps (bytes self.old) (bytes self.new) }
+        // The source is reached by the same references as before.
         ensures references { Self.references self.new ≡ Self.references self.old }
+        // An error is one by which the source says that it may refuse this seek.
         ensures refused { IfErr result (λ e. refuses_seek self.old to (error_kind e) self.new) };
 }
 

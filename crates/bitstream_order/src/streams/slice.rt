@@ -44,8 +44,11 @@ impl<'a> Slice<'a> {
 
     /// Returns a source of these bytes, at their start.
     pub fn new(bytes: &'a [u8]) -> Slice<'a>
+        // All these bytes are left.
         ensures bytes { result.bytes.now ≡ bytes.now }
+        // They are all its bytes, from place 0 on.
         ensures all { slice_bytes result ≡ bytes.now }
+        // It stands at place 0.
         ensures place { slice_place result ≡ 0 }
     {
         Slice {
@@ -84,7 +87,9 @@ impl<'a> Slice<'a> {
 
     /// Goes to a place in bytes.
     fn go_to(&mut self, place: u64)
+        // It stands at that place, even past the end.
         ensures place { slice_place self.new ≡ place }
+        // Its bytes are the same as before.
         ensures all { slice_bytes self.new ≡ slice_bytes self.old }
     {
         let all = self.all;

@@ -37,8 +37,11 @@ impl<'a> SliceMut<'a> {
 
     /// Returns a target that writes to these bytes, from their front.
     pub fn new(bytes: &'a mut [u8]) -> SliceMut<'a>
+        // No byte is written yet.
         ensures written { written_bytes result ≡ [] }
+        // It can hold as many bytes as the slice has.
         ensures capacity { slice_capacity result ≡ length bytes.old }
+        // It reaches the bytes by this very reference.
         ensures name { slice_name result ≡ bytes.entry.ghost_name }
     {
         SliceMut { bytes, written: 0 }

@@ -31,9 +31,13 @@ pub trait Source {
     /// The source's own, as [`Read::read_exact`] has them. The source need not tell which bytes it
     /// took then.
     fn read_exact(&mut self, buf: &mut [u8]) -> io::Result<()>
+        // If it succeeds, the buffer has taken the next bytes, if the source tells what is left.
         ensures bytes { OnOk result (Consumes (remaining self.old) (remaining self.new) buf.new) }
+        // If it succeeds, it did what the source says of a request that takes so many bytes.
         ensures takes { OnOk result (takes self.old (length buf.old) self.new) }
+        // The source is reached by the same references as before.
         ensures references { references self.new ≡ references self.old }
+        // An error is one by which the source says that it may refuse a request for so many bytes.
         ensures refused { IfErr result
             (λ e. refuses self.old (length buf.old) (error_kind e) self.new) };
 
@@ -48,11 +52,17 @@ pub trait Source {
     #[inline(always)]
     fn read_front(&mut self, buf: &mut [u8], count: usize, _constant: bool) -> io::Result<()>
         requires { count ≤ length buf.old }
+        // If it succeeds, the buffer's front has taken the next `count` bytes, if the source tells
+        // what is left.
         ensures bytes { OnOk result
             (Consumes (remaining self.old) (remaining self.new) (take count buf.new)) }
+        // The buffer keeps its length.
         ensures len { length buf.new ≡ length buf.old }
+        // If it succeeds, it did what the source says of a request that takes so many bytes.
         ensures takes { OnOk result (takes self.old count self.new) }
+        // The source is reached by the same references as before.
         ensures references { references self.new ≡ references self.old }
+        // An error is one by which the source says that it may refuse a request for so many bytes.
         ensures refused { IfErr result (λ e. refuses self.old count (error_kind e) self.new) }
     {
         self.read_exact(&mut buf[..count])

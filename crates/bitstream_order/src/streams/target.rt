@@ -31,8 +31,11 @@ pub trait Target {
     /// The target's own, as [`Write::write_all`] has them. The target need not tell which bytes
     /// went then.
     fn write_all(&mut self, bytes: &[u8]) -> io::Result<()>
+        // If it succeeds, the bytes stand behind those held before, if the target tells them.
         ensures bytes { OnOk result (Appends (contents self.old) (contents self.new) bytes.now) }
+        // The target is reached by the same references as before.
         ensures references { references self.new ≡ references self.old }
+        // An error is one by which the target says that it may refuse a request of so many bytes.
         ensures refused { IfErr result
             (λ e. refuses self.old (length bytes.now) (error_kind e) self.new) };
 
@@ -43,9 +46,13 @@ pub trait Target {
     ///
     /// The target's own, as [`Write::flush`] has them.
     fn flush(&mut self) -> io::Result<()>
+        // The target holds the same bytes as before, if it tells them.
         ensures bytes { Keeps (contents self.old) (contents self.new) }
+        // If it succeeds, the target did what it says that a flush does.
         ensures flushed { OnOk result (flushes self.old self.new) }
+        // The target is reached by the same references as before.
         ensures references { references self.new ≡ references self.old }
+        // An error is one by which the target says that it may refuse a request of no bytes.
         ensures refused { IfErr result (λ e. refuses self.old 0 (error_kind e) self.new) };
 }
 

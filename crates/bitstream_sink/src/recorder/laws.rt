@@ -15,9 +15,11 @@ use std::alloc::Allocator;
 /// What is appended to a recorder stands behind the bits that were recorded before, and the recorder's
 /// length is their number.
 pub fn recordings_grow<N, E: Endianness, A: Allocator>()
+    // What is appended stands behind the bits that were recorded before.
     ensures grow { (old new : BitRecorder N E A) (x : List Bool) →
         ⟦<BitRecorder<N, E, A> as BitWrite>⟧.sink.appends old x new
         → recorded_bits E.order new ≡ recorded_bits E.order old ++ x }
+    // The recorder's length is the number of bits that were recorded.
     ensures count { (recorder : BitRecorder N E A) →
         ⟦<BitRecorder<N, E, A> as BitWrite>⟧.sink.len recorder
         ≡ length (recorded_bits E.order recorder) }

@@ -4,8 +4,7 @@ ghost use Rattle.bitstream_order.specs.Parts.{value_bytes};
 ghost use Rattle.bitstream_order.specs.Moving.Gather.{seen};
 ghost use Rattle.bitstream_stream.specs.WholeBytes.ByteReads.{ByteSource, ByteReads, ByteReadsGrowing, given_bytes, skipped_bytes, lent_byte_source};
 
-use crate::piece::grow;
-use crate::piece::GROWTH;
+use crate::piece::{GROWTH, grow};
 use bitstream_count::error::Error;
 use bitstream_number::number::Primitive;
 use bitstream_order::order::Endianness;

@@ -13,18 +13,18 @@ use crate::width::count_bits;
 use bitstream_count::count::{Count, SignedCount};
 use bitstream_count::error::Error;
 use bitstream_number::number::{Numeric, Primitive, SignedInteger, UnsignedInteger, Width};
+use bitstream_order::ghosts::GhostCount;
 use bitstream_order::kernels::gather::{take_bits, unused_bits};
-use bitstream_order::order::Endianness;
-use bitstream_order::port::Port;
 use bitstream_order::kernels::shift::shift;
 use bitstream_order::kernels::sign::signed_of;
-use bitstream_order::streams::source::Source;
-use bitstream_order::ghosts::GhostCount;
 use bitstream_order::kernels::unary::take_unary;
+use bitstream_order::order::Endianness;
+use bitstream_order::port::Port;
+use bitstream_order::streams::source::Source;
 use std::marker::PhantomData;
 
-mod seek;
 mod convert;
+mod seek;
 
 /// Reads bits from a stream of bytes. A byte is fetched only when a call needs a bit of it, so
 /// fewer than 8 bits are queued at any time.
@@ -68,9 +68,12 @@ impl<R: Source, E: Endianness> BitReader<R, E> {
 
     /// Returns a reader of a stream's bytes. No request is made yet.
     pub fn new(reader: R) -> BitReader<R, E>
+        // Nothing is taken or queued yet, and the bytes left are the stream's, if it tells them.
         ensures state { ⟦<Self as BitRead>⟧.source.state result
             ≡ new_reader_state (R.remaining reader) (R.references reader) }
+        // No request was made yet.
         ensures requests { requests_made result ≡ 0 }
+        // No turn was taken yet to read a unary number.
         ensures turns { turns_made result ≡ 0 }
     {
         BitReader {
@@ -88,9 +91,12 @@ impl<R: Source, E: Endianness> BitReader<R, E> {
     pub fn endian(reader: R, _endian: E) -> BitReader<R, E>
     where
         E: Drop,
+        // Nothing is taken or queued yet, and the bytes left are the stream's, if it tells them.
         ensures state { ⟦<Self as BitRead>⟧.source.state result
             ≡ new_reader_state (R.remaining reader) (R.references reader) }
+        // No request was made yet.
         ensures requests { requests_made result ≡ 0 }
+        // No turn was taken yet to read a unary number.
         ensures turns { turns_made result ≡ 0 }
     {
         BitReader::new(reader)
@@ -103,8 +109,10 @@ impl<R: Source, E: Endianness> BitReader<R, E> {
         requires fine { self.old.failed ≡ false }
         requires more { self.old.queued < bits }
         requires room { bits ≤ U.BITS_SIZE }
+        // Takes just `bits` bits and answers their number, or answers an error.
         ensures reads { Reads ⟦<Self as BitRead>⟧.source
             (unsigned_entry E.order U.BITS_SIZE bits) self.old (seen U.value result) self.new }
+        // At most one request is made, and none if the queue is enough.
         ensures asks { AsksForWord bits self.old self.new }
     {
         let queued = self.queued;
@@ -116,9 +124,11 @@ impl<R: Source, E: Endianness> BitReader<R, E> {
         self.failed = true;
         self.taken.add(queued as u64);
         let more = bits - queued;
+        // Only the bytes of the other bits are needed, by one request.
         let (value, left) = take_bits::<R, E, U>(&mut self.port, queue, queued, more, constant)?;
         self.failed = false;
         self.taken.add(more as u64);
+        // What is left of the last byte is the new queue.
         self.queue = left;
         self.queued = unused_bits(more);
         Ok(value)
@@ -130,14 +140,17 @@ impl<R: Source, E: Endianness> BitReader<R, E> {
     fn take_word<U: UnsignedInteger>(&mut self, bits: u32, constant: bool) -> Result<U, Error>
         requires fine { self.old.failed ≡ false }
         requires room { bits ≤ U.BITS_SIZE }
+        // Takes just `bits` bits and answers their number, or answers an error.
         ensures reads { Reads ⟦<Self as BitRead>⟧.source
             (unsigned_entry E.order U.BITS_SIZE bits) self.old (seen U.value result) self.new }
+        // At most one request is made, and none if the queue is enough.
         ensures asks { AsksForWord bits self.old self.new }
     {
         let queued = self.queued;
         if bits > queued {
             return self.fetch_word(bits, constant);
         }
+        // All bits are in the queue, so no byte is needed.
         let first = E::first(self.queue, bits);
         self.taken.add(bits as u64);
         self.queue = E::rest(self.queue, bits);
@@ -148,13 +161,16 @@ impl<R: Source, E: Endianness> BitReader<R, E> {
     /// Reads a word, if the reader has not failed and the type has as many bits.
     #[inline(always)]
     fn read_word<U: UnsignedInteger>(&mut self, bits: u32, constant: bool) -> Result<U, Error>
+        // Takes just `bits` bits and answers their number, or answers an error.
         ensures reads { Reads ⟦<Self as BitRead>⟧.source
             (unsigned_entry E.order U.BITS_SIZE bits) self.old (seen U.value result) self.new }
+        // At most one request is made, and none if the queue is enough.
         ensures asks { AsksForWord bits self.old self.new }
     {
         if self.failed {
             return Err(Error::Failed);
         }
+        // Tested before anything is taken, so a rejected read takes no bit.
         if bits > U::BITS_SIZE {
             return Err(Error::ReadBits);
         }
@@ -164,8 +180,10 @@ impl<R: Source, E: Endianness> BitReader<R, E> {
     /// Reads the two's complement of a number.
     #[inline(always)]
     fn read_signed_word<S: SignedInteger>(&mut self, bits: u32, constant: bool) -> Result<S, Error>
+        // Takes just `bits` bits and answers their two's complement, or answers an error.
         ensures reads { Reads ⟦<Self as BitRead>⟧.source
             (signed_entry E.order S.BITS_SIZE bits) self.old (seen S.integer result) self.new }
+        // At most one request is made, and none if the queue is enough.
         ensures asks { AsksForWord bits self.old self.new }
     {
         if self.failed {
@@ -174,6 +192,7 @@ impl<R: Source, E: Endianness> BitReader<R, E> {
         if bits == 0 {
             return Err(Error::NoSignBit);
         }
+        // The same bits as an unsigned number: its type has the same size.
         let word: S::Unsigned = self.read_word(bits, constant)?;
         Ok(signed_of(word, bits))
     }
@@ -184,8 +203,10 @@ impl<R: Source, E: Endianness> BitReader<R, E> {
         requires fine { self.old.failed ≡ false }
         requires none { self.old.queued ≡ 0 }
         requires some { 1 ≤ length buf.old }
+        // Takes just as many bytes as the buffer has into it, or answers an error.
         ensures reads { Reads ⟦<Self as BitRead>⟧.source (bytes_entry E.order (length buf.old))
             self.old (seen (λ _. buf.new) result) self.new }
+        // Exactly one request is made, whether it is refused or not.
         ensures requests { requests_made self.new ≡ requests_made self.old + 1 }
     {
         match self.port.fetch(buf) {
@@ -194,6 +215,7 @@ impl<R: Source, E: Endianness> BitReader<R, E> {
                 Ok(())
             }
             Err(error) => {
+                // The queue is empty already, so no bit of it is lost.
                 self.failed = true;
                 Err(error)
             }
@@ -205,21 +227,28 @@ impl<R: Source, E: Endianness> BitReader<R, E> {
         requires fine { self.old.failed ≡ false }
         requires queued { 1 ≤ self.old.queued }
         requires some { 1 ≤ length buf.old }
+        // Takes just as many bytes as the buffer has into it, or answers an error.
         ensures reads { Reads ⟦<Self as BitRead>⟧.source (bytes_entry E.order (length buf.old))
             self.old (seen (λ _. buf.new) result) self.new }
+        // If it succeeds, the reader has not failed.
         ensures fine { OnOk result (self.new.failed ≡ false) }
+        // If it succeeds, as many bits are queued as before.
         ensures queued { OnOk result (queued_bits self.new ≡ queued_bits self.old) }
+        // Exactly one request is made, whether it is refused or not.
         ensures requests { requests_made self.new ≡ requests_made self.old + 1 }
     {
         let queue = E::first(self.queue, self.queued);
         match self.port.fetch(buf) {
             Ok(()) => {
+                // The queued bits go to the front, and as many last bits are left over.
                 let left = shift::<E>(queue, self.queued, buf);
+                // The queue of a reader stands at the front of its byte.
                 self.queue = E::to_front(left, self.queued);
                 self.taken.add_bytes(buf.len());
                 Ok(())
             }
             Err(error) => {
+                // The queued bits are lost, so they count as taken.
                 self.taken.add(self.queued as u64);
                 self.queue = 0;
                 self.queued = 0;
@@ -235,13 +264,17 @@ impl<R: Source, E: Endianness> BitReader<R, E> {
         requires fine { self.old.failed ≡ false }
         requires queued { 1 ≤ self.old.queued }
         requires some { 1 ≤ most }
+        // Takes just as many bytes as the buffer has into it, or answers an error.
         ensures reads { Reads ⟦<Self as BitRead>⟧.source (bytes_entry E.order (length buf.old))
             self.old (seen (λ _. buf.new) result) self.new }
+        // If it succeeds, it made one request if no bit was queued, else one for each piece of up
+        // to `most` bytes. For no bytes it made none.
         ensures asks { AsksForBytes most (length buf.old) self.old result self.new }
     {
         let mut at = 0;
         while at < buf.len() {
             let end = at + most.min(buf.len() - at);
+            // A piece that is refused ends the call.
             self.fetch_bytes(&mut buf[at..end])?;
             at = end;
         }
@@ -253,19 +286,25 @@ impl<R: Source, E: Endianness> BitReader<R, E> {
     #[inline(always)]
     fn fill(&mut self, buf: &mut [u8], most: usize) -> Result<(), Error>
         requires { 1 ≤ most }
+        // Takes just as many bytes as the buffer has into it, or answers an error.
         ensures reads { Reads ⟦<Self as BitRead>⟧.source (bytes_entry E.order (length buf.old))
             self.old (seen (λ _. buf.new) result) self.new }
+        // If it succeeds, it made one request if no bit was queued, else one for each piece of up
+        // to `most` bytes. For no bytes it made none.
         ensures asks { AsksForBytes most (length buf.old) self.old result self.new }
     {
         if self.failed {
             return Err(Error::Failed);
         }
+        // Off a byte boundary the bytes have to be shifted behind the queue.
         if self.queued > 0 {
             return self.fetch_pieces(buf, most);
         }
+        // No bytes need no request.
         if buf.is_empty() {
             return Ok(());
         }
+        // At a byte boundary they are the stream's own bytes.
         self.fetch_aligned(buf)
     }
 
@@ -286,6 +325,7 @@ impl<R: Source, E: Endianness> BitReader<R, E> {
         if self.failed {
             return Err(Error::Failed);
         }
+        // The bytes are read and dropped, since a stream need not be able to seek.
         let mut skipped = [0u8; PIECE];
         let mut left = bytes;
         while left > 0 {
@@ -304,9 +344,11 @@ impl<R: Source, E: Endianness> BitRead for BitReader<R, E> {
 
     #[inline(always)]
     fn read_unsigned_counted<C: Count, U: UnsignedInteger>(&mut self, bits: C) -> Result<U, Error>
+        // Takes just `bits` bits and answers their number, or answers an error.
         ensures reads { Reads ⟦<Self as BitRead>⟧.source
             (unsigned_entry E.order U.BITS_SIZE (C.number bits))
             self.old (seen U.value result) self.new }
+        // At most one request is made, and none if the queue is enough.
         ensures asks { AsksForWord (C.number bits) self.old self.new }
     {
         self.read_unsigned_var(bits.bits())
@@ -314,9 +356,11 @@ impl<R: Source, E: Endianness> BitRead for BitReader<R, E> {
 
     #[inline(always)]
     fn read_signed_counted<C: SignedCount, S: SignedInteger>(&mut self, bits: C) -> Result<S, Error>
+        // Takes just `bits` bits and answers their two's complement, or answers an error.
         ensures reads { Reads ⟦<Self as BitRead>⟧.source
             (signed_entry E.order S.BITS_SIZE (C.number bits))
             self.old (seen S.integer result) self.new }
+        // At most one request is made, and none if the queue is enough.
         ensures asks { AsksForWord (C.number bits) self.old self.new }
     {
         self.read_signed_var(bits.bits())
@@ -324,7 +368,9 @@ impl<R: Source, E: Endianness> BitRead for BitReader<R, E> {
 
     #[inline(always)]
     fn read_bit(&mut self) -> Result<bool, Error>
+        // Takes just one bit and answers it, or answers an error.
         ensures reads { Reads ⟦<Self as BitRead>⟧.source bit_entry self.old result self.new }
+        // At most one request is made, and none if the queue is enough.
         ensures asks { AsksForWord 1 self.old self.new }
     {
         let bit: u8 = self.read_word(1, true)?;
@@ -333,9 +379,11 @@ impl<R: Source, E: Endianness> BitRead for BitReader<R, E> {
 
     #[inline(always)]
     fn read_unsigned_var<U: UnsignedInteger>(&mut self, bits: u32) -> Result<U, Error>
+        // Takes just `bits` bits and answers their number, or answers an error.
         ensures reads { Reads ⟦<Self as BitRead>⟧.source
             (unsigned_entry E.order U.BITS_SIZE bits)
             self.old (seen U.value result) self.new }
+        // At most one request is made, and none if the queue is enough.
         ensures asks { AsksForWord bits self.old self.new }
     {
         self.read_word(bits, false)
@@ -343,8 +391,10 @@ impl<R: Source, E: Endianness> BitRead for BitReader<R, E> {
 
     #[inline(always)]
     fn read_unsigned<B: Width, U: UnsignedInteger>(&mut self) -> Result<U, Error>
+        // Takes just `B::BITS` bits and answers their number, or answers an error.
         ensures reads { Reads ⟦<Self as BitRead>⟧.source
             (unsigned_entry E.order U.BITS_SIZE B.BITS) self.old (seen U.value result) self.new }
+        // At most one request is made, and none if the queue is enough.
         ensures asks { AsksForWord B.BITS self.old self.new }
     {
         self.read_word(B::BITS, true)
@@ -352,8 +402,10 @@ impl<R: Source, E: Endianness> BitRead for BitReader<R, E> {
 
     #[inline(always)]
     fn read_signed_var<S: SignedInteger>(&mut self, bits: u32) -> Result<S, Error>
+        // Takes just `bits` bits and answers their two's complement, or answers an error.
         ensures reads { Reads ⟦<Self as BitRead>⟧.source
             (signed_entry E.order S.BITS_SIZE bits) self.old (seen S.integer result) self.new }
+        // At most one request is made, and none if the queue is enough.
         ensures asks { AsksForWord bits self.old self.new }
     {
         self.read_signed_word(bits, false)
@@ -361,8 +413,10 @@ impl<R: Source, E: Endianness> BitRead for BitReader<R, E> {
 
     #[inline(always)]
     fn read_signed<B: Width, S: SignedInteger>(&mut self) -> Result<S, Error>
+        // Takes just `B::BITS` bits and answers their two's complement, or answers an error.
         ensures reads { Reads ⟦<Self as BitRead>⟧.source
             (signed_entry E.order S.BITS_SIZE B.BITS) self.old (seen S.integer result) self.new }
+        // At most one request is made, and none if the queue is enough.
         ensures asks { AsksForWord B.BITS self.old self.new }
     {
         self.read_signed_word(B::BITS, true)
@@ -371,8 +425,11 @@ impl<R: Source, E: Endianness> BitRead for BitReader<R, E> {
     fn read_const<B: Width, V: Width, F: From<Error> + Drop>(&mut self, err: F) -> Result<(), F>
         requires word { B.BITS ≤ 32 }
         requires value { (V.BITS < 2 ^ B.BITS) ⊎ (B.BITS ≡ 0) }
+        // Takes just `B::BITS` bits, and answers `err` unless their number is `V::BITS`. Or answers
+        // an error of the read, as an F.
         ensures reads { ReadsConst ⟦<Self as BitRead>⟧.source F.from_gives
             (const_entry E.order B.BITS V.BITS) err self.old result self.new }
+        // At most one request is made, and none if the queue is enough.
         ensures asks { AsksForWord B.BITS self.old self.new }
     {
         let value: u32 = self.read_unsigned::<B, u32>()?;
@@ -382,8 +439,11 @@ impl<R: Source, E: Endianness> BitRead for BitReader<R, E> {
     #[inline(always)]
     fn read_unary<S: Width>(&mut self) -> Result<u32, Error>
         requires { S.BITS < 2 }
+        // Takes just the bits up to and with the stop bit, and counts those before it, or answers
+        // an error.
         ensures reads { Reads ⟦<Self as BitRead>⟧.source (unary_entry (S.BITS == 1))
             self.old result self.new }
+        // If it succeeds, it took one turn more than it fetched bytes.
         ensures turns { TurnsByBytes self.old result self.new }
     {
         if self.failed {
@@ -399,6 +459,7 @@ impl<R: Source, E: Endianness> BitRead for BitReader<R, E> {
         self.failed = true;
         match take_unary::<R, E>(&mut self.port, &mut self.turns, queue, queued, stop) {
             Ok(Some(run)) => {
+                // The stop bit is taken, too.
                 self.taken.add(run.count as u64 + 1);
                 self.queue = run.left;
                 self.queued = run.queued;
@@ -406,6 +467,7 @@ impl<R: Source, E: Endianness> BitRead for BitReader<R, E> {
                 Ok(run.count)
             }
             Ok(None) => {
+                // Just the run is taken. The bits behind it in the last byte are lost.
                 self.taken.add(1 << 32);
                 Err(Error::RunTooLong)
             }
@@ -420,21 +482,27 @@ impl<R: Source, E: Endianness> BitRead for BitReader<R, E> {
     fn read_count<C: Count>(&mut self) -> Result<C, Error>
         requires some { 0 < C.MAX }
         requires full { IsTrue (is_full 32 C.MAX) }
+        // Takes just the bits that hold `C::MAX` and answers their count, or answers an error.
         ensures reads { Reads ⟦<Self as BitRead>⟧.source
             (count_entry E.order C.MAX) self.old (seen C.number result) self.new }
+        // At most one request is made, and none if the queue is enough.
         ensures asks { AsksForWord (count_width C.MAX) self.old self.new }
     {
         let number = self.read_unsigned_var(count_bits(C::MAX))?;
         match C::of(number) {
             Some(count) => Ok(count),
+            // `C::MAX` is 1 less than a power of two, so it is the greatest number of so many bits.
             None => unreachable!(),
         }
     }
 
     #[inline(always)]
     fn read_to<V: Primitive>(&mut self) -> Result<V, Error>
+        // Takes just `V::BYTES` bytes and answers their value in the order E, or answers an error.
         ensures reads { Reads ⟦<Self as BitRead>⟧.source (bytes_entry E.order V.BYTES) self.old
             (seen (value_bytes E.order V.be_bytes V.le_bytes) result) self.new }
+        // If it succeeds, it made one request if no bit was queued, else one for each piece of up
+        // to 8 bytes. For no bytes it made none.
         ensures asks { AsksForBytes 8 V.BYTES self.old result self.new }
     {
         self.read_as_to::<E, V>()
@@ -442,8 +510,11 @@ impl<R: Source, E: Endianness> BitRead for BitReader<R, E> {
 
     #[inline(always)]
     fn read_as_to<F: Endianness, V: Primitive>(&mut self) -> Result<V, Error>
+        // Takes just `V::BYTES` bytes and answers their value in the order F, or answers an error.
         ensures reads { Reads ⟦<Self as BitRead>⟧.source (bytes_entry E.order V.BYTES) self.old
             (seen (value_bytes F.order V.be_bytes V.le_bytes) result) self.new }
+        // If it succeeds, it made one request if no bit was queued, else one for each piece of up
+        // to 8 bytes. For no bytes it made none.
         ensures asks { AsksForBytes 8 V.BYTES self.old result self.new }
     {
         let mut bytes = V::buffer();
@@ -453,22 +524,28 @@ impl<R: Source, E: Endianness> BitRead for BitReader<R, E> {
 
     #[inline(always)]
     fn read_bytes(&mut self, buf: &mut [u8]) -> Result<(), Error>
+        // Takes just as many bytes as the buffer has into it, or answers an error.
         ensures reads { Reads ⟦<Self as BitRead>⟧.source (bytes_entry E.order (length buf.old))
             self.old (seen (λ _. buf.new) result) self.new }
+        // If it succeeds, it made one request if no bit was queued, else one for each piece of up
+        // to 1024 bytes. For no bytes it made none.
         ensures asks { AsksForBytes 1024 (length buf.old) self.old result self.new }
     {
         self.fill(buf, PIECE)
     }
 
     fn skip(&mut self, bits: u32) -> Result<(), Error> {
+        // Up to 128 bits are one word.
         if bits <= 128 {
             let _: u128 = self.read_unsigned_var(bits)?;
             return Ok(());
         }
+        // The queue goes first, so that whole bytes follow.
         let first = self.queued;
         let _: u8 = self.read_unsigned_var(first)?;
         let rest = bits - first;
         self.skip_bytes((rest / 8) as usize)?;
+        // Fewer than 8 bits are left, the first ones of one more byte.
         let _: u8 = self.read_unsigned_var(rest % 8)?;
         Ok(())
     }
@@ -478,8 +555,10 @@ impl<R: Source, E: Endianness> BitRead for BitReader<R, E> {
     }
 
     fn byte_align(&mut self)
+        // Takes the bits up to the next whole byte. A reader that has failed stays as it is.
         ensures reads { Reads ⟦<Self as BitRead>⟧.source align_entry
             self.old (Ok tt) self.new }
+        // No request is made.
         ensures requests { requests_made self.new ≡ requests_made self.old }
     {
         self.drop_queue();

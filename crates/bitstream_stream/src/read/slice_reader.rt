@@ -5,16 +5,16 @@ ghost use Rattle.bitstream_stream.specs.Reading.Reader.{new_reader_state};
 
 use crate::capped::capped;
 use crate::read::BitRead;
-use bitstream_order::order::Endianness;
 use bitstream_order::ghosts::GhostRefusals;
+use bitstream_order::order::Endianness;
 use std::marker::PhantomData;
 
 mod bytes;
+mod convert;
 mod moves;
 mod read;
 mod run;
 mod seek;
-mod convert;
 mod window;
 mod words;
 
@@ -62,7 +62,9 @@ impl<'a, E: Endianness> SliceReader<'a, E> {
 
     /// Returns a reader of these bytes, at their start.
     pub fn over(bytes: &'a [u8]) -> SliceReader<'a, E>
+        // Nothing is taken or queued yet, and the bytes left are these.
         ensures state { (memory_source E.order).state result ≡ new_reader_state (Some bytes.now) [] }
+        // These are all its bytes.
         ensures bytes { memory_bytes result ≡ bytes.now }
     {
         SliceReader {
@@ -84,7 +86,9 @@ impl<'a, E: Endianness> SliceReader<'a, E> {
 
     /// Returns how many bits were read: at most 2^64 - 1, and exactly that number if it is less.
     pub fn bits_read(&self) -> u64
+        // The answer is at most the number of bits taken.
         ensures most { result ≤ ((memory_source E.order).state self.now).taken }
+        // If that number is below 2^64, it is the answer.
         ensures exact { ((memory_source E.order).state self.now).taken < 2 ^ 64
             → result ≡ ((memory_source E.order).state self.now).taken }
     {
@@ -94,9 +98,11 @@ impl<'a, E: Endianness> SliceReader<'a, E> {
     /// Returns how many bits are left: at most 2^64 - 1, and exactly that number if it is less. Of a
     /// reader that has failed, those that were left before the call that was refused.
     pub fn bits_left(&self) -> u64
+        // Unless the reader has failed, the answer is at most the number of bits left.
         ensures most { ((memory_source E.order).state self.now).failed ≡ false
             → IfSome (bits_left E.order ((memory_source E.order).state self.now))
             (λ left. result ≤ length left) }
+        // If that number is below 2^64 and the reader has not failed, it is the answer.
         ensures exact { ((memory_source E.order).state self.now).failed ≡ false
             → IfSome (bits_left E.order ((memory_source E.order).state self.now))
             (λ left. length left < 2 ^ 64 → result ≡ length left) }

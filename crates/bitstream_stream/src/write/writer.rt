@@ -1,26 +1,25 @@
 //! A writer of bits to a stream of bytes.
 ghost use Rattle.std.specs.Prelude.{◌≡◌, ℕ, ◌+◌, ◌*◌, ◌<◌, ◌≤◌, ◌^◌, ◌⊎◌, ◌==◌, false, true, length, replicate, OnOk, Err};
 
-use crate::width::{check, check_signed};
-use crate::write::run::run_without_stop;
 use crate::piece::PIECE;
 use crate::vbr::{most_gathered, split_group};
-use crate::width::count_bits;
+use crate::width::{check, check_signed, count_bits};
 use crate::write::BitWrite;
+use crate::write::run::run_without_stop;
 use bitstream_count::count::{Count, SignedCount};
 use bitstream_count::error::Error;
 use bitstream_number::number::{Numeric, Primitive, SignedInteger, UnsignedInteger, Width};
-use bitstream_order::order::Endianness;
-use bitstream_order::port::Port;
 use bitstream_order::kernels::send::send_front;
 use bitstream_order::kernels::shift::shift;
 use bitstream_order::kernels::sign::complement;
+use bitstream_order::order::Endianness;
+use bitstream_order::port::Port;
 use bitstream_order::streams::target::Target;
 use std::marker::PhantomData;
 
+mod convert;
 mod memory;
 mod queue;
-mod convert;
 
 /// Writes bits to a stream of bytes. A byte is sent as soon as it is full, so fewer than 8 bits are
 /// queued at any time. Queued bits are lost when the writer is dropped: align it first.
@@ -81,9 +80,12 @@ impl<W: Target, E: Endianness> BitWriter<W, E> {
 
     /// Makes the writer fail, drops its queue, and answers the error of the refused request.
     fn refuse(&mut self, error: Error) -> Result<(), Error>
+        // It answers the error that it is given.
         ensures answer { result ≡ Err error }
+        // The writer has failed with an empty queue, and nothing else has changed.
         ensures fails { writer_state W.contents W.references self.new
             ≡ failed_writer (writer_state W.contents W.references self.old) }
+        // No request is made.
         ensures requests { requests_made self.new ≡ requests_made self.old }
     {
         self.queue = 0;
@@ -97,11 +99,14 @@ impl<W: Target, E: Endianness> BitWriter<W, E> {
     fn push<U: UnsignedInteger>(&mut self, value: U, n: u32) -> Result<(), Error>
         requires sound { self.old.failed ≡ false }
         requires room { n ≤ U.BITS_SIZE }
+        // Writes just the n lowest bits of the value, or a request is refused and the writer fails.
         ensures pushes { Pushes (MayRefuse W.contents W.references W.refuses) E.order (word E.order n (U.value value))
             (writer_state W.contents W.references self.old) result
             (writer_state W.contents W.references self.new) }
+        // At most one request is made, and none if no byte is filled.
         ensures asks { AsksForWord n self.old self.new }
     {
+        // No byte is full yet, so nothing is sent.
         if self.queued + n < 8 {
             let part = E::cut(value, n, 0, n);
             self.queue = E::put::<u8>(self.queue, self.queued, part, n);
@@ -110,6 +115,7 @@ impl<W: Target, E: Endianness> BitWriter<W, E> {
         }
         match send_front::<W, E, U>(&mut self.port, self.queue, self.queued, value, n) {
             Ok(gone) => {
+                // The bits that filled no byte are the new queue.
                 self.queue = E::cut(value, n, gone, n - gone);
                 self.queued = n - gone;
                 Ok(())
@@ -124,9 +130,11 @@ impl<W: Target, E: Endianness> BitWriter<W, E> {
         requires sound { self.old.failed ≡ false }
         requires none { self.old.queued ≡ 0 }
         requires some { 1 ≤ length bytes.now }
+        // Writes just these bytes, or a request is refused and the writer fails.
         ensures pushes { Pushes (MayRefuse W.contents W.references W.refuses) E.order (bits E.order bytes.now)
             (writer_state W.contents W.references self.old) result
             (writer_state W.contents W.references self.new) }
+        // Exactly one request is made, whether it is refused or not.
         ensures requests { requests_made self.new ≡ requests_made self.old + 1 }
     {
         match self.port.send(bytes) {
@@ -140,12 +148,16 @@ impl<W: Target, E: Endianness> BitWriter<W, E> {
         requires sound { self.old.failed ≡ false }
         requires queued { 1 ≤ self.old.queued }
         requires some { 1 ≤ length bytes.old }
+        // Writes just the bytes as they came, or a request is refused and the writer fails.
         ensures pushes { Pushes (MayRefuse W.contents W.references W.refuses) E.order (bits E.order bytes.old)
             (writer_state W.contents W.references self.old) result
             (writer_state W.contents W.references self.new) }
+        // If it succeeds, as many bits are queued as before.
         ensures queued { OnOk result (queued_bits self.new ≡ queued_bits self.old) }
+        // Exactly one request is made, whether it is refused or not.
         ensures requests { requests_made self.new ≡ requests_made self.old + 1 }
     {
+        // The queued bits go to the front, and as many last bits are left over.
         let left = shift::<E>(self.queue, self.queued, bytes);
         match self.port.send(bytes) {
             Ok(()) => {
@@ -163,11 +175,15 @@ impl<W: Target, E: Endianness> BitWriter<W, E> {
         requires queued { 1 ≤ self.old.queued }
         requires some { 1 ≤ N }
         requires few { N ≤ 1024 }
+        // Writes just these bytes, or a request is refused and the writer fails.
         ensures pushes { Pushes (MayRefuse W.contents W.references W.refuses) E.order (bits E.order bytes.now)
             (writer_state W.contents W.references self.old) result
             (writer_state W.contents W.references self.new) }
+        // If it succeeds, it made one request if no bit was queued, else one for each piece of up
+        // to N bytes. For no bytes it made none.
         ensures asks { AsksForBytes N (length bytes.now) self.old result self.new }
     {
+        // The caller's bytes are not ours to shift, so a copy is.
         let mut scratch = [0u8; N];
         let mut at = 0;
         while at < bytes.len() {
@@ -186,17 +202,23 @@ impl<W: Target, E: Endianness> BitWriter<W, E> {
         requires sound { self.old.failed ≡ false }
         requires some { 1 ≤ N }
         requires few { N ≤ 1024 }
+        // Writes just these bytes, or a request is refused and the writer fails.
         ensures pushes { Pushes (MayRefuse W.contents W.references W.refuses) E.order (bits E.order bytes.now)
             (writer_state W.contents W.references self.old) result
             (writer_state W.contents W.references self.new) }
+        // If it succeeds, it made one request if no bit was queued, else one for each piece of up
+        // to N bytes. For no bytes it made none.
         ensures asks { AsksForBytes N (length bytes.now) self.old result self.new }
     {
+        // Off a byte boundary the bytes have to be shifted behind the queue.
         if self.queued > 0 {
             return self.send_pieces::<N>(bytes);
         }
+        // No bytes need no request.
         if bytes.is_empty() {
             return Ok(());
         }
+        // At a byte boundary they go as they are.
         self.send_aligned(bytes)
     }
 
@@ -233,9 +255,11 @@ impl<W: Target, E: Endianness> BitWrite for BitWriter<W, E> {
         count: C,
         value: U,
     ) -> Result<(), Error>
+        // Appends just the word of the value at `count` bits, or answers an error.
         ensures writes { Writes ⟦<Self as BitWrite>⟧.sink
             (unsigned E.order U.BITS_SIZE (C.number count) (U.value value))
             self.old result self.new }
+        // At most one request is made, and none if no byte is filled.
         ensures asks { AsksForWord (C.number count) self.old self.new }
     {
         self.write_unsigned_var(count.bits(), value)
@@ -247,9 +271,11 @@ impl<W: Target, E: Endianness> BitWrite for BitWriter<W, E> {
         count: C,
         value: S,
     ) -> Result<(), Error>
+        // Appends just the two's complement of the value in `count` bits, or answers an error.
         ensures writes { Writes ⟦<Self as BitWrite>⟧.sink
             (signed E.order S.BITS_SIZE (C.number count) (S.integer value))
             self.old result self.new }
+        // At most one request is made, and none if no byte is filled.
         ensures asks { AsksForWord (C.number count) self.old self.new }
     {
         self.write_signed_var(count.bits(), value)
@@ -257,23 +283,28 @@ impl<W: Target, E: Endianness> BitWrite for BitWriter<W, E> {
 
     #[inline(always)]
     fn write_unsigned_var<U: UnsignedInteger>(&mut self, bits: u32, value: U) -> Result<(), Error>
+        // Appends just the word of the value at `bits` bits, or answers an error.
         ensures writes { Writes ⟦<Self as BitWrite>⟧.sink
             (unsigned E.order U.BITS_SIZE bits (U.value value))
             self.old result self.new }
+        // At most one request is made, and none if no byte is filled.
         ensures asks { AsksForWord bits self.old self.new }
     {
         if self.failed {
             return Err(Error::Failed);
         }
+        // Tested before anything is written, so a rejected write appends no bit.
         check(bits, value)?;
         self.push(value, bits)
     }
 
     #[inline(always)]
     fn write_unsigned<B: Width, U: UnsignedInteger>(&mut self, value: U) -> Result<(), Error>
+        // Appends just the word of the value at `B::BITS` bits, or answers an error.
         ensures writes { Writes ⟦<Self as BitWrite>⟧.sink
             (unsigned E.order U.BITS_SIZE B.BITS (U.value value))
             self.old result self.new }
+        // At most one request is made, and none if no byte is filled.
         ensures asks { AsksForWord B.BITS self.old self.new }
     {
         self.write_unsigned_var(B::BITS, value)
@@ -281,23 +312,28 @@ impl<W: Target, E: Endianness> BitWrite for BitWriter<W, E> {
 
     #[inline(always)]
     fn write_signed_var<S: SignedInteger>(&mut self, bits: u32, value: S) -> Result<(), Error>
+        // Appends just the two's complement of the value in `bits` bits, or answers an error.
         ensures writes { Writes ⟦<Self as BitWrite>⟧.sink
             (signed E.order S.BITS_SIZE bits (S.integer value))
             self.old result self.new }
+        // At most one request is made, and none if no byte is filled.
         ensures asks { AsksForWord bits self.old self.new }
     {
         if self.failed {
             return Err(Error::Failed);
         }
+        // Tested before anything is written, so a rejected write appends no bit.
         check_signed(bits, value)?;
         self.push(complement(value, bits), bits)
     }
 
     #[inline(always)]
     fn write_signed<B: Width, S: SignedInteger>(&mut self, value: S) -> Result<(), Error>
+        // Appends just the two's complement of the value in `B::BITS` bits, or answers an error.
         ensures writes { Writes ⟦<Self as BitWrite>⟧.sink
             (signed E.order S.BITS_SIZE B.BITS (S.integer value))
             self.old result self.new }
+        // At most one request is made, and none if no byte is filled.
         ensures asks { AsksForWord B.BITS self.old self.new }
     {
         self.write_signed_var(B::BITS, value)
@@ -306,8 +342,10 @@ impl<W: Target, E: Endianness> BitWrite for BitWriter<W, E> {
     fn write_const<B: Width, V: Width>(&mut self) -> Result<(), Error>
         requires word { B.BITS ≤ 32 }
         requires value { (V.BITS < 2 ^ B.BITS) ⊎ (B.BITS ≡ 0) }
+        // Appends just the word of `V::BITS` at `B::BITS` bits, or answers an error.
         ensures writes { Writes ⟦<Self as BitWrite>⟧.sink
             (plain (word E.order B.BITS V.BITS)) self.old result self.new }
+        // At most one request is made, and none if no byte is filled.
         ensures asks { AsksForWord B.BITS self.old self.new }
     {
         self.write_unsigned::<B, u32>(V::BITS)
@@ -316,17 +354,21 @@ impl<W: Target, E: Endianness> BitWrite for BitWriter<W, E> {
     #[inline(always)]
     fn write_unary<S: Width>(&mut self, value: u32) -> Result<(), Error>
         requires { S.BITS < 2 }
+        // Appends just `value` bits that are not the stop bit, and then it, or answers an error.
         ensures writes { Writes ⟦<Self as BitWrite>⟧.sink (unary_word (S.BITS == 1) value)
             self.old result self.new }
+        // For a value below 64 at most one request is made, and none if no byte is filled.
         ensures asks { value < 64 → AsksForWord (value + 1) self.old self.new }
     {
         if self.failed {
             return Err(Error::Failed);
         }
         let stop = S::BITS == 1;
+        // Long runs go in words of 64 bits, none of which is the stop bit.
         for _done in 0..value / 64 {
             self.push(run_without_stop::<u64>(stop, 64), 64)?;
         }
+        // The last ones, fewer than 64, and the stop bit are one word.
         let last = value % 64;
         self.push(
             E::put::<u64>(run_without_stop(stop, last), last, u64::from(stop), 1),
@@ -335,8 +377,10 @@ impl<W: Target, E: Endianness> BitWrite for BitWriter<W, E> {
     }
 
     fn write_count<C: Count>(&mut self, count: C) -> Result<(), Error>
+        // Appends just the count, in the bits that hold `C::MAX`, or answers an error.
         ensures writes { Writes ⟦<Self as BitWrite>⟧.sink
             (count_entry E.order C.MAX (C.number count)) self.old result self.new }
+        // At most one request is made, and none if no byte is filled.
         ensures asks { AsksForWord (count_width C.MAX) self.old self.new }
     {
         self.write_unsigned_var(count_bits(C::MAX), count.bits())
@@ -344,8 +388,10 @@ impl<W: Target, E: Endianness> BitWrite for BitWriter<W, E> {
 
     #[inline(always)]
     fn write_bit(&mut self, bit: bool) -> Result<(), Error>
+        // Appends just this bit, or answers an error.
         ensures writes { Writes ⟦<Self as BitWrite>⟧.sink (one_bit bit)
             self.old result self.new }
+        // At most one request is made, and none if no byte is filled.
         ensures asks { AsksForWord 1 self.old self.new }
     {
         if self.failed {
@@ -356,9 +402,12 @@ impl<W: Target, E: Endianness> BitWrite for BitWriter<W, E> {
 
     #[inline(always)]
     fn write_from<V: Primitive>(&mut self, value: V) -> Result<(), Error>
+        // Appends just the bytes of the value in the order E, or answers an error.
         ensures writes { Writes ⟦<Self as BitWrite>⟧.sink
             (buffer E.order (value_bytes E.order V.be_bytes V.le_bytes value))
             self.old result self.new }
+        // If it succeeds, it made one request if no bit was queued, else one for each piece of up
+        // to 8 bytes. For no bytes it made none.
         ensures asks { AsksForBytes 8 V.BYTES self.old result self.new }
     {
         self.write_as_from::<E, V>(value)
@@ -366,9 +415,12 @@ impl<W: Target, E: Endianness> BitWrite for BitWriter<W, E> {
 
     #[inline(always)]
     fn write_as_from<F: Endianness, V: Primitive>(&mut self, value: V) -> Result<(), Error>
+        // Appends just the bytes of the value in the order F, or answers an error.
         ensures writes { Writes ⟦<Self as BitWrite>⟧.sink
             (buffer E.order (value_bytes F.order V.be_bytes V.le_bytes value))
             self.old result self.new }
+        // If it succeeds, it made one request if no bit was queued, else one for each piece of up
+        // to 8 bytes. For no bytes it made none.
         ensures asks { AsksForBytes 8 V.BYTES self.old result self.new }
     {
         let bytes = F::value_to_bytes(value);
@@ -380,8 +432,11 @@ impl<W: Target, E: Endianness> BitWrite for BitWriter<W, E> {
 
     #[inline(always)]
     fn write_bytes(&mut self, bytes: &[u8]) -> Result<(), Error>
+        // Appends just these bytes, or answers an error.
         ensures writes { Writes ⟦<Self as BitWrite>⟧.sink (buffer E.order bytes.now)
             self.old result self.new }
+        // If it succeeds, it made one request if no bit was queued, else one for each piece of up
+        // to 1024 bytes. For no bytes it made none.
         ensures asks { AsksForBytes 1024 (length bytes.now) self.old result self.new }
     {
         if self.failed {
@@ -394,13 +449,16 @@ impl<W: Target, E: Endianness> BitWrite for BitWriter<W, E> {
         if self.failed {
             return Err(Error::Failed);
         }
+        // Up to 128 zeros are one word.
         if bits <= 128 {
             return self.push(0u128, bits);
         }
+        // The queue is filled up first, so that whole bytes follow.
         let first = (8 - self.queued) % 8;
         self.push(0u8, first)?;
         let rest = bits - first;
         self.push_zeros((rest / 8) as usize)?;
+        // Fewer than 8 zeros are left, which stay in the queue.
         self.push(0u8, rest % 8)
     }
 
@@ -415,6 +473,7 @@ impl<W: Target, E: Endianness> BitWrite for BitWriter<W, E> {
         if self.failed {
             return Err(Error::Failed);
         }
+        // Groups are gathered into one word, as many as U has room for.
         let most = most_gathered::<F, U>();
         let mut word = U::ZERO;
         let mut bits = 0;
@@ -423,12 +482,14 @@ impl<W: Target, E: Endianness> BitWrite for BitWriter<W, E> {
             word = E::put(word, bits, group, F::BITS);
             bits += F::BITS;
             rest = next;
+            // There may be no room for another group.
             if bits > most {
                 self.push(word, bits)?;
                 word = U::ZERO;
                 bits = 0;
             }
         }
+        // The last group joins those that are gathered, if there are any.
         if bits == 0 {
             self.push(rest, F::BITS)
         } else {

@@ -17,8 +17,10 @@ use bitstream_stream::write::BitWrite;
 /// Reads a signed number of the given number of bits, by one call.
 #[inline(always)]
 fn read_signed<S: SignedInteger, C: Count, R: BitRead>(reader: &mut R, bits: C) -> Result<S, Error>
+    // Takes just `bits` bits and answers their two's complement, or answers an error.
     ensures reads { Reads R.source (signed_entry R.source.order S.BITS_SIZE (C.number bits))
         reader.old (seen S.integer result) reader.new }
+    // A number that is answered lies from -2^(n-1) to 2^(n-1) - 1, for n bits.
     ensures fits { IfOk result (λ number. InSignedRange (C.number bits) (S.integer number)) }
 {
     reader.read_signed_var(bits.bits())
@@ -28,8 +30,10 @@ fn read_signed<S: SignedInteger, C: Count, R: BitRead>(reader: &mut R, bits: C) 
 fn read_signed_fixed<B: Width, S: SignedInteger, R: BitRead>(reader: &mut R) -> Result<S, Error>
     requires some { 1 ≤ B.BITS }
     requires within { B.BITS ≤ S.BITS_SIZE }
+    // Takes just `B::BITS` bits and answers their two's complement, or answers an error.
     ensures reads { Reads R.source (signed_entry R.source.order S.BITS_SIZE B.BITS)
         reader.old (seen S.integer result) reader.new }
+    // A number that is answered lies from -2^(n-1) to 2^(n-1) - 1, for n bits.
     ensures fits { IfOk result (λ number. InSignedRange B.BITS (S.integer number)) }
 {
     reader.read_signed::<B, S>()

@@ -19,8 +19,10 @@ fn read_number<U: UnsignedInteger, C: Count, R: BitRead>(
     reader: &mut R,
     bits: C,
 ) -> Result<U, Error>
+    // Takes just `bits` bits and answers their number, or answers an error.
     ensures reads { Reads R.source (unsigned_entry R.source.order U.BITS_SIZE (C.number bits))
         reader.old (seen U.value result) reader.new }
+    // A number that is answered is below 2^`bits`.
     ensures fits { IfOk result (λ number. U.value number < 2 ^ C.number bits) }
 {
     reader.read_unsigned_counted(bits)
@@ -29,8 +31,10 @@ fn read_number<U: UnsignedInteger, C: Count, R: BitRead>(
 /// Reads a number of `B::BITS` bits, by one call.
 fn read_number_fixed<B: Width, U: UnsignedInteger, R: BitRead>(reader: &mut R) -> Result<U, Error>
     requires { B.BITS ≤ U.BITS_SIZE }
+    // Takes just `B::BITS` bits and answers their number, or answers an error.
     ensures reads { Reads R.source (unsigned_entry R.source.order U.BITS_SIZE B.BITS)
         reader.old (seen U.value result) reader.new }
+    // A number that is answered is below 2^`B::BITS`.
     ensures fits { IfOk result (λ number. U.value number < 2 ^ B.BITS) }
 {
     reader.read_unsigned::<B, U>()

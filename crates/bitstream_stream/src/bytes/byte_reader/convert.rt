@@ -5,8 +5,8 @@ ghost use Rattle.bitstream_order.specs.Reference.{by_name};
 use super::ByteReader;
 use crate::read::BitRead;
 use crate::read::reader::BitReader;
-use bitstream_order::streams::lent::Lent;
 use bitstream_order::order::Endianness;
+use bitstream_order::streams::lent::Lent;
 use bitstream_order::streams::source::Source;
 
 impl<R: Source, E: Endianness> ByteReader<R, E> {
@@ -24,7 +24,9 @@ impl<R: Source, E: Endianness> ByteReader<R, E> {
 
     /// Lends the stream. The reader does not count what is then taken from it.
     pub fn reader(&mut self) -> &mut R
+        // What is lent is the reader's stream.
         ensures stream { result.now ≡ byte_reader_stream self.old }
+        // When the borrow ends, only the stream may have changed: it is as it was left.
         ensures* writes_back { sem 𝓛 (Lends (the_row R.row E.row) R.row self.entry result
             (byte_reader_with self.old)) }
     {
@@ -33,9 +35,11 @@ impl<R: Source, E: Endianness> ByteReader<R, E> {
 
     /// Returns a new reader of bits over the stream, in the same order.
     pub fn into_bitreader(self) -> BitReader<R, E>
+        // Nothing is taken or queued yet, and the bytes left are the stream's, if it tells them.
         ensures state { ⟦<BitReader<R, E> as BitRead>⟧.source.state result
             ≡ new_reader_state (R.remaining (byte_reader_stream self))
             (R.references (byte_reader_stream self)) }
+        // No request was made yet.
         ensures requests { requests_made result ≡ 0 }
     {
         BitReader::new(self.into_reader())
@@ -43,10 +47,13 @@ impl<R: Source, E: Endianness> ByteReader<R, E> {
 
     /// Returns a new reader of bits over the stream, in the same order.
     pub fn bitreader<'a>(&'a mut self) -> BitReader<Lent<'a, R>, E>
+        // Nothing is taken or queued yet, and the bytes left are the stream's, if it tells them.
         ensures state { ⟦<BitReader<Lent<'a, R>, E> as BitRead>⟧.source.state result
             ≡ new_reader_state (R.remaining (byte_reader_stream self.old))
             (by_name (reader_name result) ∷ R.references (byte_reader_stream self.old)) }
+        // No request was made yet.
         ensures requests { requests_made result ≡ 0 }
+        // When the new reader is dropped, only the stream may have changed: it is as it was left.
         ensures* writes_back { sem 𝓛 (follows (the_row R.row E.row) R.row self.entry.ghost_name
             (reader_name result) (byte_reader_with self.old)) }
     {

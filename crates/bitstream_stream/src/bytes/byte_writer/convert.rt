@@ -5,8 +5,8 @@ ghost use Rattle.bitstream_order.specs.Port.{new_port_state};
 
 use super::ByteWriter;
 use crate::write::writer::BitWriter;
-use bitstream_order::streams::lent::Lent;
 use bitstream_order::order::Endianness;
+use bitstream_order::streams::lent::Lent;
 use bitstream_order::streams::target::Target;
 
 impl<W: Target, E: Endianness> ByteWriter<W, E> {
@@ -24,7 +24,9 @@ impl<W: Target, E: Endianness> ByteWriter<W, E> {
 
     /// Lends the stream. The writer does not count what is then added to it.
     pub fn writer(&mut self) -> &mut W
+        // What is lent is the writer's stream.
         ensures stream { result.now ≡ byte_writer_stream self.old }
+        // When the borrow ends, only the stream may have changed: it is as it was left.
         ensures* writes_back { sem 𝓛 (Lends (the_row W.row E.row) W.row self.entry result
             (byte_writer_with self.old)) }
     {
@@ -42,10 +44,12 @@ impl<W: Target, E: Endianness> ByteWriter<W, E> {
 
     /// Returns a new writer of bits to the stream, in the same order.
     pub fn bitwriter<'a>(&'a mut self) -> BitWriter<Lent<'a, W>, E>
+        // Nothing is sent or queued yet, and the bytes held are the stream's, if it tells them.
         ensures state { writer_state ⟦<Lent<'a, W> as Target>⟧.contents
             ⟦<Lent<'a, W> as Target>⟧.references result
             ≡ new_writer_state (W.contents (byte_writer_stream self.old))
             (by_name (writer_name result) ∷ W.references (byte_writer_stream self.old)) }
+        // When the new writer is dropped, only the stream may have changed: it is as it was left.
         ensures* writes_back { sem 𝓛 (follows (the_row W.row E.row) W.row self.entry.ghost_name
             (writer_name result) (byte_writer_with self.old)) }
     {

@@ -9,8 +9,8 @@ use super::BitReader;
 use crate::bytes::byte_read::ByteRead;
 use crate::bytes::byte_reader::ByteReader;
 use crate::read::BitRead;
-use bitstream_order::streams::lent::Lent;
 use bitstream_order::order::Endianness;
+use bitstream_order::streams::lent::Lent;
 use bitstream_order::streams::source::Source;
 
 impl<R: Source, E: Endianness> BitReader<R, E> {
@@ -20,7 +20,9 @@ impl<R: Source, E: Endianness> BitReader<R, E> {
 
     /// Returns the stream. The queued bits are dropped.
     pub fn into_reader(self) -> R
+        // It is the reader's stream.
         ensures stream { result ≡ reader_stream self }
+        // The bytes left in it are those that the reader tells as left in its stream.
         ensures bytes { R.remaining result ≡ (⟦<Self as BitRead>⟧.source.state self).bytes }
     {
         self.port.into_inner()
@@ -29,9 +31,12 @@ impl<R: Source, E: Endianness> BitReader<R, E> {
     /// Lends the stream, if the reader is at a byte boundary and has not failed. The reader does
     /// not count what is then taken from the stream.
     pub fn reader(&mut self) -> Option<&mut R>
+        // Answers `Some` exactly if the reader has not failed and the bits taken are whole bytes.
         ensures there { IsSome result ↔ (((⟦<Self as BitRead>⟧.source.state self.old).failed ≡ false)
             × ((⟦<Self as BitRead>⟧.source.state self.old).taken % 8 ≡ 0)) }
+        // What is lent is the reader's stream.
         ensures stream { IfSome result (λ stream. stream.now ≡ reader_stream self.old) }
+        // When the borrow ends, only the stream may have changed: it is as it was left.
         ensures* writes_back { sem 𝓛 (LendsIf (the_row R.row E.row) R.row self.entry result
             (reader_with self.old) self.old) }
     {
@@ -46,7 +51,9 @@ impl<R: Source, E: Endianness> BitReader<R, E> {
     /// and lends the stream, even if the reader has failed. The reader does not count what is then
     /// taken from the stream.
     pub fn aligned_reader(&mut self) -> &mut R
+        // What is lent is the reader's stream.
         ensures stream { result.now ≡ reader_stream self.old }
+        // When the borrow ends, the queued bits are taken, and the stream is as it was left.
         ensures* writes_back { sem 𝓛 (Lends (the_row R.row E.row) R.row self.entry result
             (λ stream. reader_with (aligned_reader self.old) stream)) }
     {
@@ -58,12 +65,15 @@ impl<R: Source, E: Endianness> BitReader<R, E> {
     /// byte boundary and has not failed. When the new one is dropped, this one goes on with the
     /// bytes that it left. It does not count the bytes that the new one took.
     pub fn bytereader<'a>(&'a mut self) -> Option<ByteReader<Lent<'a, R>, E>>
+        // Answers `Some` exactly if the reader has not failed and the bits taken are whole bytes.
         ensures there { IsSome result ↔ (((⟦<Self as BitRead>⟧.source.state self.old).failed ≡ false)
             × ((⟦<Self as BitRead>⟧.source.state self.old).taken % 8 ≡ 0)) }
+        // The new one has taken nothing, and the bytes left are the stream's, if it tells them.
         ensures state { IfSome result (λ reader.
             ⟦<ByteReader<Lent<'a, R>, E> as ByteRead>⟧.source.state reader
             ≡ byte_reader_state (new_port_state (R.remaining (reader_stream self.old))
             (by_name (byte_reader_name reader) ∷ R.references (reader_stream self.old)))) }
+        // When the new reader is dropped, only the stream may have changed: it is as it was left.
         ensures* writes_back { sem 𝓛 (follows_if (the_row R.row E.row) R.row self.entry.ghost_name
             (name_if_some byte_reader_name result) (reader_with self.old) self.old) }
     {
@@ -72,7 +82,9 @@ impl<R: Source, E: Endianness> BitReader<R, E> {
 
     /// Returns a new reader of bytes over a stream that was lent, if one was.
     fn byte_reader_of<'a>(stream: Option<&'a mut R>) -> Option<ByteReader<Lent<'a, R>, E>>
+        // There is one exactly if a stream was lent, and it reaches the stream by that reference.
         ensures name { name_if_some byte_reader_name result ≡ ghost_name_of stream.entry }
+        // The new one has taken nothing, and the bytes left are the stream's, if it tells them.
         ensures state { IfSome stream.entry (λ lent. IfSome result (λ reader.
             ⟦<ByteReader<Lent<'a, R>, E> as ByteRead>⟧.source.state reader
             ≡ byte_reader_state (new_port_state (R.remaining lent.now)

@@ -4,12 +4,12 @@ ghost use Rattle.std.specs.declared.io.traits.SeekFrom.TheVariants.{Start, End, 
 ghost use Rattle.bitstream_order.specs.Refusal.{MayRefuseSeek};
 
 use super::BitReader;
-use crate::read::place::bit_place;
 use crate::read::BitRead;
+use crate::read::place::bit_place;
 use bitstream_count::error::Error;
+use bitstream_order::ghosts::GhostCount;
 use bitstream_order::order::Endianness;
 use bitstream_order::streams::seek::SeekSource;
-use bitstream_order::ghosts::GhostCount;
 use std::io::SeekFrom;
 
 impl<R: SeekSource, E: Endianness> BitReader<R, E> {
@@ -52,6 +52,7 @@ impl<R: SeekSource, E: Endianness> BitReader<R, E> {
             SeekFrom::Start(place) => self.go_to(place),
             SeekFrom::End(back) => self.go_back(back),
             SeekFrom::Current(on) => {
+                // The place is counted from here, so the stream is asked where it stands.
                 let place = self.ask_place(SeekFrom::Current(on))?;
                 self.go_to(place)
             }
@@ -68,8 +69,10 @@ impl<R: SeekSource, E: Endianness> BitReader<R, E> {
     ///   and the stream is as the refusal left it.
     /// - `Failed` if the reader has failed.
     pub fn position_in_bits(&mut self) -> Result<u64, Error>
+        // Asks the stream, changes nothing else and answers the place, or answers an error.
         ensures asks { AsksPlace (reader_seeker ⟦<Self as BitRead>⟧.source R.position R.bytes
             (MayRefuseSeek R.remaining R.references R.refuses_seek)) (Current (pos 0)) self.old result self.new }
+        // Unless the reader had failed, exactly one request is made.
         ensures requests { (⟦<Self as BitRead>⟧.source.state self.old).failed ≡ false →
             requests_made self.new ≡ requests_made self.old + 1 }
     {
@@ -79,8 +82,10 @@ impl<R: SeekSource, E: Endianness> BitReader<R, E> {
     /// Returns the place that `to`, a `Current`, means.
     fn ask_place(&mut self, to: SeekFrom) -> Result<u64, Error>
         requires { IsFromHere to }
+        // Asks the stream, changes nothing else and answers the place, or answers an error.
         ensures asks { AsksPlace (reader_seeker ⟦<Self as BitRead>⟧.source R.position R.bytes
             (MayRefuseSeek R.remaining R.references R.refuses_seek)) to self.old result self.new }
+        // Unless the reader had failed, exactly one request is made.
         ensures requests { self.old.failed ≡ false →
             requests_made self.new ≡ requests_made self.old + 1 }
     {
@@ -93,6 +98,7 @@ impl<R: SeekSource, E: Endianness> BitReader<R, E> {
                 None => Err(Error::Place),
             },
             Err(error) => {
+                // The queued bits are lost, so they count as taken.
                 self.drop_queue();
                 self.failed = true;
                 Err(error)
@@ -105,10 +111,12 @@ impl<R: SeekSource, E: Endianness> BitReader<R, E> {
         ensures { SeeksBits (reader_seeker ⟦<Self as BitRead>⟧.source R.position R.bytes
             (MayRefuseSeek R.remaining R.references R.refuses_seek)) (End back) self.old result self.new }
     {
+        // Where the end is, only a seek to it tells.
         let end = self.seek_bytes(SeekFrom::End(0))?;
         match bit_place(end, 0, SeekFrom::End(back)) {
             Some(place) => self.go_to(place),
             None => {
+                // The stream stands at its end by now, so the reader cannot go on where it stood.
                 self.fail();
                 Err(Error::Place)
             }
@@ -121,6 +129,7 @@ impl<R: SeekSource, E: Endianness> BitReader<R, E> {
             (MayRefuseSeek R.remaining R.references R.refuses_seek)) place (bytes_fetched self.old)
             self.old result self.new }
     {
+        // First to the byte that holds the bit, and then over the bits before it.
         let _at = self.seek_bytes(SeekFrom::Start(place / 8))?;
         let _skipped: u8 = self.read_unsigned_var((place % 8) as u32)?;
         Ok(place)
@@ -131,9 +140,11 @@ impl<R: SeekSource, E: Endianness> BitReader<R, E> {
         ensures { SeeksBytes (reader_seeker ⟦<Self as BitRead>⟧.source R.position R.bytes
             (MayRefuseSeek R.remaining R.references R.refuses_seek)) to self.old result self.new }
     {
+        // The queued bits are not those at the new place.
         self.drop_queue();
         match self.port.seek(to) {
             Ok(at) => {
+                // Fetched bytes are counted anew from here, so the bits taken are, too.
                 self.taken = GhostCount::new();
                 self.failed = false;
                 Ok(at)

@@ -7,8 +7,8 @@ ghost use Rattle.bitstream_stream.specs.Reading.Reader.{new_reader_state};
 
 use super::SliceReader;
 use bitstream_count::error::Error;
-use bitstream_order::order::Endianness;
 use bitstream_order::kernels::shift::shift;
+use bitstream_order::order::Endianness;
 
 impl<'a, E: Endianness> SliceReader<'a, E> {
     ghost use Rattle.bitstream_stream.specs.Reading.MemorySource.{memory_source};
@@ -40,12 +40,15 @@ impl<'a, E: Endianness> SliceReader<'a, E> {
     {
         let count = buf.len();
         let bytes = self.bytes;
+        // Off a byte boundary the bits lie in one byte more than the buffer has.
         if bytes.len() <= count {
             return Err(self.refuse());
         }
+        // What is left of the first byte is the queue behind which the others are shifted.
         let queued = 8 - self.bit;
         let queue = E::first(E::rest(bytes[0], self.bit), queued);
         buf.copy_from_slice(&bytes[1..count + 1]);
+        // The bits left over are not taken: the last byte is taken as far as the first one was.
         let _left = shift::<E>(queue, queued, buf);
         self.go_bytes(count);
         Ok(())
@@ -58,8 +61,10 @@ impl<'a, E: Endianness> SliceReader<'a, E> {
     ///
     /// `EndOfInput` if fewer are left: the reader has failed. `Failed` if it had failed before.
     pub fn take_bytes(&mut self, count: usize) -> Result<&'a [u8], Error>
+        // Takes just the bits up to a whole byte and then `count` bytes, or answers an error.
         ensures reads { Reads (memory_source E.order) (whole_bytes_entry count) self.old
             (seen (λ _. tt) result) self.new }
+        // If it succeeds, the bytes lent are the first `count` of those of which no bit was taken.
         ensures bytes { IfOk result (λ lent. (bytes : List ℕ)
             → ((memory_source E.order).state self.old).bytes ≡ Some bytes
             → lent.now ≡ take count bytes) }
@@ -67,6 +72,7 @@ impl<'a, E: Endianness> SliceReader<'a, E> {
         if self.failed {
             return Err(Error::Failed);
         }
+        // The bits up to a whole byte are dropped even if the bytes are refused.
         self.go_on((8 - self.bit) % 8);
         let bytes = self.bytes;
         if bytes.len() < count {
@@ -83,8 +89,11 @@ impl<'a, E: Endianness> SliceReader<'a, E> {
     ///
     /// `EndOfInput` if fewer are left: this reader has failed. `Failed` if it had failed before.
     pub fn part(&mut self, count: usize) -> Result<SliceReader<'a, E>, Error>
+        // Takes just the bits up to a whole byte and then `count` bytes, or answers an error.
         ensures reads { Reads (memory_source E.order) (whole_bytes_entry count) self.old
             (seen (λ _. tt) result) self.new }
+        // If it succeeds, it is a new reader of the first `count` of those of which no bit was
+        // taken.
         ensures part { IfOk result (λ part. (bytes : List ℕ)
             → ((memory_source E.order).state self.old).bytes ≡ Some bytes
             → (memory_source E.order).state part ≡ new_reader_state (Some (take count bytes)) []) }

@@ -6,8 +6,8 @@ ghost use Rattle.bitstream_stream.specs.Reading.Memory.{end_of};
 
 use super::SliceReader;
 use bitstream_count::error::Error;
-use bitstream_order::order::Endianness;
 use bitstream_order::ghosts::GhostRefusals;
+use bitstream_order::order::Endianness;
 
 /// Records a refusal at the end of some bytes. It does nothing at run time.
 fn note_end(refusals: &mut GhostRefusals, _left: &[u8])
@@ -33,11 +33,14 @@ impl<'a, E: Endianness> SliceReader<'a, E> {
     /// Fails at the end.
     #[inline(never)]
     pub(super) fn refuse(&mut self) -> Error
+        // The answer is `EndOfInput`.
         ensures error { result ≡ EndOfInput }
+        // The reader has failed at its place, and the refusal at the end of its bytes is recorded.
         ensures state { FailsAtEnd self.old self.new }
     {
         self.failed = true;
         let bytes = self.bytes;
+        // A byte of which bits are taken counts as fetched, so it is not left.
         if self.bit > 0 {
             note_end(&mut self.refusals, &bytes[1..]);
         } else {

@@ -79,6 +79,7 @@ impl<'a, E: Endianness> BitRead for SliceReader<'a, E> {
         ensures { Reads ⟦<Self as BitRead>⟧.source (unary_entry (S.BITS == 1)) self.old result self.new }
     {
         let stop = S::BITS == 1;
+        // Mostly the stop bit is in the next eight bytes.
         if !self.failed && self.bytes.len() >= 8 {
             let run = run_in_window::<E>(self.bytes, self.bit, stop);
             if run + self.bit < 64 {
@@ -86,6 +87,7 @@ impl<'a, E: Endianness> BitRead for SliceReader<'a, E> {
                 return Ok(run);
             }
         }
+        // Else the run is long, or near the end.
         self.read_run(stop)
     }
 
@@ -105,6 +107,7 @@ impl<'a, E: Endianness> BitRead for SliceReader<'a, E> {
         if self.failed {
             return Err(Error::Failed);
         }
+        // Counted from the first byte left, as `bit` is.
         let total = self.bit as u64 + bits as u64;
         let bytes = self.bytes;
         if (total + 7) / 8 > bytes.len() as u64 {
@@ -119,6 +122,7 @@ impl<'a, E: Endianness> BitRead for SliceReader<'a, E> {
     }
 
     fn byte_align(&mut self) {
+        // A reader that has failed keeps its place.
         if !self.failed {
             self.go_on((8 - self.bit) % 8);
         }

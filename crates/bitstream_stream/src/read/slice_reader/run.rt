@@ -17,7 +17,9 @@ use bitstream_order::order::Endianness;
 pub(super) fn run_in_window<E: Endianness>(bytes: &[u8], bit: u32, stop: bool) -> u32
     requires few { bit < 8 }
     requires eight { 8 ≤ length bytes.now }
+    // The answer is at most 64.
     ensures most { result ≤ 64 }
+    // If `bit` and the answer make less than 64, so many bits come before the stop bit.
     ensures run { result + bit < 64 → result ≡ lead stop (rest_bits E.order bytes.now bit) }
 {
     E::lead_behind(eight::<E>(bytes), bit, stop)
@@ -31,12 +33,14 @@ fn run_from<E: Endianness>(bytes: &[u8], first: u32, stop: bool) -> u128
     let mut at = 0;
     while at < bytes.len() {
         let lead = E::run_length(bytes[at], stop);
+        // The stop bit is in this byte.
         if lead < 8 {
             return count + lead as u128;
         }
         count += 8;
         at += 1;
     }
+    // There is no stop bit, so all bits count.
     count
 }
 
@@ -49,6 +53,7 @@ pub(super) fn run_length<E: Endianness>(bytes: &[u8], bit: u32, stop: bool) -> u
     if bit == 0 {
         return run_from::<E>(bytes, 0, stop);
     }
+    // The bits behind the rest of the first byte mean nothing, so a stop bit there is none.
     let lead = E::run_length(E::rest(bytes[0], bit), stop);
     if lead < 8 - bit {
         return lead as u128;
@@ -69,11 +74,13 @@ impl<'a, E: Endianness> SliceReader<'a, E> {
         }
         let run = run_length::<E>(self.bytes, self.bit, stop);
         let most = 8 * self.bytes.len() as u128 - self.bit as u128;
+        // Just 2^32 bits are taken, as by every reader.
         if run > u32::MAX as u128 {
             self.go_to(self.bit as u64 + 4294967296);
             self.failed = true;
             return Err(Error::RunTooLong);
         }
+        // All bits left are in the run: there is no stop bit.
         if run >= most {
             return Err(self.refuse());
         }

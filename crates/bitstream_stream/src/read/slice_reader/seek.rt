@@ -64,10 +64,13 @@ impl<'a, E: Endianness> SliceReader<'a, E> {
     /// - `Place` if the place is above 2^64 - 1.
     /// - `Failed` if the reader has failed. [`bits_read`](SliceReader::bits_read) still tells its place.
     pub fn position_in_bits(&self) -> Result<u64, Error>
+        // If the reader has failed, `Failed` is answered.
         ensures failed { ((memory_source E.order).state self.now).failed ≡ true → result ≡ Err Failed }
+        // Else the number of bits taken is answered, if it is below 2^64.
         ensures place { ((memory_source E.order).state self.now).failed ≡ false
             → ((memory_source E.order).state self.now).taken < 2 ^ 64
             → result ≡ Ok ((memory_source E.order).state self.now).taken }
+        // Else `Place` is answered, if that number is 2^64 or more.
         ensures above { ((memory_source E.order).state self.now).failed ≡ false
             → 2 ^ 64 ≤ ((memory_source E.order).state self.now).taken → result ≡ Err Place }
     {

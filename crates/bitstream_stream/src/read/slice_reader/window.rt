@@ -78,22 +78,27 @@ fn exact<E: Endianness>(bytes: &[u8], need: u32) -> u64
 #[inline(always)]
 pub(super) fn fetch<E: Endianness>(bytes: &[u8], total: u32, constant: bool) -> Option<u64>
     requires { total ≤ 64 }
+    // If a number is answered, its word begins with the first `total` bits, and there are so many.
     ensures some { IfSome result (λ w. (total ≤ 8 * length bytes.now)
         × (take total (word E.order 64 w) ≡ take total (bits E.order bytes.now))) }
+    // If `None` is answered, there are fewer than `total` bits.
     ensures none { result ≡ None → 8 * length bytes.now < total }
 {
     let need = (total + 7) / 8;
+    // Just the bytes needed, so that the tests of several constant widths are compiled to one.
     if constant {
         if bytes.len() < need as usize {
             return None;
         }
         return Some(exact::<E>(bytes, need));
     }
+    // One load serves any width.
     if bytes.len() >= 8 {
         return Some(eight::<E>(bytes));
     }
     if bytes.len() < need as usize {
         return None;
     }
+    // Near the end the bytes are padded.
     Some(padded::<E>(bytes))
 }

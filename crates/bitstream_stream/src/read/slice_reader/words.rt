@@ -8,8 +8,8 @@ use super::SliceReader;
 use super::window::{fetch, first, load};
 use bitstream_count::error::Error;
 use bitstream_number::number::{Numeric, SignedInteger, UnsignedInteger};
-use bitstream_order::order::Endianness;
 use bitstream_order::kernels::sign::signed_of;
+use bitstream_order::order::Endianness;
 
 impl<'a, E: Endianness> SliceReader<'a, E> {
     ghost use Rattle.bitstream_stream.specs.Reading.MemorySource.{memory_source};
@@ -35,6 +35,7 @@ impl<'a, E: Endianness> SliceReader<'a, E> {
         requires enough { self.old.bit + bits ≤ 8 * length self.old.bytes.now }
         ensures { TakesNumber E.order bits (U.value result) self.old self.new }
     {
+        // Two words or three, of 56 bits at most.
         let first = U::from_u64(self.take_few(56));
         let more = bits - 56;
         if more <= 56 {
@@ -88,9 +89,11 @@ impl<'a, E: Endianness> SliceReader<'a, E> {
         if self.failed {
             return Err(Error::Failed);
         }
+        // Tested before anything is taken, so a rejected read takes no bit.
         if bits > U::BITS_SIZE {
             return Err(Error::ReadBits);
         }
+        // Eight bytes have 56 bits, wherever in the first one these begin.
         if bits > 56 {
             return self.read_slow(bits);
         }
@@ -137,6 +140,7 @@ impl<'a, E: Endianness> SliceReader<'a, E> {
         if bits == 0 {
             return Err(Error::NoSignBit);
         }
+        // The same bits as an unsigned number: its type has the same size.
         let word: S::Unsigned = self.read_word(bits, constant)?;
         Ok(signed_of(word, bits))
     }

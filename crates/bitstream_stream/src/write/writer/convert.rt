@@ -9,8 +9,8 @@ use super::BitWriter;
 use crate::bytes::byte_writer::ByteWriter;
 use crate::write::BitWrite;
 use bitstream_count::error::Error;
-use bitstream_order::streams::lent::Lent;
 use bitstream_order::order::Endianness;
+use bitstream_order::streams::lent::Lent;
 use bitstream_order::streams::target::Target;
 
 impl<W: Target, E: Endianness> BitWriter<W, E> {
@@ -30,9 +30,12 @@ impl<W: Target, E: Endianness> BitWriter<W, E> {
     /// Lends the stream, if the writer is at a byte boundary and has not failed. The writer does
     /// not count what is then added to the stream.
     pub fn writer(&mut self) -> Option<&mut W>
+        // Answers `Some` exactly if the writer has not failed and the bits written are whole bytes.
         ensures there { IsSome result ↔ (((⟦<Self as BitWrite>⟧.sink.failed self.old) ≡ false)
             × (⟦<Self as BitWrite>⟧.sink.len self.old % 8 ≡ 0)) }
+        // What is lent is the writer's stream.
         ensures stream { IfSome result (λ stream. stream.now ≡ writer_stream self.old) }
+        // When the borrow ends, only the stream may have changed: it is as it was left.
         ensures* writes_back { sem 𝓛 (LendsIf (the_row W.row E.row) W.row self.entry result
             (writer_with self.old) self.old) }
     {
@@ -50,8 +53,11 @@ impl<W: Target, E: Endianness> BitWriter<W, E> {
     ///
     /// As [`byte_align`](BitWrite::byte_align).
     pub fn aligned_writer(&mut self) -> Result<&mut W, Error>
+        // If it succeeds, what is lent is the stream of the writer behind an alignment.
         ensures stream { IfOk result
             (λ stream. IsAlignedStream ⟦<Self as BitWrite>⟧.sink self.old stream.now) }
+        // When the borrow ends, the writer is aligned and its stream is as it was left. After an
+        // error it is as the alignment left it.
         ensures* writes_back { sem 𝓛 (LendsSoOk (the_row W.row E.row) W.row self.entry result
             (EndsAligned ⟦<Self as BitWrite>⟧.sink self.old)
             (EndsUnaligned ⟦<Self as BitWrite>⟧.sink self.old result)) }
@@ -63,13 +69,16 @@ impl<W: Target, E: Endianness> BitWriter<W, E> {
     /// Returns a new writer of bytes to the stream, in the same order, if this writer is at a byte
     /// boundary and has not failed. This one does not count what the new one writes.
     pub fn bytewriter<'a>(&'a mut self) -> Option<ByteWriter<Lent<'a, W>, E>>
+        // Answers `Some` exactly if the writer has not failed and the bits written are whole bytes.
         ensures there { IsSome result ↔ (((⟦<Self as BitWrite>⟧.sink.failed self.old) ≡ false)
             × (⟦<Self as BitWrite>⟧.sink.len self.old % 8 ≡ 0)) }
+        // The new one has sent nothing, and the bytes held are the stream's, if it tells them.
         ensures state { IfSome result (λ writer.
             byte_writer_state ⟦<Lent<'a, W> as Target>⟧.contents
             ⟦<Lent<'a, W> as Target>⟧.references writer
             ≡ new_port_state (W.contents (writer_stream self.old))
             (by_name (byte_writer_name writer) ∷ W.references (writer_stream self.old))) }
+        // When the new writer is dropped, only the stream may have changed: it is as it was left.
         ensures* writes_back { sem 𝓛 (follows_if (the_row W.row E.row) W.row self.entry.ghost_name
             (name_if_some byte_writer_name result) (writer_with self.old) self.old) }
     {
@@ -78,7 +87,9 @@ impl<W: Target, E: Endianness> BitWriter<W, E> {
 
     /// Returns a new writer of bytes to a stream that was lent, if one was.
     fn byte_writer_of<'a>(stream: Option<&'a mut W>) -> Option<ByteWriter<Lent<'a, W>, E>>
+        // There is one exactly if a stream was lent, and it reaches the stream by that reference.
         ensures name { name_if_some byte_writer_name result ≡ ghost_name_of stream.entry }
+        // The new one has sent nothing, and the bytes held are the stream's, if it tells them.
         ensures state { IfSome stream.entry (λ lent. IfSome result (λ writer.
             byte_writer_state ⟦<Lent<'a, W> as Target>⟧.contents
             ⟦<Lent<'a, W> as Target>⟧.references writer
@@ -107,9 +118,12 @@ impl<W: Target, E: Endianness> BitWriter<W, E> {
     /// As of the calls of [`BitWrite`]: if the stream refuses, the writer has failed, and its
     /// queued bits are lost.
     pub fn flush(&mut self) -> Result<(), Error>
+        // One request is made, and no bit is sent or lost. Or it is refused and the writer fails,
+        // or the writer had failed.
         ensures flushes { Flushes (MayRefuse W.contents W.references W.refuses)
             (writer_state W.contents W.references self.old) result
             (writer_state W.contents W.references self.new) }
+        // If it succeeds, the stream did what it says that a flush does.
         ensures flushed { OnOk result (W.flushes (writer_stream self.old) (writer_stream self.new)) }
     {
         if self.failed {

@@ -21,8 +21,10 @@ impl<'a, E: Endianness> BitWriter<SliceMut<'a>, E> {
     /// Returns how many bits were written, those of the last, unfinished byte among them: at most
     /// 2^64 - 1, and exactly that number if it is less. A writer that has failed has lost those.
     pub fn bits_written(&self) -> u64
+        // The answer is at most the number of bits in the bytes written and in the queue.
         ensures most { result
             ≤ 8 * length (written_bytes (writer_stream self.now)) + queued_bits self.now }
+        // If that number is below 2^64, it is the answer.
         ensures exact { 8 * length (written_bytes (writer_stream self.now)) + queued_bits self.now < 2 ^ 64
             → result ≡ 8 * length (written_bytes (writer_stream self.now)) + queued_bits self.now }
     {

@@ -2,8 +2,8 @@
 ghost use Rattle.std.specs.Prelude.{◌≡◌, ◌<◌, ◌^◌, [], Some};
 
 use super::BitWriter;
-use bitstream_order::streams::growing::Growing;
 use bitstream_order::order::Endianness;
+use bitstream_order::streams::growing::Growing;
 use bitstream_order::streams::target::Target;
 use std::alloc::Allocator;
 
@@ -20,7 +20,9 @@ impl<W: Target, E: Endianness> BitWriter<W, E> {
 
     /// Returns how many bits wait in the writer.
     pub fn queued(&self) -> u32
+        // The answer is the number of bits that are queued.
         ensures bits { result ≡ queued_bits self.now }
+        // It is below 8.
         ensures few { result < 8 }
     {
         self.queued
@@ -28,7 +30,9 @@ impl<W: Target, E: Endianness> BitWriter<W, E> {
 
     /// Returns the number of the bits that wait in the writer.
     pub fn queue(&self) -> u8
+        // The answer is the number of the queued bits.
         ensures number { result ≡ queue_number self.now }
+        // It is below 2^n if n bits are queued.
         ensures small { result < 2 ^ queued_bits self.now }
     {
         self.queue
@@ -52,6 +56,7 @@ impl<A: Allocator, E: Endianness> BitWriter<Growing<A>, E> {
         ensures { writer_state growing_contents (λ _. []) self.new
             ≡ new_writer_state (Some []) [] }
     {
+        // The counts and the refusals of before are forgotten, too.
         self.port.restart();
         self.port.lend().clear();
         self.queue = 0;

@@ -84,7 +84,9 @@ impl<S: Copy + Eq, A: Allocator> HuffmanTree<S, A> {
     /// the two then, so what a write searches in all grows as the number of nodes does.
     fn leaf_on_zero_side(&self, zero: usize, one: usize, leaf: usize, symbol: S) -> Option<usize>
         requires { zero < length (nodes_of self.now) }
+        // If the side of 0 stands first, `leaf` is answered if it stands up to `zero`, else `None`.
         ensures inside { zero < one → result ≡ (if nat_le leaf zero then Some leaf else None) }
+        // If it stands behind the other, its first leaf with the symbol is answered, if it has one.
         ensures looked { one ≤ zero
             → FindsFirst S.eq symbol (nodes_of self.now) (one + 1) (zero + 1) result }
     {
