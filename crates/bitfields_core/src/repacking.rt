@@ -7,11 +7,11 @@ ghost use Rattle.bitfields_core.specs.Layout.{IsLayout};
 ghost use Rattle.bitfields_core.specs.Repacking.{Ends, IsRepacked, ReadsPackedBytes, Repacks};
 ghost use Rattle.bitfields_core.specs.Value.{Fit};
 
-use crate::strict_reading::read_packed_from;
 use crate::fault::{Fault, Reason};
 use crate::field_value::FieldValue;
 use crate::layout::Layout;
 use crate::packing::pack_values;
+use crate::strict_reading::read_packed_from;
 use bitstream_io::{BitReader, Endianness, Lent, Source, Target};
 use std::alloc::Global;
 use std::io::ErrorKind;

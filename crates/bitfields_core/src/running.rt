@@ -141,7 +141,9 @@ fn with_layout<R: Input, W: Target>(
     let layout = parse_layout(alloc, text)?;
     match order {
         NamedOrder::Big => dispatch::<BigEndian, R, W>(alloc, command, &layout, input, output),
-        NamedOrder::Little => dispatch::<LittleEndian, R, W>(alloc, command, &layout, input, output),
+        NamedOrder::Little => dispatch::<LittleEndian, R, W>(
+            alloc, command, &layout, input, output,
+        ),
     }
 }
 

@@ -261,15 +261,6 @@ fn example_of_byte_writer(rt: HostRuntime) {
 }
 
 #[test]
-fn example_of_bit_place(rt: HostRuntime) {
-    use bitstream_io::read::bit_place;
-    use std::io::SeekFrom;
-
-    same(&rt, bit_place(4, 0, SeekFrom::End(7)), Some(25));
-    same(&rt, bit_place(4, 3, SeekFrom::Current(-30)), None);
-}
-
-#[test]
 fn example_of_bit_read(rt: HostRuntime) {
     use bitstream_io::{BE, BitCount, BitRead, BitReader, Bits, Error};
 
@@ -293,6 +284,15 @@ fn example_of_bit_read(rt: HostRuntime) {
     reader.byte_align();
     holds(&rt, matches!(reader.read_bit(), Err(Error::EndOfInput)));
     holds(&rt, matches!(reader.read_bit(), Err(Error::Failed)));
+}
+
+#[test]
+fn example_of_bit_place(rt: HostRuntime) {
+    use bitstream_io::read::bit_place;
+    use std::io::SeekFrom;
+
+    same(&rt, bit_place(4, 0, SeekFrom::End(7)), Some(25));
+    same(&rt, bit_place(4, 3, SeekFrom::Current(-30)), None);
 }
 
 #[test]
