@@ -1,11 +1,11 @@
-//! Layouts of bit fields, and what they mean: packs decimal values into bit fields, counts their
-//! bits, unpacks bit fields into decimal values, and repacks them.
+//! Layouts of bit fields, and what they mean: packs decimal values into bit fields, counts their bits,
+//! unpacks bit fields into decimal values, and repacks them.
 //!
-//! [`parse_layout`] gives the [`Layout`] that a text spells. [`pack`], [`unpack`],
-//! [`size`] and [`repack`] do what a layout means, in either order of bits.
-//! [`run`] is a whole call of the program `bitfields`, over its words and its streams, and
-//! [`report`] prints why a call failed, which is a [`Fault`]. The [`laws`] are those of
-//! layouts and values, whatever parses or packs them.
+//! [`parse_layout`] gives the [`Layout`] that a text spells. [`pack`], [`unpack`], [`size`] and
+//! [`repack`] do what a layout means, in either order of bits. [`run`] is a whole call of the program,
+//! over its words and its streams, and [`report`] prints why a call failed, which is a [`Fault`].
+//!
+//! - [`laws`]: laws of layouts and values, whatever parses or packs them
 #![tactic(auto)]
 
 mod decimal;

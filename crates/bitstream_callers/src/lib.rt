@@ -1,7 +1,31 @@
-//! Small callers of `bitstream_io`: a reader of a FLAC block, a packer of telemetry, a protocol's header
-//! both ways, types that say themselves how they are read and written, numbers that are computed, a
-//! header with a syncword, samples in a loop, and a prefix code. `CALLING.md` goes through them. Some are
-//! printed from the descriptions in `formats/`.
+//! Small callers of `bitstream_io`: parsers and packers, types that say themselves how they are read
+//! and written, and formats that `./format` printed from the descriptions in `formats/`. The guide in
+//! `docs/GUIDE` shows most of them.
+//!
+//! - [`adts`]: the header of an ADTS frame of AAC
+//! - [`appending`]: a header that is written behind what a sink holds, and how long it is
+//! - [`block_header`]: the header of a block of a FLAC file
+//! - [`flac_comment`]: a FLAC file's comment, read from bits, with its texts as strings
+//! - [`golomb`]: exponential Golomb numbers, as H.264 and H.265 have them
+//! - [`header`]: what stands before a packet's bytes
+//! - [`packet_header`]: a type that says how it is read and written: the header of a packet of whole
+//!   bytes
+//! - [`padded_port`]: a type that goes as whole bytes, with padding behind it
+//! - [`parameter_set`]: a type that owns memory: a parameter set with a counted list of parts
+//! - [`picture`]: types that own memory, read and written: the picture of a FLAC file
+//! - [`plain`]: parsers without contracts
+//! - [`primary_header`]: the primary header of a CCSDS space packet
+//! - [`reading`]: a sensor's reading, in a width that its context says
+//! - [`sample`]: what a vehicle's telemetry measured at one time
+//! - [`samples`]: samples of 12 bits, in a vector
+//! - [`sensor`]: a measurement: a unary number, numbers of variable width, and a prefix code
+//! - [`sps`]: the beginning of a sequence parameter set of H.264, with errors of its own
+//! - [`stream_info`]: what a FLAC file says of its samples, without the checksum
+//! - [`stream_info_block`]: a whole STREAMINFO block of a FLAC file
+//! - [`tcp_options`]: the options of a TCP header, by a parser that holds its reader beside what it
+//!   fills
+//! - [`telemetry`]: samples of telemetry in a vector, and behind their length
+//! - [`vorbis_comment`]: types that own memory, read from whole bytes: a FLAC file's comment
 #![tactic(auto)]
 
 pub mod adts;

@@ -1,4 +1,9 @@
-//! Errors, counts of bits, and values that are known to fit a count.
+//! Errors, counts of bits, and values that are known to fit a count. What callers need of it stands in
+//! `bitstream_io`.
+//!
+//! - [`count`]: counts of bits, and values that are known to fit one
+//! - [`error`]: the error of a call
+//! - [`laws`]: laws of counts, and of unary and variable-width words
 //!
 //! Ported from `bitstream-io` 4.10.0 by Brian Langenberger; MIT OR Apache-2.0, see `LICENSE`.
 #![tactic(auto)]

@@ -2,7 +2,21 @@
 //!
 //! Ported from `bitstream-io` 4.10.0 by Brian Langenberger; MIT OR Apache-2.0, see `LICENSE`.
 //!
-//! The items stand in modules by subject. Most stand here too.
+//! The items stand in modules by subject. Most stand here too:
+//!
+//! - [`compat`]: the calls of today by their older names
+//! - [`script`]: lists of calls as values, which are made one after another
+//! - [`error`]: the error of a call
+//! - [`number`]: integer types as numbers, and numbers of bits as types
+//! - [`count`]: counts of bits, and values that are known to fit one
+//! - [`integer`]: types whose values are read and written as bits
+//! - [`huffman`]: prefix codes
+//! - [`order`]: the two orders of bits
+//! - [`read`]: reading bits: the readers, their calls, what they read from, and types that are read
+//! - [`write`]: writing bits: the writer, counters and recorders, their calls, what is written to, and
+//!   types that are written
+//! - [`bytes`]: reading and writing whole bytes
+//! - [`laws`]: laws of the definitions: one function each, whose contract is the law
 //!
 //! # Examples
 //!

@@ -1,4 +1,12 @@
-//! Orders of bits, streams with counts of their requests, and the kernels that move words.
+//! Orders of bits, streams with counts of their requests, and the kernels that move words. What callers
+//! need of it stands in `bitstream_io`.
+//!
+//! - [`ghosts`]: what only contracts see: a count, and the refusals of a stream
+//! - [`kernels`]: what moves words: gathers them from a stream, sends, shifts, counts and copies them
+//! - [`order`]: the two orders of bits
+//! - [`port`]: the one holder of a stream, which counts its requests for contracts
+//! - [`streams`]: what bytes are read from and written to: the traits of streams, bytes in memory, a
+//!   vector that grows, and a stream that is lent
 //!
 //! Ported from `bitstream-io` 4.10.0 by Brian Langenberger; MIT OR Apache-2.0, see `LICENSE`.
 #![tactic(auto)]

@@ -1,4 +1,18 @@
-//! Values of any type that is read and written as bits.
+//! Values of any type that is read and written as bits or bytes: integers, checked values, symbols of
+//! prefix codes, and types of a user's own. What callers need of it stands in `bitstream_io`.
+//!
+//! - [`build`]: types whose values are written as bits
+//! - [`byte_build`]: types whose values are written as bytes
+//! - [`byte_parse`]: types whose values are read from bytes
+//! - [`byte_read`]: calls that read values of users' types from bytes
+//! - [`byte_write`]: calls that write values of users' types as bytes
+//! - [`checked`]: checked values, read and written
+//! - [`huffman`]: prefix codes: each symbol is a word of bits, and no word is the beginning of another
+//! - [`integer`]: integers, `bool`, `NonZero` types and arrays as bits
+//! - [`laws`]: laws of prefix codes, and of the lengths of users' types
+//! - [`parse`]: types whose values are read from bits
+//! - [`read`]: calls that read values of any type
+//! - [`write`]: calls that write values of any type
 //!
 //! Ported from `bitstream-io` 4.10.0 by Brian Langenberger; MIT OR Apache-2.0, see `LICENSE`.
 #![tactic(auto)]

@@ -10,8 +10,10 @@ use bitstream_io::{BitRead, BitReadExt, Bits};
 ///
 /// # Errors
 ///
-/// `NotCoded` for a first byte 0b10.. or 0xff, and for a later byte that does not begin with 0b10.
-/// `LongCoded` for a number that fewer bytes code. Those of the reader. What shows the error is read.
+/// `NotCoded` for a first byte 0b10.., for a later byte that does not begin with 0b10, and for a run of
+/// more than 7 ones: the run is read up to its 0, also behind the first byte, so a first byte 0xff
+/// answers `EndOfInput` if no 0 comes. `LongCoded` for a number that fewer bytes code. Those of the
+/// reader. What shows the error is read.
 pub fn read_coded<R: BitRead>(reader: &mut R) -> Result<u64, FlacError>
     ensures { ReadsOwn R.source becomes_flac (coded_entry R.source.order) reader.old result reader.new }
 {

@@ -22,7 +22,12 @@ mod memory;
 mod queue;
 
 /// Writes bits to a stream of bytes. A byte is sent as soon as it is full, so fewer than 8 bits are
-/// queued at any time. Queued bits are lost when the writer is dropped: align it first.
+/// queued at any time.
+///
+/// # Warning
+///
+/// The bits behind the last whole byte are lost when the writer is dropped: call
+/// [`byte_align`](BitWrite::byte_align) first.
 ///
 /// # Examples
 ///

@@ -45,7 +45,13 @@ impl<R: Source, E: Endianness> ByteReader<R, E> {
         BitReader::new(self.into_reader())
     }
 
-    /// Returns a new reader of bits over the stream, in the same order.
+    /// Returns a new reader of bits over the stream, in the same order. When it is dropped, this one
+    /// goes on with the bytes that it left.
+    ///
+    /// # Warning
+    ///
+    /// The bits left of a byte that the new reader began are lost when it is dropped: read them first,
+    /// or pass over them by [`byte_align`](BitRead::byte_align).
     pub fn bitreader<'a>(&'a mut self) -> BitReader<Lent<'a, R>, E>
         // Nothing is taken or queued yet, and the bytes left are the stream's, if it tells them.
         ensures state { ⟦<BitReader<Lent<'a, R>, E> as BitRead>⟧.source.state result

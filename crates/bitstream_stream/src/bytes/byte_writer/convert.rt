@@ -43,6 +43,11 @@ impl<W: Target, E: Endianness> ByteWriter<W, E> {
     }
 
     /// Returns a new writer of bits to the stream, in the same order.
+    ///
+    /// # Warning
+    ///
+    /// The bits behind its last whole byte are lost when the new writer is dropped: call
+    /// [`byte_align`](crate::write::BitWrite::byte_align) first.
     pub fn bitwriter<'a>(&'a mut self) -> BitWriter<Lent<'a, W>, E>
         // Nothing is sent or queued yet, and the bytes held are the stream's, if it tells them.
         ensures state { writer_state ⟦<Lent<'a, W> as Target>⟧.contents

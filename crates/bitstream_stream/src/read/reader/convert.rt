@@ -18,7 +18,12 @@ impl<R: Source, E: Endianness> BitReader<R, E> {
     ghost use Rattle.bitstream_stream.specs.Ways.{reader_stream, reader_with, aligned_reader, byte_reader_name};
     ghost use Rattle.bitstream_stream.specs.contracts.read.reader.BitReader.{the_row};
 
-    /// Returns the stream. The queued bits are dropped.
+    /// Returns the stream.
+    ///
+    /// # Warning
+    ///
+    /// The bits left of a byte that was begun are lost, since the stream has given the whole byte: read
+    /// them first, or pass over them by [`byte_align`](BitRead::byte_align).
     pub fn into_reader(self) -> R
         // It is the reader's stream.
         ensures stream { result ≡ reader_stream self }
@@ -62,8 +67,9 @@ impl<R: Source, E: Endianness> BitReader<R, E> {
     }
 
     /// Returns a new reader of bytes over the stream, in the same order, if this reader is at a
-    /// byte boundary and has not failed. When the new one is dropped, this one goes on with the
-    /// bytes that it left. It does not count the bytes that the new one took.
+    /// byte boundary and has not failed: so no bit is lost. To pass over the bits up to a boundary call
+    /// [`byte_align`](BitRead::byte_align) first. When the new one is dropped, this one goes on with
+    /// the bytes that it left. It does not count the bytes that the new one took.
     pub fn bytereader<'a>(&'a mut self) -> Option<ByteReader<Lent<'a, R>, E>>
         // Answers `Some` exactly if the reader has not failed and the bits taken are whole bytes.
         ensures there { IsSome result ↔ (((⟦<Self as BitRead>⟧.source.state self.old).failed ≡ false)
@@ -96,8 +102,12 @@ impl<R: Source, E: Endianness> BitReader<R, E> {
         }
     }
 
-    /// Returns a new reader of bytes over the stream, in the same order. The queued bits are
-    /// dropped.
+    /// Returns a new reader of bytes over the stream, in the same order.
+    ///
+    /// # Warning
+    ///
+    /// The bits left of a byte that was begun are lost, since the stream has given the whole byte: read
+    /// them first, or pass over them by [`byte_align`](BitRead::byte_align).
     pub fn into_bytereader(self) -> ByteReader<R, E>
         ensures { ⟦<ByteReader<R, E> as ByteRead>⟧.source.state result
             ≡ byte_reader_state (new_port_state (R.remaining (reader_stream self))

@@ -13,6 +13,11 @@ impl<'a, E: Endianness> SliceReader<'a, E> {
     ghost use Rattle.bitstream_stream.specs.Reading.MemorySource.{memory_source};
 
     /// Returns a new reader of the bytes of which no bit is taken, in the same order.
+    ///
+    /// # Warning
+    ///
+    /// The bits left of a byte that was begun are lost: read them first, or pass over them by
+    /// [`byte_align`](crate::read::BitRead::byte_align).
     pub fn into_bytereader(self) -> ByteReader<Slice<'a>, E>
         ensures { ⟦<ByteReader<Slice<'a>, E> as ByteRead>⟧.source.state result
             ≡ byte_reader_state (new_port_state ((memory_source E.order).state self.entry).bytes []) }

@@ -20,7 +20,11 @@ impl<W: Target, E: Endianness> BitWriter<W, E> {
     ghost use Rattle.bitstream_stream.specs.Ways.{writer_stream, writer_with, byte_writer_name, IsAlignedStream, EndsAligned, EndsUnaligned, Flushes};
     ghost use Rattle.bitstream_stream.specs.contracts.write.writer.BitWriter.{the_row};
 
-    /// Returns the stream. The queued bits are dropped.
+    /// Returns the stream.
+    ///
+    /// # Warning
+    ///
+    /// The bits behind the last whole byte are lost: call [`byte_align`](BitWrite::byte_align) first.
     pub fn into_writer(self) -> W
         ensures { result ≡ writer_stream self }
     {
@@ -67,7 +71,8 @@ impl<W: Target, E: Endianness> BitWriter<W, E> {
     }
 
     /// Returns a new writer of bytes to the stream, in the same order, if this writer is at a byte
-    /// boundary and has not failed. This one does not count what the new one writes.
+    /// boundary and has not failed: so no bit is lost. Call [`byte_align`](BitWrite::byte_align) first.
+    /// This writer does not count what the new one writes.
     pub fn bytewriter<'a>(&'a mut self) -> Option<ByteWriter<Lent<'a, W>, E>>
         // Answers `Some` exactly if the writer has not failed and the bits written are whole bytes.
         ensures there { IsSome result ↔ (((⟦<Self as BitWrite>⟧.sink.failed self.old) ≡ false)
@@ -101,7 +106,11 @@ impl<W: Target, E: Endianness> BitWriter<W, E> {
         }
     }
 
-    /// Returns a new writer of bytes to the stream, in the same order. The queued bits are dropped.
+    /// Returns a new writer of bytes to the stream, in the same order.
+    ///
+    /// # Warning
+    ///
+    /// The bits behind the last whole byte are lost: call [`byte_align`](BitWrite::byte_align) first.
     pub fn into_bytewriter(self) -> ByteWriter<W, E>
         ensures { byte_writer_state W.contents W.references result
             ≡ new_port_state (W.contents (writer_stream self))
