@@ -1,5 +1,6 @@
 pub mod BytesLemmas
 pub mod ConstLemmas
+pub mod EnoughLemmas
 pub mod EntryLemmas
 pub mod GroupLemmas
 pub mod LawLemmas

@@ -1,3 +1,4 @@
+pub mod Enough
 pub mod Memory
 pub mod MemorySeek
 pub mod MemorySource

@@ -3,7 +3,7 @@
 //! The contract of each function is a law. Its body is empty.
 
 ghost use Rattle.std.specs.Prelude.{◌≡◌, ℕ, ◌+◌, ◌*◌, ◌^◌, ◌<◌, ◌≤◌, ◌++◌, Bool, false, List, [], length, drop, Some, None, Result, Ok};
-ghost use Rattle.bitstream_number.specs.Word.{Order, High, Low, bits as bits_of, bytes as bytes_in};
+ghost use Rattle.bitstream_number.specs.Word.{Order, High, Low, bits as bits_of, bytes as bytes_in, count_width};
 ghost use Rattle.bitstream_count.specs.Entry.{ReadEntry, WriteEntry, chain, gives};
 ghost use Rattle.bitstream_count.specs.declared.error.Error.{Error};
 ghost use Rattle.bitstream_count.specs.declared.error.Error.TheVariants.{OutOfMemory, Stream};
@@ -11,10 +11,11 @@ ghost use Rattle.std.specs.declared.io.ErrorKind.TheVariants.{WriteZero};
 ghost use Rattle.bitstream_order.specs.Reference.{capacity_of};
 ghost use Rattle.bitstream_order.specs.Refusal.{Refusal, TrueEnds, AllLackRoom, MayRefuseSeek};
 ghost use Rattle.bitstream_order.specs.Streaming.Slice.{slice_bytes, slice_place, slice_remaining, slice_refuses_seek};
+ghost use Rattle.bitstream_stream.specs.Reading.Enough.{IsDoneBy};
 ghost use Rattle.bitstream_stream.specs.Reading.MemorySeek.{memory_bytes};
 ghost use Rattle.bitstream_stream.specs.Reading.MemorySource.{memory_source};
 ghost use Rattle.bitstream_stream.specs.Reading.Reads.{Reads, bits_left, sure_answer};
-ghost use Rattle.bitstream_stream.specs.Reading.ReadTable.{unsigned_entry, bytes_entry, align_entry};
+ghost use Rattle.bitstream_stream.specs.Reading.ReadTable.{bit_entry, unsigned_entry, signed_entry, const_entry, count_entry, bytes_entry, skip_entry, align_entry};
 ghost use Rattle.bitstream_stream.specs.Reading.Seek.{reader_seeker, MaySeek, TellsRest};
 ghost use Rattle.bitstream_stream.specs.Writing.Sink.{WriteRefused, WritesAll};
 ghost use Rattle.bitstream_stream.specs.WholeBytes.ByteSink.{ByteWrites};
@@ -80,6 +81,40 @@ pub fn ends_are_known<R: BitRead, A>()
         → Reads R.source entry old answer new
         → answer ≡ sure_answer (entry.reads (R.source.state old).taken
         ((R.source.state old).queue ++ bits_of R.source.order bytes)) }
+{}
+
+/// A call that takes n bits, whatever they are, is done if so many are left, over a stream that refuses
+/// only at a true end. So whoever tests once how many bits are left knows that no read of them is refused.
+pub fn enough_bits_are_known<R: BitRead, A>()
+    ensures { (entry : ReadEntry A) (n : ℕ) (left : List Bool) (old new : R) (answer : Result A Error)
+        → TrueEnds R.source.may → (R.source.state old).failed ≡ false
+        → bits_left R.source.order (R.source.state old) ≡ Some left → n ≤ length left
+        → IsDoneBy n entry → Reads R.source entry old answer new
+        → (value : A) × (answer ≡ Ok value) × ((R.source.state new).failed ≡ false)
+        × (bits_left R.source.order (R.source.state new) ≡ Some (drop n left)) }
+{}
+
+/// Calls of words of a known length are done by so many bits, and two calls by the bits of both.
+pub fn known_lengths_are_enough<A, B>()
+    // One bit.
+    ensures bit { IsDoneBy 1 bit_entry }
+    // A number of n bits that fits its type.
+    ensures unsigned { (o : Order) (size n : ℕ) → n ≤ size → IsDoneBy n (unsigned_entry o size n) }
+    // A signed one, which has a bit for its sign.
+    ensures signed { (o : Order) (size n : ℕ) → 0 < n → n ≤ size → IsDoneBy n (signed_entry o size n) }
+    // A comparison of n bits with a number.
+    ensures constant { (o : Order) (n v : ℕ) → IsDoneBy n (const_entry o n v) }
+    // A count up to a maximum.
+    ensures count { (o : Order) (max : ℕ) → IsDoneBy (count_width max) (count_entry o max) }
+    // Bytes.
+    ensures bytes { (o : Order) (n : ℕ) → IsDoneBy (8 * n) (bytes_entry o n) }
+    // Bits that are skipped.
+    ensures skip { (n : ℕ) → IsDoneBy n (skip_entry n) }
+    // A value that is read from no bits.
+    ensures none { (value : A) → IsDoneBy 0 (gives value) }
+    // One call, and then another.
+    ensures both { (m n : ℕ) (first : ReadEntry A) (second : A → ReadEntry B) → IsDoneBy m first
+        → ((value : A) → IsDoneBy n (second value)) → IsDoneBy (m + n) (chain first second) }
 {}
 
 /// A [`Slice`] refuses only at a true end.
