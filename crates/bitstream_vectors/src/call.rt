@@ -106,7 +106,7 @@ impl<'a> Call<'a> {
                 Ok(run) => run < most,
                 Err(_) => most > 0,
             },
-            Form::Prefix(tree) => has_symbol(tree, self.value),
+            Form::Prefix(tree, _) => has_symbol(tree, self.value),
             _ => false,
         }
     }
@@ -154,8 +154,8 @@ impl<'a> Call<'a> {
             (Form::Checked(_), Kind::Write) if self.answer != "ok" => self.answer,
             (Form::Checked(Number::Signed(_)), Kind::Read) if self.bits == 0 => self.answer,
             (Form::Limited(_, 0), Kind::Read) => "none",
-            (Form::Prefix(Tree::Leaf), Kind::Read) => "9",
-            (Form::Limited(_, _) | Form::Prefix(_), Kind::Write) if !self.has_bits() => "ok",
+            (Form::Prefix(Tree::Leaf, _), Kind::Read) => "9",
+            (Form::Limited(_, _) | Form::Prefix(_, _), Kind::Write) if !self.has_bits() => "ok",
             _ => "Failed",
         }
     }

@@ -57,6 +57,15 @@ pub enum Tree {
     Leaf,
 }
 
+/// What writes a symbol.
+#[derive(Clone, Copy, Drop)]
+pub enum Coder {
+    /// The tree itself.
+    Tree,
+    /// Its words, made before.
+    Words,
+}
+
 /// The order of the bytes of a primitive.
 #[derive(Clone, Copy, Drop)]
 pub enum ByteOrder {
@@ -110,7 +119,7 @@ pub enum Form {
     /// Whether the place in bits is this one.
     PlaceIs(u64),
     /// A symbol of a tree.
-    Prefix(Tree),
+    Prefix(Tree, Coder),
     /// A new recorder of an order is given calls, and played.
     Record(Order),
     /// A place in bits is sought.
@@ -151,7 +160,7 @@ impl Form {
             (Form::Bytes, Kind::Write) => Some(1),
             (Form::Align | Form::Aligned | Form::Bit | Form::Clear | Form::Unary(_), _) => Some(1),
             (Form::Cursor | Form::Place | Form::PlaceIs(_) | Form::Seek(_), _) => Some(1),
-            (Form::Limited(_, _) | Form::Prefix(_) | Form::Whole(_, _), _) => Some(2),
+            (Form::Limited(_, _) | Form::Prefix(_, _) | Form::Whole(_, _), _) => Some(2),
             (Form::Variable(_, _, _) | Form::VariablePair(_), _) => Some(2),
             _ => None,
         }
@@ -302,7 +311,8 @@ const TREES: [(&str, Tree); 4] = [
 /// The form of a call for a symbol of the code that the next word spells.
 fn symbol_form(name: &str, next: &str) -> Option<Form> {
     match name {
-        "prefix" => Some(Form::Prefix(named(&TREES, next)?)),
+        "prefix" => Some(Form::Prefix(named(&TREES, next)?, Coder::Tree)),
+        "words" => Some(Form::Prefix(named(&TREES, next)?, Coder::Words)),
         "limited0" => Some(Form::Limited(false, next.parse().ok()?)),
         "limited1" => Some(Form::Limited(true, next.parse().ok()?)),
         _ => None,

@@ -30,7 +30,7 @@ pub fn read_call<R: BitRead + WholeRead>(
         }
         Form::Const => read_const(reader, call.bits, number(call.value)?, want),
         Form::Limited(stop, most) => read_limited(reader, stop, most, want),
-        Form::Prefix(tree) => read_symbol(alloc, reader, tree, want),
+        Form::Prefix(tree, _) => read_symbol(alloc, reader, tree, want),
         Form::Variable(value, size, field) => read_variable(reader, value, size, field, want),
         Form::VariablePair(field) => read_variable_pair(reader, field, want),
         form => read_in_bits(reader, form, call.bits, want),

@@ -22,12 +22,22 @@ const WRITE_FAULTS: [ErrorKind; 3] = [
     ErrorKind::UnexpectedEof,
 ];
 
-/// Plays a row.
+/// Plays a row, and one with symbols again, by the words of their trees.
 ///
 /// # Errors
 ///
 /// The first thing that is not as the row says.
 pub fn replay(alloc: Global, line: &str) -> Result<(), Objection> {
+    play_line(alloc, line)?;
+    if line.contains("prefix ") {
+        let by_words = line.replace(alloc, "prefix ", "words ")?;
+        play_line(alloc, by_words.as_str())?;
+    }
+    Ok(())
+}
+
+/// Plays a row as it stands.
+fn play_line(alloc: Global, line: &str) -> Result<(), Objection> {
     let columns: Vec<&str> = line.split('\t').collect(alloc)?;
     match columns.as_slice() {
         [kind, order, calls, bytes] => {

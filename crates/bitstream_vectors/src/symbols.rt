@@ -1,7 +1,7 @@
 //! Calls for symbols of prefix codes, by the codes that the rows name.
 use crate::answer::{Answer, is_number, is_optional};
 use crate::call::number;
-use crate::form::Tree;
+use crate::form::{Coder, Tree};
 use crate::objection::Objection;
 use bitstream_io::huffman::{HuffmanTree, LimitedUnary};
 use bitstream_io::{BitRead, BitReadExt, BitWrite, BitWriteExt};
@@ -47,8 +47,19 @@ pub fn read_symbol<R: BitRead>(
 }
 
 /// Writes the symbol of a tree that a text spells.
-pub fn write_symbol<W: BitWrite>(alloc: Global, writer: &mut W, tree: Tree, value: &str) -> Answer {
-    Ok(writer.write_huffman(&code(alloc, tree)?, number(value)?))
+pub fn write_symbol<W: BitWrite>(
+    alloc: Global,
+    writer: &mut W,
+    tree: Tree,
+    by: Coder,
+    value: &str,
+) -> Answer {
+    let code = code(alloc, tree)?;
+    let symbol = number(value)?;
+    Ok(match by {
+        Coder::Tree => writer.write_huffman(&code, symbol),
+        Coder::Words => writer.write_huffman(&code.words(alloc)?, symbol),
+    })
 }
 
 /// Reads a run of at most the given number of digits, and tells whether it answers so.

@@ -39,7 +39,7 @@ fn write<W: BitWrite>(alloc: Global, mut writer: &mut W, call: &Call<'_>) -> Ans
         Form::Array(items) => write_array(alloc, writer, items, call.bits, value),
         Form::Bytes | Form::Pad | Form::Whole(_, _) => write_whole(alloc, &mut writer, call),
         Form::Limited(stop, most) => write_limited(writer, stop, most, value),
-        Form::Prefix(tree) => write_symbol(alloc, writer, tree, value),
+        Form::Prefix(tree, by) => write_symbol(alloc, writer, tree, by, value),
         Form::VariablePair(field) => write_variable_pair(writer, field, value),
         form => write_in_bits(writer, form, call.bits, value),
     }

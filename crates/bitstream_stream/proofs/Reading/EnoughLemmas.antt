@@ -1,6 +1,6 @@
 -- Calls that need no more than a known number of bits, and what is left behind them.
 use Rattle.std.specs.Prelude.{◌==◌, option_map}
-use Rattle.std.proofs.Common.{◌≡◌, ℕ, ◌+◌, ◌*◌, ◌<◌, ◌≤◌, Bool, false, List, ◌++◌, length, take, drop, replicate, Option, None, Some, Result, Ok, refl, sym, ap, ◌∙◌, subst, arith, length-append, length-drop}
+use Rattle.std.proofs.Common.{◌≡◌, ℕ, ◌+◌, ◌*◌, ◌<◌, ◌≤◌, Bool, false, List, ◌++◌, length, take, drop, replicate, Option, None, Some, Result, Ok, Err, refl, sym, ap, ◌∙◌, arith, length-append, length-drop}
 use Rattle.std.proofs.lemmas.List.{length-replicate}
 use Rattle.std.proofs.Math.Seq.{drop-append_seam}
 use Rattle.std.proofs.lemmas.Bool.{le-leb, ne_eqb}
@@ -64,15 +64,16 @@ told queue o (Some xs) left h = (xs, refl, cc)
 
 -- a call that answered a value took its word, and what was behind it is left
 left_behind : {A : Type 0} (o : Order) (e : ReadEntry A) (a : A) (s t : ReaderState) (left : List Bool)
-    (h : ReadDone o e s (Ok a) t) → bits_left o s ≡ Some left → (t.failed ≡ false) × (bits_left o t
-    ≡ Some (drop (length h.word) left))
-left_behind o e a s t left h known =
+    (r : Result A Error) → r ≡ Ok a → (h : ReadDone o e s r t) → bits_left o s ≡ Some left
+    → (t.failed ≡ false) × (bits_left o t ≡ Some (drop (length h.word) left))
+left_behind o e a s t left (Ok b) is h known =
     let all = told s.queue o s.bytes left known in
-    let rest = Took-left o h.word s t (took o e a s t h) all.0 all.1 in
+    let rest = Took-left o h.word s t (took o e b s t h) all.0 all.1 in
     (h.failed,
     ap (option_map (λ xs. t.queue ++ bits o xs)) rest.1
     ∙ ap Some (sym (ap (drop (length h.word)) (sym all.2 ∙ rest.2)
     ∙ drop-append_seam h.word (t.queue ++ bits o rest.0))))
+left_behind o e a s t left (Err x) is h known = cc
 
 pub Reads-enough : {R A : Type 0} {K : BitSource R} {e : ReadEntry A} {r : Result A Error} {s t : R} (n : ℕ)
     (left : List Bool) → TrueEnds K.may → (K.state s).failed ≡ false → bits_left K.order (K.state s) ≡ Some left
@@ -87,8 +88,7 @@ Reads-enough {K = K} {e = e} {r = r} {s = s} {t = t} n left ends fine known enou
     let same : Takes n (Ok found.0) ≡ Takes (length h.word) r = sym found.1 ∙ h.decides more in
     let long : length h.word ≡ n = cc in
     let is : r ≡ Ok found.0 = cc in
-    let answered = subst (λ x. ReadDone K.order e (K.state s) x (K.state t)) is h in
-    let behind = left_behind K.order e found.0 (K.state s) (K.state t) left answered known in
+    let behind = left_behind K.order e found.0 (K.state s) (K.state t) left r is h known in
     (found.0, is, behind.0, behind.1 ∙ ap (λ k. Some (drop k left)) long)
 Reads-enough {K = K} {e = e} {s = s} n left ends fine known enough done (was_refused h) =
     let all = told (K.state s).queue K.order (K.state s).bytes left known in
