@@ -1,4 +1,5 @@
 pub mod Adts
+pub mod Axes
 pub mod BlockHeader
 pub mod FlacComment
 pub mod Golomb

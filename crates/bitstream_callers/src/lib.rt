@@ -30,6 +30,7 @@
 
 pub mod adts;
 pub mod appending;
+pub mod axes;
 pub mod block_header;
 pub mod flac_comment;
 pub mod golomb;

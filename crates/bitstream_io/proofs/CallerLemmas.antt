@@ -56,6 +56,8 @@ pub use Rattle.std.proofs.lemmas.Nat.{one_shl}
 pub use Rattle.bitstream_number.specs.Word.{Order, High, Low, bits, number}
 -- the reader that `over` makes is refused only at a true end (`SliceEnds` has the same of a reader over a `Slice`)
 pub use Rattle.bitstream_stream.proofs.Reading.MemoryLemmas.{memory_ends as slice_ends}
+-- calls of a known length are done if so many bits are left
+pub use Rattle.bitstream_stream.proofs.Reading.EnoughLemmas.{Reads-enough, bit-enough, unsigned-enough, signed-enough, const-enough, count-enough, bytes-enough, skip-enough, gives-enough, chain-enough, done-if_left}
 pub use Rattle.bitstream_stream.specs.Reading.ReadTable.{unsigned_entry, signed_entry}
 pub use Rattle.bitstream_stream.proofs.Reading.ReadsLemmas.{Reads-chain-ok, Reads-gives, exit}
 -- the calls of a new writer to bytes in memory with room for their bits, and an alignment behind them, answer `Ok`

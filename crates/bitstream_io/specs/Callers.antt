@@ -7,7 +7,8 @@ pub use Rattle.bitstream_order.specs.Moving.Gather.{seen}
 pub use Rattle.bitstream_stream.specs.Reading.ReadTable.{first_bit, bit_entry, unsigned_entry, signed_entry, const_entry, unary_entry, count_entry, align_entry, bytes_entry, skip_entry, whole_bytes_entry, vbr_entry, any_vbr_entry, signed_vbr_entry, any_signed_vbr_entry}
 pub use Rattle.bitstream_stream.specs.Writing.WriteTable.{plain, bit, unsigned, signed, unary_word, count, align, buffer, zeros, vbr, signed_vbr}
 pub use Rattle.bitstream_stream.specs.Reading.MemorySource.{memory_source}
-pub use Rattle.bitstream_stream.specs.Reading.Reads.{BitSource, Reads, sure_answer}
+pub use Rattle.bitstream_stream.specs.Reading.Enough.{IsDoneBy}
+pub use Rattle.bitstream_stream.specs.Reading.Reads.{BitSource, Reads, bits_left, sure_answer}
 pub use Rattle.bitstream_stream.specs.Writing.Sink.{Sink, WritesAll}
 pub use Rattle.bitstream_stream.specs.Writing.Room.{AllAccepted}
 pub use Rattle.bitstream_stream.specs.Run.{write_run}

@@ -1,5 +1,5 @@
 -- Calls that need no more than a known number of bits, and what is left behind them.
-use Rattle.std.specs.Prelude.{◌==◌, option_map}
+use Rattle.std.specs.Prelude.{◌==◌, option_map, IfSome, IsOk}
 use Rattle.std.proofs.Common.{◌≡◌, ℕ, ◌+◌, ◌*◌, ◌<◌, ◌≤◌, Bool, false, List, ◌++◌, length, take, drop, replicate, Option, None, Some, Result, Ok, Err, refl, sym, ap, ◌∙◌, arith, length-append, length-drop}
 use Rattle.std.proofs.lemmas.List.{length-replicate}
 use Rattle.std.proofs.Math.Seq.{drop-append_seam}
@@ -96,3 +96,13 @@ Reads-enough {K = K} {e = e} {s = s} n left ends fine known enough done (was_ref
     let few = ap (λ l. e.reads (K.state s).taken l) (sym all.2) ∙ h.ended (ends h.refusal h.allowed) all.0 all.1 in
     cc
 Reads-enough n left ends fine known enough done (memory_refused g h) = cc
+
+-- the same, if the stream tells how many bits are left
+pub done-if_left : {R A : Type 0} {K : BitSource R} {e : ReadEntry A} {r : Result A Error} {s t : R} (n : ℕ)
+    → TrueEnds K.may → (K.state s).failed ≡ false → IsDoneBy n e → Reads K e s r t
+    → IfSome (bits_left K.order (K.state s)) (λ left. n ≤ length left → IsOk r)
+done-if_left {K = K} {r = r} {s = s} n ends fine done h = by (bits_left K.order (K.state s)) refl
+  where
+    by : (left : Option (List Bool)) → bits_left K.order (K.state s) ≡ left → IfSome left (λ xs. n ≤ length xs → IsOk r)
+    by None is = tt
+    by (Some xs) is = λ enough. let found = Reads-enough n xs ends fine is enough done h in rw found.1 refl

@@ -1,0 +1,37 @@
+//! Numbers of a known length, which are there if so many bits are left.
+ghost use Rattle.std.specs.Prelude.{◌≡◌, ◌≤◌, false, length, IfSome, IsOk};
+ghost use Rattle.bitstream_io.specs.Callers.{Reads, High, bits_left, memory_source};
+ghost use Rattle.bitstream_callers.specs.Axes.{axes_entry};
+
+use bitstream_io::{BE, BitRead, Error, SliceReader};
+
+/// What an accelerometer measured: three numbers of 12 bits.
+#[derive(Clone, Copy, Debug, PartialEq)]
+pub struct Axes {
+    /// To the right.
+    pub x: u16,
+    /// To the front.
+    pub y: u16,
+    /// Up.
+    pub z: u16,
+}
+
+/// Reads what an accelerometer measured. Whoever has tested that 36 bits are left gets no error.
+///
+/// # Errors
+///
+/// Those of the reader.
+pub fn read_axes(reader: &mut SliceReader<'_, BE>) -> Result<Axes, Error>
+    // Takes just 36 bits and answers their numbers, or answers an error.
+    ensures reads { Reads (memory_source High) axes_entry reader.old result reader.new }
+    // If 36 bits are left to a reader that has not failed, it answers no error.
+    ensures done { ((memory_source High).state reader.old).failed ≡ false
+        → IfSome (bits_left High ((memory_source High).state reader.old))
+        (λ left. 36 ≤ length left → IsOk result) }
+{
+    Ok(Axes {
+        x: reader.read_unsigned_var(12)?,
+        y: reader.read_unsigned_var(12)?,
+        z: reader.read_unsigned_var(12)?,
+    })
+}
