@@ -1,9 +1,9 @@
 -- Runs of zeros in a number, and of bits in bytes.
-use Rattle.std.proofs.Common.{◌≡◌, ℕ, ◌+◌, ◌-◌, ◌*◌, ◌<◌, ◌≤◌, Bool, not, List, ◌++◌, length, take, drop, replicate, sym, ap, ◌∙◌, arith, take-append-drop, take_all, get_or}
-use Rattle.std.proofs.lemmas.List.{at_drop_more, length-take-le, length-drop, drop-append-le}
+use Rattle.std.proofs.Common.{◌≡◌, ℕ, ◌+◌, ◌-◌, ◌*◌, ◌<◌, ◌≤◌, Bool, true, false, not, refl, List, ◌++◌, length, take, drop, replicate, sym, ap, ◌∙◌, arith, take-append-drop, take_all, get_or}
+use Rattle.std.proofs.lemmas.List.{at_drop_more, length-take-le, length-drop, drop-drop, drop-append-le}
 use Rattle.bitstream_count.specs.Unary.{lead}
 use Rattle.bitstream_count.proofs.UnaryLemmas.{lead-others, lead_le, take_others}
-use Rattle.bitstream_number.specs.Word.{Order, word, bits}
+use Rattle.bitstream_number.specs.Word.{Order, High, Low, digits, word, bits}
 use Rattle.bitstream_number.proofs.WordLemmas.{length-word, length-bits, bits-append}
 use Rattle.bitstream_stream.specs.Reading.Memory.{rest_bits}
 use Rattle.bitstream_order.proofs.WindowLemmas.{lead-front, lead-longer, rest_long}
@@ -29,6 +29,38 @@ run_in_eight o stop bytes bit v r few long window within is =
     ap (drop bit) (ap (bits o) (sym (take-append-drop 8 bytes)) ∙ bits-append o (take 8 bytes) (drop 8 bytes)
     ∙ ap (λ w. w ++ y) (sym whole)) ∙ drop-append-le bit (word o 64 v) y (omega (arith, length-word o 64 v)) in
     is ∙ sym (ap (lead stop) parts ∙ lead-longer stop x y (omega (arith, is, within, rest_long o v bit)))
+
+-- ---- eight bytes at a time
+
+-- 64 bits of which none is a one, or none is a zero
+pub zeros_alone : (o : Order) → word o 64 0 ≡ replicate 64 false
+unfolding digits
+zeros_alone High = refl
+zeros_alone Low = refl
+
+pub ones_alone : (o : Order) → word o 64 18446744073709551615 ≡ replicate 64 true
+unfolding digits
+ones_alone High = refl
+ones_alone Low = refl
+
+-- eight bytes of which no bit is a stop bit
+pub window_passes : (o : Order) (stop : Bool) (bytes : List ℕ) (at v : ℕ) → at + 8 ≤ length bytes
+    → take (8 * length (take 8 (drop at bytes))) (word o 64 v) ≡ bits o (take 8 (drop at bytes))
+    → word o 64 v ≡ replicate 64 (not stop)
+    → lead stop (bits o (drop at bytes)) ≡ 64 + lead stop (bits o (drop (at + 8) bytes))
+window_passes o stop bytes at v there window none =
+    let rest = drop at bytes in
+    let size : length (take 8 rest) ≡ 8 = length-take-le 8 rest (omega (arith, length-drop at bytes)) in
+    let all : 64 ≡ 8 * length (take 8 rest) = omega (arith, size) in
+    let whole : word o 64 v ≡ bits o (take 8 rest) =
+    sym (take_all 64 (word o 64 v) (omega (arith, length-word o 64 v)))
+    ∙ ap (λ n. take n (word o 64 v)) all ∙ window in
+    let behind = bits o (drop 8 rest) in
+    let parts : bits o rest ≡ replicate 64 (not stop) ++ behind =
+    ap (bits o) (sym (take-append-drop 8 rest)) ∙ bits-append o (take 8 rest) (drop 8 rest)
+    ∙ ap (λ w. w ++ behind) (sym whole ∙ none) in
+    ap (lead stop) parts ∙ lead-others stop 64 behind
+    ∙ ap (λ xs. 64 + lead stop (bits o xs)) (drop-drop 8 at bytes)
 
 -- ---- byte by byte
 

@@ -1,7 +1,7 @@
 //! Runs of bits of bytes in memory.
-ghost use Rattle.std.specs.Prelude.{◌≡◌, ◌+◌, ◌<◌, ◌≤◌, length};
+ghost use Rattle.std.specs.Prelude.{◌≡◌, ◌+◌, ◌*◌, ◌<◌, ◌≤◌, not, drop, length, replicate};
 ghost use Rattle.bitstream_count.specs.Unary.{lead};
-ghost use Rattle.bitstream_number.specs.Word.{bits};
+ghost use Rattle.bitstream_number.specs.Word.{bits, word};
 ghost use Rattle.bitstream_stream.specs.Reading.Memory.{rest_bits};
 ghost use Rattle.bitstream_stream.specs.Reading.Reads.{Reads};
 ghost use Rattle.bitstream_stream.specs.Reading.ReadTable.{unary_entry};
@@ -25,12 +25,35 @@ pub(super) fn run_in_window<E: Endianness>(bytes: &[u8], bit: u32, stop: bool) -
     E::lead_behind(eight::<E>(bytes), bit, stop)
 }
 
+/// Returns the number of 64 bits of which none is `stop`.
+fn window_without<E: Endianness>(stop: bool) -> u64
+    ensures { word E.order 64 result ≡ replicate 64 (not stop) }
+{
+    if stop { 0 } else { u64::MAX }
+}
+
+/// Returns how many of the first bytes have no bit that is `stop`, counted eight at a time.
+fn bytes_without<E: Endianness>(bytes: &[u8], stop: bool) -> usize
+    // There are so many bytes.
+    ensures within { result ≤ length bytes.now }
+    // Their bits come before the first one that is `stop`.
+    ensures run { lead stop (bits E.order bytes.now)
+        ≡ 8 * result + lead stop (bits E.order (drop result bytes.now)) }
+{
+    let without = window_without::<E>(stop);
+    let mut at = 0;
+    while bytes.len() - at >= 8 && eight::<E>(&bytes[at..]) == without {
+        at += 8;
+    }
+    at
+}
+
 /// Returns a number and how many bits of some bytes come before the first one that is `stop`.
 fn run_from<E: Endianness>(bytes: &[u8], first: u32, stop: bool) -> u128
     ensures { result ≡ first + lead stop (bits E.order bytes.now) }
 {
-    let mut count = first as u128;
-    let mut at = 0;
+    let mut at = bytes_without::<E>(bytes, stop);
+    let mut count = first as u128 + 8 * at as u128;
     while at < bytes.len() {
         let lead = E::run_length(bytes[at], stop);
         // The stop bit is in this byte.
