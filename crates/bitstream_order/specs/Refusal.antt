@@ -4,6 +4,7 @@ use Rattle.std.specs.declared.io.ErrorKind.{ErrorKind}
 use Rattle.std.specs.declared.io.ErrorKind.TheVariants.{UnexpectedEof}
 use Rattle.std.specs.declared.io.traits.SeekFrom.{SeekFrom}
 use Rattle.bitstream_order.specs.Reference.{Reference, capacity_of}
+use Rattle.bitstream_order.specs.Streams.{InputStream, OutputStream}
 
 -- A refused request: its kind, the number of bytes asked for, and what the stream told: how many bytes it can hold, and
 -- its bytes before the request and after it (those left to read, or those that it holds).
@@ -13,6 +14,24 @@ pub record Refusal : Type 0 where
   pub capacity : Option ℕ
   pub before : Option (List ℕ)
   pub after : Option (List ℕ)
+
+-- the refusal of a request, by what the stream told before it and after it
+abbrev pub refusal_told : {S : Type 0} → (S → Option (List ℕ)) → (S → List Reference) → S → ℕ → ErrorKind → S → Refusal
+refusal_told known references old wanted kind new = record {
+  kind = kind;
+  wanted = wanted;
+  capacity = capacity_of (references old);
+  before = known old;
+  after = known new;
+}
+
+-- the refusal of a request for a number of bytes, by what its source told
+abbrev pub refused_read : {R : Type 0} → InputStream R → R → ℕ → ErrorKind → R → Refusal
+refused_read I = refusal_told I.remaining I.references
+
+-- the refusal of a request to send a number of bytes, by what its target told
+abbrev pub refused_write : {W : Type 0} → OutputStream W → W → ℕ → ErrorKind → W → Refusal
+refused_write O = refusal_told O.contents O.references
 
 -- an end with fewer bytes left than were asked for
 pub record IsTrueEnd (refusal : Refusal) : Type 0 where
@@ -39,11 +58,19 @@ pub record MayRefuse {S : Type 0} (known : S → Option (List ℕ)) (references 
   pub after : refusal.after ≡ known new
   pub refused : refuses old refusal.wanted refusal.kind new
 
--- a refusal that a stream may make of a seek to this place
-abbrev pub MayRefuseSeek : {S : Type 0} → (S → Option (List ℕ)) → (S → List Reference)
-    → (S → SeekFrom → ErrorKind → S → Type 0) → SeekFrom → Refusal → Type 0
-MayRefuseSeek known references refuses_seek to =
-    MayRefuse known references (λ before _ kind after. refuses_seek before to kind after)
+-- a refusal that a source may make of a request for bytes
+abbrev pub MayRefuseRead : {R : Type 0} → InputStream R → Refusal → Type 0
+MayRefuseRead I = MayRefuse I.remaining I.references I.refuses
+
+-- a refusal that a target may make of a request to send bytes, or of a flush
+abbrev pub MayRefuseWrite : {W : Type 0} → OutputStream W → Refusal → Type 0
+MayRefuseWrite O = MayRefuse O.contents O.references O.refuses
+
+-- a refusal that a source may make of a seek to this place
+abbrev pub MayRefuseSeek : {R : Type 0} → InputStream R → (R → SeekFrom → ErrorKind → R → Type 0) → SeekFrom → Refusal
+    → Type 0
+MayRefuseSeek I refuses_seek to =
+    MayRefuse I.remaining I.references (λ before _ kind after. refuses_seek before to kind after)
 
 -- refusals that are all true ends
 abbrev pub TrueEnds : (Refusal → Type 0) → Type 0

@@ -1,4 +1,5 @@
 pub mod Growing
+pub mod Lent
 pub mod Slice
 pub mod SliceMut
 pub mod Tail

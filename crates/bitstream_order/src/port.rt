@@ -5,9 +5,8 @@ ghost use Rattle.std.specs.Io.Seek.{StaysAt, SeekMoves};
 ghost use Rattle.std.specs.IoError.{error_kind};
 ghost use Rattle.std.specs.declared.io.traits.SeekFrom.TheVariants.{Current};
 ghost use Rattle.bitstream_order.specs.Fault.{read_refusal_of, refusal_of};
-ghost use Rattle.bitstream_order.specs.Reference.{capacity_of};
-ghost use Rattle.bitstream_order.specs.Refusal.{Refusal, MayRefuse, MayRefuseSeek};
-ghost use Rattle.bitstream_order.specs.Port.{port_state, fetched_count, port_stream, with_stream, Fetches, Sends, Seeks, Places};
+ghost use Rattle.bitstream_order.specs.Refusal.{Refusal, MayRefuseRead, MayRefuseSeek, MayRefuseWrite, refused_read, refused_write};
+ghost use Rattle.bitstream_order.specs.Port.{source_state, target_state, fetched_count, port_stream, with_stream, Fetches, Sends, Seeks, Places};
 
 use crate::ghosts::{GhostCount, GhostRefusals};
 use crate::streams::seek::SeekSource;
@@ -58,13 +57,7 @@ fn record_refused_read<S: Source>(
     _error: &io::Error,
 )
     ghost by: { Refusal }
-    requires { by ≡ record {
-      kind = error_kind _error.now;
-      wanted = _wanted;
-      capacity = capacity_of (S.references _before.now.value);
-      before = S.remaining _before.now.value;
-      after = S.remaining _after.now;
-    } }
+    requires { by ≡ refused_read S.stream _before.now.value _wanted (error_kind _error.now) _after.now }
     ensures { refusals.new.list ≡ by ∷ refusals.old.list }
 {
     refusals.push(0);
@@ -79,13 +72,7 @@ fn record_refused_write<S: Target>(
     _error: &io::Error,
 )
     ghost by: { Refusal }
-    requires { by ≡ record {
-      kind = error_kind _error.now;
-      wanted = _wanted;
-      capacity = capacity_of (S.references _before.now.value);
-      before = S.contents _before.now.value;
-      after = S.contents _after.now;
-    } }
+    requires { by ≡ refused_write S.stream _before.now.value _wanted (error_kind _error.now) _after.now }
     ensures { refusals.new.list ≡ by ∷ refusals.old.list }
 {
     refusals.push(0);
@@ -180,9 +167,8 @@ impl<S: Source> Port<S> {
     /// that kind, else `Stream` with its kind. No byte is counted as fetched then.
     #[inline(always)]
     pub fn fetch(&mut self, buf: &mut [u8]) -> Result<(), Error>
-        ensures fetches { Fetches (MayRefuse S.remaining S.references S.refuses)
-            (port_state S.remaining S.references self.old) buf.new result
-            (port_state S.remaining S.references self.new) }
+        ensures fetches { Fetches (MayRefuseRead S.stream)
+            (source_state S.stream self.old) buf.new result (source_state S.stream self.new) }
     {
         let count = buf.len();
         self.fetch_front(buf, count, true)
@@ -199,9 +185,9 @@ impl<S: Source> Port<S> {
     pub fn fetch_front(&mut self, buf: &mut [u8], count: usize, constant: bool) -> Result<(), Error>
         requires { count ≤ length buf.old }
         // The buffer's front gets the next `count` bytes by one request, or it is refused.
-        ensures fetches { Fetches (MayRefuse S.remaining S.references S.refuses)
-            (port_state S.remaining S.references self.old) (take count buf.new) result
-            (port_state S.remaining S.references self.new) }
+        ensures fetches { Fetches (MayRefuseRead S.stream)
+            (source_state S.stream self.old) (take count buf.new) result
+            (source_state S.stream self.new) }
         // The buffer keeps its length.
         ensures len { length buf.new ≡ length buf.old }
     {
@@ -230,9 +216,8 @@ impl<S: Target> Port<S> {
     /// counted as sent then.
     #[inline(always)]
     pub fn send(&mut self, bytes: &[u8]) -> Result<(), Error>
-        ensures { Sends (MayRefuse S.contents S.references S.refuses)
-            (port_state S.contents S.references self.old) bytes.now result
-            (port_state S.contents S.references self.new) }
+        ensures { Sends (MayRefuseWrite S.stream) (target_state S.stream self.old) bytes.now result
+            (target_state S.stream self.new) }
     {
         let before = Snapshot::of(&self.stream);
         // A request counts even if it is refused.
@@ -263,14 +248,13 @@ impl<S: Target> Port<S> {
     /// As [`send`](Port::send). The stream holds the same bytes then too.
     pub fn flush(&mut self) -> Result<(), Error>
         // One request is made, and no byte is sent, whether it is refused or not.
-        ensures sends { Sends (MayRefuse S.contents S.references S.refuses)
-            (port_state S.contents S.references self.old) [] result
-            (port_state S.contents S.references self.new) }
+        ensures sends { Sends (MayRefuseWrite S.stream) (target_state S.stream self.old) [] result
+            (target_state S.stream self.new) }
         // The stream holds the same bytes as before, if it tells them.
-        ensures bytes { Keeps (S.contents (port_stream self.old))
-            (S.contents (port_stream self.new)) }
+        ensures bytes { Keeps (S.stream.contents (port_stream self.old))
+            (S.stream.contents (port_stream self.new)) }
         // If it succeeds, the stream did what it says that a flush does.
-        ensures flushed { OnOk result (S.flushes (port_stream self.old) (port_stream self.new)) }
+        ensures flushed { OnOk result (S.stream.flushes (port_stream self.old) (port_stream self.new)) }
     {
         let before = Snapshot::of(&self.stream);
         // A request counts even if it is refused.
@@ -296,9 +280,8 @@ impl<S: SeekSource> Port<S> {
     /// position stays as it was then.
     pub fn seek(&mut self, to: SeekFrom) -> Result<u64, Error>
         // One request is made. Fetched bytes are counted anew, or stay counted if it is refused.
-        ensures seeks { Seeks (MayRefuseSeek S.remaining S.references S.refuses_seek to)
-            (port_state S.remaining S.references self.old) result
-            (port_state S.remaining S.references self.new) }
+        ensures seeks { Seeks (MayRefuseSeek S.stream S.refuses_seek to)
+            (source_state S.stream self.old) result (source_state S.stream self.new) }
         // If the stream tells its position, that becomes the answer, or stays if the seek is
         // refused. If it tells its bytes too, the answer is the place meant.
         ensures moves { SeekMoves (S.position (port_stream self.old))
@@ -330,9 +313,8 @@ impl<S: SeekSource> Port<S> {
     /// `OutOfMemory` if the stream refuses with that kind, else `Stream` with its kind.
     pub fn position(&mut self) -> Result<u64, Error>
         // One request is made, and no byte is fetched or sent, whether it is refused or not.
-        ensures places { Places (MayRefuseSeek S.remaining S.references S.refuses_seek (Current (pos 0)))
-            (port_state S.remaining S.references self.old) result
-            (port_state S.remaining S.references self.new) }
+        ensures places { Places (MayRefuseSeek S.stream S.refuses_seek (Current (pos 0)))
+            (source_state S.stream self.old) result (source_state S.stream self.new) }
         // A position that the stream tells stays the same.
         ensures stays { StaysAt (S.position (port_stream self.old)) (S.position (port_stream self.new)) }
         // If it succeeds, the answer is the position that the stream tells, if it tells one.

@@ -1,16 +1,16 @@
 -- Bytes in memory refuse a read at their end alone, and tell their rest; a seek within range they never refuse.
-use Rattle.std.proofs.Common.{◌≡◌, ℕ, ℤ, pos, ◌+ℤ◌, ◌^◌, ◌<◌, [], length, drop, Some, refl, sym, ap, subst, arith, w64}
+use Rattle.std.proofs.Common.{◌≡◌, ℕ, ℤ, pos, ◌+ℤ◌, ◌^◌, ◌<◌, length, drop, Some, refl, sym, ap, subst, arith, w64}
 use Rattle.std.proofs.lemmas.Int.{ints}
 use Rattle.std.specs.Int.{FitsUnsigned}
 use Rattle.std.specs.declared.io.traits.SeekFrom.{SeekFrom}
 use Rattle.std.specs.declared.io.traits.SeekFrom.TheVariants.{Start, End, Current}
-use Rattle.bitstream_order.specs.Refusal.{MayRefuse, TrueEnds}
-use Rattle.bitstream_order.specs.Streaming.Slice.{byte_meant, slice_bytes, slice_place, slice_remaining, slice_refuses}
+use Rattle.bitstream_order.specs.Refusal.{MayRefuseRead, TrueEnds}
+use Rattle.bitstream_order.specs.Streaming.Slice.{byte_meant, slice_bytes, slice_place, slice_remaining, slice_stream}
 use Rattle.bitstream_order.specs.declared.streams.slice.Slice.{Slice}
 use Rattle.bitstream_order.proofs.Streaming.FaultLemmas.{ends_true}
 use Rattle.bitstream_order.proofs.Streaming.TailLemmas.{behind_place}
 
-pub slice_ends : TrueEnds (MayRefuse slice_remaining (λ _. []) slice_refuses)
+pub slice_ends : TrueEnds (MayRefuseRead slice_stream)
 slice_ends = ends_true (λ before after wanted kind refused. (before.bytes.now, refl, refused.0, refused.1))
 
 -- the bytes left are those behind the place

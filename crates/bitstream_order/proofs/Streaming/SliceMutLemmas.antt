@@ -1,9 +1,8 @@
 -- Bytes in memory refuse a write for want of room alone.
-use Rattle.std.proofs.Common.{[], ◌∷◌}
-use Rattle.bitstream_order.specs.Refusal.{MayRefuse, AllLackRoom}
-use Rattle.bitstream_order.specs.Streaming.SliceMut.{slice_capacity, slice_reference, slice_refuses_write, written_bytes, written_contents}
+use Rattle.bitstream_order.specs.Refusal.{MayRefuseWrite, AllLackRoom}
+use Rattle.bitstream_order.specs.Streaming.SliceMut.{slice_capacity, slice_mut_stream, written_bytes}
 
-pub slice_lacks_room : AllLackRoom (MayRefuse written_contents (λ s. slice_reference s ∷ []) slice_refuses_write)
+pub slice_lacks_room : AllLackRoom (MayRefuseWrite slice_mut_stream)
 slice_lacks_room refusal h = record {
   held = written_bytes h.old;
   most = slice_capacity h.old;

@@ -1,9 +1,10 @@
 -- How a vector of bytes is written.
-use Rattle.std.specs.Prelude.{◌≡◌, ℕ, ◌+◌, ◌<◌, ◌++◌, List, length, Option, Some, Result, Ok, Err, vec_capacity, vec_len}
+use Rattle.std.specs.Prelude.{◌≡◌, ℕ, ◌+◌, ◌<◌, ◌++◌, List, [], length, Option, Some, Result, Ok, Err, vec_capacity, vec_len}
 use Rattle.std.specs.declared.alloc.AllocError.{AllocError}
 use Rattle.std.specs.declared.io.ErrorKind.{ErrorKind}
 use Rattle.std.specs.declared.io.ErrorKind.TheVariants.{OutOfMemory}
 use Rattle.std.specs.declared.vec.Vec.{Vec}
+use Rattle.bitstream_order.specs.Streams.{OutputStream}
 use Rattle.bitstream_order.specs.declared.streams.growing.Growing.{Growing}
 
 -- the bytes that were written
@@ -26,6 +27,15 @@ pub record GrowthRefused {A : Type 0} (before : Growing A) (wanted : ℕ) (kind 
   pub some : 0 < wanted
   pub full : growing_capacity before < length (growing_bytes before) + wanted
   pub same : growing_bytes after ≡ growing_bytes before
+
+-- what a vector tells as a target: its bytes, and that a flush changes nothing
+abbrev pub growing_stream : {A : Type 0} → OutputStream (Growing A)
+growing_stream = record {
+  contents = growing_contents;
+  references = λ _. [];
+  refuses = GrowthRefused;
+  flushes = λ before after. after ≡ before;
+}
 
 -- Bytes were put behind those of a vector, or it has no memory left for them and keeps its own.
 abbrev pub IsExtended : {A : Type 0} → Vec ℕ A → List ℕ → Result (Unit {0}) AllocError → Vec ℕ A → Type 0

@@ -1,10 +1,11 @@
 -- How bytes in memory are read, and their places.
-use Rattle.std.specs.Prelude.{◌≡◌, ℕ, ℤ, pos, ◌+◌, ◌-◌, ◌<◌, ◌+ℤ◌, List, length, Option, Some}
+use Rattle.std.specs.Prelude.{◌≡◌, ℕ, ℤ, pos, ◌+◌, ◌-◌, ◌<◌, ◌+ℤ◌, List, [], length, Option, Some}
 use Rattle.std.specs.Int.{FitsUnsigned, w64}
 use Rattle.std.specs.declared.io.ErrorKind.{ErrorKind}
 use Rattle.std.specs.declared.io.ErrorKind.TheVariants.{UnexpectedEof, InvalidInput}
 use Rattle.std.specs.declared.io.traits.SeekFrom.{SeekFrom}
 use Rattle.std.specs.declared.io.traits.SeekFrom.TheVariants.{Start, End, Current}
+use Rattle.bitstream_order.specs.Streams.{InputStream}
 use Rattle.bitstream_order.specs.declared.streams.slice.Slice.{Slice}
 
 -- the bytes left
@@ -28,6 +29,15 @@ slice_refuses before wanted kind after = (kind ≡ UnexpectedEof) × (length bef
 abbrev pub slice_takes : Slice → ℕ → Slice → Type 0
 slice_takes before count after = (slice_bytes after ≡ slice_bytes before)
     × (slice_place after ≡ slice_place before + count)
+
+-- what bytes in memory tell as a source
+abbrev pub slice_stream : InputStream Slice
+slice_stream = record {
+  remaining = slice_remaining;
+  references = λ _. [];
+  refuses = slice_refuses;
+  takes = slice_takes;
+}
 
 -- the byte that is meant, of bytes of this length that stand at this place
 abbrev pub byte_meant : ℕ → ℕ → SeekFrom → ℤ

@@ -1,9 +1,10 @@
 -- How bytes in memory are written.
-use Rattle.std.specs.Prelude.{◌≡◌, ℕ, ◌+◌, ◌<◌, List, length, take, Option, Some}
+use Rattle.std.specs.Prelude.{◌≡◌, ℕ, ◌+◌, ◌<◌, List, [], ◌∷◌, length, take, Option, Some}
 use Rattle.std.specs.Borrow.{GName}
 use Rattle.std.specs.declared.io.ErrorKind.{ErrorKind}
 use Rattle.std.specs.declared.io.ErrorKind.TheVariants.{WriteZero}
 use Rattle.bitstream_order.specs.Reference.{Reference, to_slice}
+use Rattle.bitstream_order.specs.Streams.{OutputStream}
 use Rattle.bitstream_order.specs.declared.streams.slice_mut.SliceMut.{SliceMut}
 
 -- the bytes that were written
@@ -30,3 +31,12 @@ slice_reference s = to_slice (slice_name s) (slice_capacity s)
 abbrev pub slice_refuses_write : SliceMut → ℕ → ErrorKind → SliceMut → Type 0
 slice_refuses_write before wanted kind after = (kind ≡ WriteZero)
     × (slice_capacity before < length (written_bytes before) + wanted) × (after ≡ before)
+
+-- what bytes in memory tell as a target: a flush changes nothing
+abbrev pub slice_mut_stream : OutputStream SliceMut
+slice_mut_stream = record {
+  contents = written_contents;
+  references = λ target. slice_reference target ∷ [];
+  refuses = slice_refuses_write;
+  flushes = λ before after. after ≡ before;
+}

@@ -1,7 +1,7 @@
 //! Takes words from the bytes of a stream.
 ghost use Rattle.std.specs.Prelude.{◌≡◌, ℕ, ◌+◌, ◌^◌, ◌<◌, ◌≤◌};
-ghost use Rattle.bitstream_order.specs.Refusal.{MayRefuse};
-ghost use Rattle.bitstream_order.specs.Port.{port_state, requests_count};
+ghost use Rattle.bitstream_order.specs.Refusal.{MayRefuseRead};
+ghost use Rattle.bitstream_order.specs.Port.{source_state, requests_count};
 ghost use Rattle.bitstream_order.specs.Moving.Gather.{TakesBits, unused, seen};
 
 use crate::order::Endianness;
@@ -38,9 +38,9 @@ pub fn take_bits<S: Source, E: Endianness, U: UnsignedInteger>(
     requires room { done + n ≤ U.BITS_SIZE }
     // The next n bits of the stream follow the `done` bits, and those left of the last byte are
     // answered beside. Or the request is refused.
-    ensures takes { TakesBits (MayRefuse S.remaining S.references S.refuses) E.order done (U.value acc) n
-        (port_state S.remaining S.references port.old) (seen (λ p. (U.value p.0, p.1)) result)
-        (port_state S.remaining S.references port.new) }
+    ensures takes { TakesBits (MayRefuseRead S.stream) E.order done (U.value acc) n
+        (source_state S.stream port.old) (seen (λ p. (U.value p.0, p.1)) result)
+        (source_state S.stream port.new) }
     // Exactly one request is made, whether it is refused or not.
     ensures requests { requests_count port.new ≡ requests_count port.old + 1 }
 {

@@ -1,8 +1,8 @@
 //! Sends words to a stream.
 ghost use Rattle.std.specs.Prelude.{◌≡◌, ℕ, ◌+◌, ◌^◌, ◌<◌, ◌≤◌, IfOk};
-ghost use Rattle.bitstream_order.specs.Refusal.{MayRefuse};
+ghost use Rattle.bitstream_order.specs.Refusal.{MayRefuseWrite};
 ghost use Rattle.bitstream_number.specs.Word.{word};
-ghost use Rattle.bitstream_order.specs.Port.{port_state, requests_count};
+ghost use Rattle.bitstream_order.specs.Port.{target_state, requests_count};
 ghost use Rattle.bitstream_order.specs.Moving.Send.{SendsFront};
 
 use crate::order::Endianness;
@@ -30,10 +30,9 @@ pub fn send_front<T: Target, E: Endianness, U: UnsignedInteger>(
     requires full { 8 ≤ queued + n }
     requires room { n ≤ U.BITS_SIZE }
     // The queue and as many first bits of the word as answered are sent, or the request is refused.
-    ensures sends { SendsFront (MayRefuse T.contents T.references T.refuses) E.order
+    ensures sends { SendsFront (MayRefuseWrite T.stream) E.order
         (word E.order queued queue) (word E.order n (U.value value))
-        (port_state T.contents T.references port.old) result
-        (port_state T.contents T.references port.new) }
+        (target_state T.stream port.old) result (target_state T.stream port.new) }
     // If it succeeds, the answer is at most n.
     ensures within { IfOk result (λ done. done ≤ n) }
     // If it succeeds, fewer than 8 of the n bits are left.

@@ -2,8 +2,8 @@
 ghost use Rattle.std.specs.Prelude.{◌≡◌, ◌+◌, ◌-◌, ◌<◌, ◌≤◌, IfOk, IfSome, OnOk};
 ghost use Rattle.bitstream_number.specs.Word.{word};
 ghost use Rattle.bitstream_order.specs.Parts.{first_part};
-ghost use Rattle.bitstream_order.specs.Refusal.{MayRefuse};
-ghost use Rattle.bitstream_order.specs.Port.{port_state, fetched_count, requests_count};
+ghost use Rattle.bitstream_order.specs.Refusal.{MayRefuseRead};
+ghost use Rattle.bitstream_order.specs.Port.{source_state, fetched_count, requests_count};
 ghost use Rattle.bitstream_order.specs.Moving.TakeUnary.{FetchesByte, TakesUnary};
 
 use crate::ghosts::GhostCount;
@@ -19,9 +19,8 @@ use bitstream_count::error::Error;
 /// As [`Port::fetch`]. No byte is fetched then.
 #[inline(always)]
 fn fetch_byte<S: Source>(port: &mut Port<S>) -> Result<u8, Error>
-    ensures { FetchesByte (MayRefuse S.remaining S.references S.refuses)
-        (port_state S.remaining S.references port.old) result
-        (port_state S.remaining S.references port.new) }
+    ensures { FetchesByte (MayRefuseRead S.stream) (source_state S.stream port.old) result
+        (source_state S.stream port.new) }
 {
     let mut byte = [0u8; 1];
     port.fetch(&mut byte)?;
@@ -57,10 +56,9 @@ pub fn take_unary<S: Source, E: Endianness>(
     requires { queued < 8 }
     // The queued bits and then those fetched are the unary word and the bits left. Or the run is
     // too long, or a request is refused.
-    ensures takes { TakesUnary (MayRefuse S.remaining S.references S.refuses) E.order stop
+    ensures takes { TakesUnary (MayRefuseRead S.stream) E.order stop
         (word E.order queued (first_part E.order queue 8 queued))
-        (port_state S.remaining S.references port.old) result
-        (port_state S.remaining S.references port.new) }
+        (source_state S.stream port.old) result (source_state S.stream port.new) }
     // If a word was taken, fewer than 8 bits are left behind it.
     ensures few { IfOk result (λ answer. IfSome answer (λ run. run.queued < 8)) }
     // Unless a request is refused, it takes one turn more than it fetches bytes.

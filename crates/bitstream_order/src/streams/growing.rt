@@ -90,15 +90,9 @@ fn extend<A: Allocator>(vec: &mut Vec<u8, A>, bytes: &[u8]) -> Result<(), AllocE
 }
 
 impl<A: Allocator> Target for Growing<A> {
-    ghost use Rattle.bitstream_order.specs.Streaming.Growing.{growing_contents, GrowthRefused};
+    ghost use Rattle.bitstream_order.specs.Streaming.Growing.{growing_stream};
 
-    ghost contents = { growing_contents };
-
-    ghost references = { λ _. [] };
-
-    ghost refuses = { GrowthRefused };
-
-    ghost flushes = { λ before after. after ≡ before };
+    ghost stream = { growing_stream };
 
     #[inline(always)]
     fn write_all(&mut self, bytes: &[u8]) -> io::Result<()> {

@@ -35,7 +35,7 @@ pub trait SeekSource: Source {
         // All bytes of the source stay the same, if it tells them.
         ensures bytes { Keeps (bytes self.old) (bytes self.new) }
         // The source is reached by the same references as before.
-        ensures references { Self.references self.new ≡ Self.references self.old }
+        ensures references { Self.stream.references self.new ≡ Self.stream.references self.old }
         // An error is one by which the source says that it may refuse this seek.
         ensures refused { IfErr result (λ e. refuses_seek self.old to (error_kind e) self.new) };
 }

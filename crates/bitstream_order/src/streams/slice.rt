@@ -100,15 +100,9 @@ impl<'a> Slice<'a> {
 }
 
 impl<'a> Source for Slice<'a> {
-    ghost use Rattle.bitstream_order.specs.Streaming.Slice.{slice_remaining, slice_refuses, slice_takes};
+    ghost use Rattle.bitstream_order.specs.Streaming.Slice.{slice_stream};
 
-    ghost remaining = { slice_remaining };
-
-    ghost references = { λ _. [] };
-
-    ghost refuses = { slice_refuses };
-
-    ghost takes = { slice_takes };
+    ghost stream = { slice_stream };
 
     #[inline(always)]
     fn read_exact(&mut self, buf: &mut [u8]) -> io::Result<()> {

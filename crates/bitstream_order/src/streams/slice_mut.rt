@@ -1,5 +1,5 @@
 //! Bytes in memory, as a target that refuses a write only if it has no room for it.
-ghost use Rattle.std.specs.Prelude.{◌≡◌, ◌∷◌, ◌-◌, ◌≤◌, [], length};
+ghost use Rattle.std.specs.Prelude.{◌≡◌, ◌-◌, ◌≤◌, [], length};
 
 use crate::kernels::copy::copy;
 use crate::streams::target::Target;
@@ -63,15 +63,9 @@ impl<'a> SliceMut<'a> {
 }
 
 impl<'a> Target for SliceMut<'a> {
-    ghost use Rattle.bitstream_order.specs.Streaming.SliceMut.{slice_reference, slice_refuses_write, written_contents};
+    ghost use Rattle.bitstream_order.specs.Streaming.SliceMut.{slice_mut_stream};
 
-    ghost contents = { written_contents };
-
-    ghost references = { λ target. slice_reference target ∷ [] };
-
-    ghost refuses = { slice_refuses_write };
-
-    ghost flushes = { λ before after. after ≡ before };
+    ghost stream = { slice_mut_stream };
 
     #[inline(always)]
     fn write_all(&mut self, bytes: &[u8]) -> io::Result<()> {

@@ -1,9 +1,9 @@
 //! Sources of bytes.
-ghost use Rattle.std.specs.Prelude.{◌≡◌, ◌≤◌, ℕ, List, [], ◌∷◌, IfErr, OnOk, Option, length, take};
-ghost use Rattle.bitstream_order.specs.Reference.{Reference, by_name};
+ghost use Rattle.std.specs.Prelude.{◌≡◌, ◌≤◌, [], IfErr, OnOk, length, take};
+ghost use Rattle.bitstream_order.specs.Streaming.Lent.{lent_input};
+ghost use Rattle.bitstream_order.specs.Streams.{InputStream};
 ghost use Rattle.std.specs.Io.KnownBytes.{Consumes};
 ghost use Rattle.std.specs.IoError.{error_kind};
-ghost use Rattle.std.specs.declared.io.ErrorKind.{ErrorKind};
 
 use crate::streams::lent::Lent;
 use std::io;
@@ -11,18 +11,10 @@ use std::io::Read;
 
 /// A source of bytes: any `Read`, or a source that is [`Lent`].
 pub trait Source {
-    // The bytes left, if the source tells them.
-    ghost remaining: { Self → Option (List ℕ) };
-
-    // The references through which the source is reached. A request keeps them.
-    ghost references: { Self → List Reference };
-
-    // How a request for a number of bytes may be refused, and with which kind. Of a `Read` std
-    // tells nothing.
-    ghost refuses: { Self → ℕ → ErrorKind → Self → Type 0 };
-
-    // What a request that took a number of bytes did besides. Of a `Read` std tells nothing.
-    ghost takes: { Self → ℕ → Self → Type 0 };
+    // What the source tells: the bytes left, if it tells them; the references through which it is
+    // reached, which a request keeps; how it may refuse a request, and with which kind; and what a
+    // request that took bytes did besides. Of a `Read` std tells neither of the last two.
+    ghost stream: { InputStream Self };
 
     /// Fills the whole buffer by one request.
     ///
@@ -32,14 +24,14 @@ pub trait Source {
     /// took then.
     fn read_exact(&mut self, buf: &mut [u8]) -> io::Result<()>
         // If it succeeds, the buffer has taken the next bytes, if the source tells what is left.
-        ensures bytes { OnOk result (Consumes (remaining self.old) (remaining self.new) buf.new) }
+        ensures bytes { OnOk result (Consumes (stream.remaining self.old) (stream.remaining self.new) buf.new) }
         // If it succeeds, it did what the source says of a request that takes so many bytes.
-        ensures takes { OnOk result (takes self.old (length buf.old) self.new) }
+        ensures takes { OnOk result (stream.takes self.old (length buf.old) self.new) }
         // The source is reached by the same references as before.
-        ensures references { references self.new ≡ references self.old }
+        ensures references { stream.references self.new ≡ stream.references self.old }
         // An error is one by which the source says that it may refuse a request for so many bytes.
         ensures refused { IfErr result
-            (λ e. refuses self.old (length buf.old) (error_kind e) self.new) };
+            (λ e. stream.refuses self.old (length buf.old) (error_kind e) self.new) };
 
     /// Fills the first `count` bytes of the buffer, which has as many or more, by one request, for these
     /// bytes alone. The rest of the buffer is unspecified: a source in memory may fill it too, since a
@@ -55,28 +47,27 @@ pub trait Source {
         // If it succeeds, the buffer's front has taken the next `count` bytes, if the source tells
         // what is left.
         ensures bytes { OnOk result
-            (Consumes (remaining self.old) (remaining self.new) (take count buf.new)) }
+            (Consumes (stream.remaining self.old) (stream.remaining self.new) (take count buf.new)) }
         // The buffer keeps its length.
         ensures len { length buf.new ≡ length buf.old }
         // If it succeeds, it did what the source says of a request that takes so many bytes.
-        ensures takes { OnOk result (takes self.old count self.new) }
+        ensures takes { OnOk result (stream.takes self.old count self.new) }
         // The source is reached by the same references as before.
-        ensures references { references self.new ≡ references self.old }
+        ensures references { stream.references self.new ≡ stream.references self.old }
         // An error is one by which the source says that it may refuse a request for so many bytes.
-        ensures refused { IfErr result (λ e. refuses self.old count (error_kind e) self.new) }
+        ensures refused { IfErr result (λ e. stream.refuses self.old count (error_kind e) self.new) }
     {
         self.read_exact(&mut buf[..count])
     }
 }
 
 impl<R: Read> Source for R {
-    ghost remaining = { λ r. R.remaining r };
-
-    ghost references = { λ _. [] };
-
-    ghost refuses = { λ _ _ _ _. Unit {0} };
-
-    ghost takes = { λ _ _ _. Unit {0} };
+    ghost stream = { record {
+      remaining = λ r. R.remaining r;
+      references = λ _. [];
+      refuses = λ _ _ _ _. Unit {0};
+      takes = λ _ _ _. Unit {0};
+    } };
 
     #[inline(always)]
     fn read_exact(&mut self, buf: &mut [u8]) -> io::Result<()> {
@@ -85,14 +76,7 @@ impl<R: Read> Source for R {
 }
 
 impl<'a, S: Source> Source for Lent<'a, S> {
-    ghost remaining = { λ lent. S.remaining lent.at.now };
-
-    ghost references = { λ lent. by_name lent.at.ghost_name ∷ S.references lent.at.now };
-
-    ghost refuses = { λ before wanted kind after.
-        S.refuses before.at.now wanted kind after.at.now };
-
-    ghost takes = { λ before count after. S.takes before.at.now count after.at.now };
+    ghost stream = { lent_input S.stream };
 
     #[inline(always)]
     fn read_exact(&mut self, buf: &mut [u8]) -> io::Result<()> {

@@ -1,5 +1,5 @@
 use Rattle.std.proofs.Common.{rules, arith, ◌≡◌, ◌+◌, ◌^◌, ◌≤◌, refl}
-use Rattle.bitstream_order.specs.Port.{port_state}
+use Rattle.bitstream_order.specs.Port.{source_state}
 use Rattle.bitstream_order.proofs.Moving.LeadLemmas.{between_none, byte_waits, lead_of_byte, all_others, lead_ends, lead_long, lead_refused}
 use Rattle.bitstream_order.proofs.kernels.unary.take_unary.Goals as goal
 
@@ -32,7 +32,7 @@ returns-in_err-byte-clause-takes g c =
     lead_refused _ g.E.Endianness.order c.args.stop _ _ _ _ c.from_residual.result c.from_residual.ensures.1 (record {
       count = c.loop-byte.count;
       few = c.loop-byte.invariant.small;
-      mid = port_state g.S.Source.remaining g.S.Source.references c.loop-byte.port;
+      mid = source_state g.S.Source.stream c.loop-byte.port;
       takes = c.loop-byte.invariant.takes;
       refused = c.in_err-byte.ensures;
     })

@@ -1,7 +1,7 @@
 use Rattle.std.proofs.Common.{◌≡◌, ◌+◌, ◌-◌, ◌^◌, ◌<◌, ◌≤◌, [], not, replicate}
 use Rattle.bitstream_number.specs.Word.{word}
 use Rattle.bitstream_order.specs.Parts.{first_part}
-use Rattle.bitstream_order.specs.Port.{port_state, fetched_count}
+use Rattle.bitstream_order.specs.Port.{source_state, fetched_count}
 use Rattle.bitstream_order.specs.Moving.TakeUnary.{TakesBetween}
 use Rattle.bitstream_order.proofs.kernels.unary.take_unary.Given as goal
 
@@ -10,8 +10,8 @@ use Rattle.bitstream_order.proofs.kernels.unary.take_unary.Given as goal
 abbrev pub invariant-loop-byte : goal.invariant-loop-byte
 invariant-loop-byte g l =
     let o = g.E.Endianness.order in
-    let first = port_state g.S.Source.remaining g.S.Source.references l.fn.port in
-    let now = port_state g.S.Source.remaining g.S.Source.references l.port in
+    let first = source_state g.S.Source.stream l.fn.port in
+    let now = source_state g.S.Source.stream l.port in
     record {
       small : l.count < 2 ^ 32;
       takes : TakesBetween o (word o l.queued (first_part o l.queue 8 l.queued)) first (replicate l.count (not l.stop))

@@ -1,13 +1,7 @@
 use Rattle.std.specs.IoError.{error_kind}
-use Rattle.bitstream_order.specs.Reference.{capacity_of}
+use Rattle.bitstream_order.specs.Refusal.{refused_read}
 use Rattle.bitstream_order.proofs.port.Port.seek.Given as goal
 
 abbrev pub ghost-record_refused_read : goal.ghost-record_refused_read
-ghost-record_refused_read g a = record {
-  kind = error_kind a._error.now;
-  wanted = a._wanted;
-  capacity = capacity_of (g.S.Source.references a._before.now.value);
-  before =
-      g.S.Source.remaining a._before.now.value;
-  after = g.S.Source.remaining a._after.now;
-}
+ghost-record_refused_read g a =
+    refused_read g.S.Source.stream a._before.now.value a._wanted (error_kind a._error.now) a._after.now
