@@ -20,6 +20,7 @@ pub use Rattle.bitstream_order.specs.Moving.Gather
 pub use Rattle.bitstream_order.specs.Moving.TakeUnary
 pub use Rattle.bitstream_order.specs.Fault
 pub use Rattle.bitstream_order.specs.Streaming.Growing
+pub use Rattle.bitstream_order.specs.Streaming.Lent
 pub use Rattle.bitstream_order.specs.Parts
 pub use Rattle.bitstream_order.specs.Moving.Pieces
 pub use Rattle.bitstream_order.specs.Moving.Send
@@ -29,6 +30,7 @@ pub use Rattle.bitstream_order.specs.Reference
 pub use Rattle.bitstream_order.specs.Refusal
 pub use Rattle.bitstream_order.specs.Streaming.Slice
 pub use Rattle.bitstream_order.specs.Streaming.SliceMut
+pub use Rattle.bitstream_order.specs.Streams
 pub use Rattle.bitstream_stream.specs.Alignment
 pub use Rattle.bitstream_stream.specs.WholeBytes.ByteReader
 pub use Rattle.bitstream_stream.specs.WholeBytes.ByteReads

@@ -143,9 +143,9 @@ pub mod laws {
     pub use bitstream_sink::recorder::laws::{recorders_lack_memory, recordings_grow};
     pub use bitstream_stream::laws::{
         bytes_are_numbers, dropped_queues_are_alignments, ends_are_known, enough_bits_are_known,
-        known_lengths_are_enough, memory_ends, memory_tells_its_rest, rooms_are_known, rooms_of_bytes_are_known, slices_end,
-        slices_lack_room, slices_refuse_no_seek, slices_tell_their_rest, slices_tell_their_room,
-        vectors_lack_memory, words_join,
+        known_lengths_are_enough, memory_ends, memory_tells_its_rest, rooms_are_known,
+        rooms_of_bytes_are_known, slices_end, slices_lack_room, slices_refuse_no_seek,
+        slices_tell_their_rest, slices_tell_their_room, vectors_lack_memory, words_join,
     };
     pub use bitstream_value::laws::{
         bits_are_those_appended, bits_using_a_context_are_those_appended,

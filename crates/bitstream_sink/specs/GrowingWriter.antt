@@ -1,7 +1,7 @@
 -- A writer over a vector of bytes.
-use Rattle.std.specs.Prelude.{◌≡◌, ℕ, List, [], length}
+use Rattle.std.specs.Prelude.{◌≡◌, ℕ, List, length}
 use Rattle.bitstream_number.specs.Word.{Order}
-use Rattle.bitstream_order.specs.Streaming.Growing.{growing_bytes, growing_contents, GrowthRefused}
+use Rattle.bitstream_order.specs.Streaming.Growing.{growing_bytes, growing_stream}
 use Rattle.bitstream_order.specs.declared.streams.growing.Growing.{Growing}
 use Rattle.bitstream_stream.specs.Writing.Carries.{WriterState}
 use Rattle.bitstream_stream.specs.Writing.Sink.{Sink}
@@ -15,11 +15,11 @@ written_bytes writer = growing_bytes (writer_stream writer)
 
 -- what such a writer tells of its state
 abbrev pub growing_state : {A E : Type 0} → BitWriter (Growing A) E → WriterState
-growing_state = writer_state growing_contents (λ _. [])
+growing_state = writer_state growing_stream
 
 -- such a writer as a sink
 abbrev pub growing_sink : {A E : Type 0} → Order → Sink (BitWriter (Growing A) E)
-growing_sink = writer_sink growing_contents GrowthRefused (λ _. [])
+growing_sink = writer_sink growing_stream
 
 -- the vector holds the bytes that were sent, and no others
 abbrev pub HoldsAll : {A E : Type 0} → BitWriter (Growing A) E → Type 0

@@ -53,7 +53,7 @@ impl<'a, E: Endianness> ByteReader<Slice<'a>, E> {
 }
 
 impl<'a, E: Endianness> BitWriter<SliceMut<'a>, E> {
-    ghost use Rattle.bitstream_order.specs.Streaming.SliceMut.{slice_reference, written_contents};
+    ghost use Rattle.bitstream_order.specs.Streaming.SliceMut.{slice_mut_stream};
     ghost use Rattle.bitstream_stream.specs.Writing.Writer.{writer_state, new_writer_state};
 
     /// Returns a writer to bytes in memory, from their front, as a [`SliceMut`].
@@ -72,7 +72,7 @@ impl<'a, E: Endianness> BitWriter<SliceMut<'a>, E> {
     /// assert_eq!(rt; packed.free(), 2);
     /// ```
     pub fn over(bytes: &'a mut [u8]) -> BitWriter<SliceMut<'a>, E>
-        ensures { writer_state written_contents (λ target. slice_reference target ∷ []) result
+        ensures { writer_state slice_mut_stream result
             ≡ new_writer_state (Some []) (to_slice bytes.entry.ghost_name (length bytes.old) ∷ []) }
     {
         BitWriter::new(SliceMut::new(bytes))
@@ -80,12 +80,12 @@ impl<'a, E: Endianness> BitWriter<SliceMut<'a>, E> {
 }
 
 impl<'a, E: Endianness> ByteWriter<SliceMut<'a>, E> {
-    ghost use Rattle.bitstream_order.specs.Streaming.SliceMut.{slice_reference, written_contents};
+    ghost use Rattle.bitstream_order.specs.Streaming.SliceMut.{slice_mut_stream};
     ghost use Rattle.bitstream_stream.specs.WholeBytes.ByteWriter.{byte_writer_state};
 
     /// Returns a writer of whole bytes to bytes in memory, from their front, as a [`SliceMut`].
     pub fn over(bytes: &'a mut [u8]) -> ByteWriter<SliceMut<'a>, E>
-        ensures { byte_writer_state written_contents (λ target. slice_reference target ∷ []) result
+        ensures { byte_writer_state slice_mut_stream result
             ≡ new_port_state (Some []) (to_slice bytes.entry.ghost_name (length bytes.old) ∷ []) }
     {
         ByteWriter::new(SliceMut::new(bytes))

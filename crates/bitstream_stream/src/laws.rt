@@ -10,7 +10,7 @@ ghost use Rattle.bitstream_count.specs.declared.error.Error.TheVariants.{OutOfMe
 ghost use Rattle.std.specs.declared.io.ErrorKind.TheVariants.{WriteZero};
 ghost use Rattle.bitstream_order.specs.Reference.{capacity_of};
 ghost use Rattle.bitstream_order.specs.Refusal.{Refusal, TrueEnds, AllLackRoom, MayRefuseSeek};
-ghost use Rattle.bitstream_order.specs.Streaming.Slice.{slice_bytes, slice_place, slice_remaining, slice_refuses_seek};
+ghost use Rattle.bitstream_order.specs.Streaming.Slice.{slice_bytes, slice_place, slice_refuses_seek, slice_stream};
 ghost use Rattle.bitstream_stream.specs.Reading.Enough.{IsDoneBy};
 ghost use Rattle.bitstream_stream.specs.Reading.MemorySeek.{memory_bytes};
 ghost use Rattle.bitstream_stream.specs.Reading.MemorySource.{memory_source};
@@ -129,7 +129,7 @@ pub fn rooms_are_known<W: Target, E: Endianness>()
         → AllLackRoom ⟦<BitWriter<W, E> as BitWrite>⟧.sink.may
         → ⟦<BitWriter<W, E> as BitWrite>⟧.sink.failed old ≡ false
         → AllAccepted entries (⟦<BitWriter<W, E> as BitWrite>⟧.sink.len old)
-        → HasRoom (writer_state W.contents W.references old)
+        → HasRoom (writer_state W.stream old)
         (length (write_run entries (⟦<BitWriter<W, E> as BitWrite>⟧.sink.len old)))
         → WritesAll ⟦<BitWriter<W, E> as BitWrite>⟧.sink entries old answer new → answer ≡ Ok tt }
 {}
@@ -165,12 +165,12 @@ pub fn vectors_lack_memory<E: Endianness, A: Allocator>()
 pub fn slices_tell_their_rest<E: Endianness>()
     ensures { TellsRest (reader_seeker ⟦<BitReader<Slice<'static>, E> as BitRead>⟧.source
         (λ slice. Some (slice_place slice)) (λ slice. Some (slice_bytes slice))
-        (MayRefuseSeek slice_remaining (λ _. []) slice_refuses_seek)) }
+        (MayRefuseSeek slice_stream slice_refuses_seek)) }
 {}
 
 /// A [`Slice`] refuses none of the seeks that a seek of a reader makes.
 pub fn slices_refuse_no_seek()
-    ensures { (refusal : Refusal) → MaySeek (MayRefuseSeek slice_remaining (λ _. []) slice_refuses_seek) refusal → ⊥ }
+    ensures { (refusal : Refusal) → MaySeek (MayRefuseSeek slice_stream slice_refuses_seek) refusal → ⊥ }
 {}
 
 /// A reader of bytes in memory is refused only at a true end.

@@ -17,7 +17,7 @@ use Rattle.bitstream_number.specs.Word.{Order, bits, word, number}
 use Rattle.bitstream_number.proofs.WordLemmas.{length-word, length-bits}
 use Rattle.bitstream_order.specs.Port.{PortState, Placed}
 use Rattle.bitstream_order.specs.Refusal.{Refusal, MayRefuseSeek}
-use Rattle.bitstream_order.specs.Streaming.Slice.{slice_bytes, slice_place, slice_remaining, slice_refuses_seek}
+use Rattle.bitstream_order.specs.Streaming.Slice.{slice_bytes, slice_place, slice_remaining, slice_refuses_seek, slice_stream}
 use Rattle.bitstream_order.proofs.Streaming.SliceLemmas.{IsNear, slice_in_range, slice_rest}
 use Rattle.bitstream_stream.specs.Reading.Place.{bit_meant, place_of}
 use Rattle.bitstream_stream.specs.Reading.Reader.{reader_state}
@@ -369,7 +369,7 @@ near_place (Start n) near = omega (arith, near)
 near_place (End d) near = near
 near_place (Current d) near = near
 
-pub slice_refuses_none : (refusal : Refusal) → MaySeek (MayRefuseSeek slice_remaining (λ _. []) slice_refuses_seek) refusal → ⊥
+pub slice_refuses_none : (refusal : Refusal) → MaySeek (MayRefuseSeek slice_stream slice_refuses_seek) refusal → ⊥
 slice_refuses_none refusal (to, near, may) = may.refused.1 (slice_in_range may.old to (near_place to near))
 
 pub slice_tells : (s : Slice) (at : ℕ) (xs : List ℕ) → Some (slice_place s) ≡ Some at → Some (slice_bytes s) ≡ Some xs

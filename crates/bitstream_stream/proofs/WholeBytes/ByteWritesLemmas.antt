@@ -9,7 +9,8 @@ use Rattle.bitstream_order.specs.Reference.{Reference, by_name, capacity_of}
 use Rattle.bitstream_count.specs.declared.error.Error.{Error}
 use Rattle.bitstream_number.specs.Word.{Order}
 use Rattle.bitstream_order.specs.Port.{Sends}
-use Rattle.bitstream_order.specs.Refusal.{MayRefuse}
+use Rattle.bitstream_order.specs.Refusal.{MayRefuseWrite}
+use Rattle.bitstream_order.specs.Streams.{OutputStream}
 use Rattle.bitstream_stream.specs.Writing.Sink.{IsPastLimit}
 use Rattle.bitstream_stream.specs.WholeBytes.ByteSink.{ByteSink, BytesAppended, ByteWriteRefused, ByteWrites, past_limit, was_refused, was_done, lent_byte_sink}
 use Rattle.bitstream_stream.specs.WholeBytes.ByteWriter.{byte_writer_state, byte_writer_sink}
@@ -90,19 +91,18 @@ module _ {S : Type 0} (K : ByteSink S) where
       t u h few)
 
 -- a request to send some bytes is a write of them
-pub bytes_sent : {W E : Type 0} (contents : W → Option (List ℕ)) (refuses : W → ℕ → ErrorKind → W
-    → Type 0) (references : W → List Reference) (o : Order) (x : List ℕ) (a b : ByteWriter W E)
+pub bytes_sent : {W E : Type 0} (O : OutputStream W) (o : Order) (x : List ℕ) (a b : ByteWriter W E)
     (r : Result (Unit {0}) Error) → 0 < length x
-    → Sends (MayRefuse contents references refuses) (byte_writer_state contents references a) x r
-    (byte_writer_state contents references b)
-    → ByteWrites (byte_writer_sink contents refuses references o) x a r b
-bytes_sent contents refuses references o x a b (Ok done) some h =
+    → Sends (MayRefuseWrite O) (byte_writer_state O a) x r
+    (byte_writer_state O b)
+    → ByteWrites (byte_writer_sink O o) x a r b
+bytes_sent O o x a b (Ok done) some h =
     was_done done tt refl (record {
       grown = record { grows = h.grows; sent = h.sent };
       refusals = h.refusals;
       references = h.references;
     })
-bytes_sent contents refuses references o x a b (Err e) some h = was_refused e tt refl (record {
+bytes_sent O o x a b (Err e) some h = was_refused e tt refl (record {
   refusal = h.refusal;
   allowed = h.allowed;
   answer = h.answer;
@@ -112,8 +112,8 @@ bytes_sent contents refuses references o x a b (Err e) some h = was_refused e tt
   some = some;
   asked = let same = h.wanted in omega arith;
   capacity = h.capacity;
-  before = subst (λ l. Appends (byte_writer_state contents references a).bytes l []) (sym h.before)
-      (Appends-nil (byte_writer_state contents references a).bytes);
+  before = subst (λ l. Appends (byte_writer_state O a).bytes l []) (sym h.before)
+      (Appends-nil (byte_writer_state O a).bytes);
   after = h.after;
   sent = let same = h.sent in omega arith;
   refusals = h.refusals;

@@ -7,8 +7,8 @@ use Rattle.bitstream_count.specs.Entry.{WriteEntry}
 use Rattle.bitstream_count.specs.declared.error.Error.{Error}
 use Rattle.std.specs.Borrow.{GName}
 use Rattle.bitstream_order.specs.Reference.{capacity_of, to_slice}
-use Rattle.bitstream_order.specs.Refusal.{Refusal, MayRefuse, AllLackRoom}
-use Rattle.bitstream_order.specs.Streaming.SliceMut.{slice_reference, slice_refuses_write, written_contents}
+use Rattle.bitstream_order.specs.Refusal.{Refusal, MayRefuseWrite, AllLackRoom}
+use Rattle.bitstream_order.specs.Streaming.SliceMut.{slice_mut_stream}
 use Rattle.bitstream_order.specs.declared.streams.slice_mut.SliceMut.{SliceMut}
 use Rattle.bitstream_order.proofs.Streaming.SliceMutLemmas.{slice_lacks_room}
 use Rattle.bitstream_stream.specs.Writing.Carries.{WriterState}
@@ -173,11 +173,11 @@ new_room s name len n fresh room = rw fresh (record {
 })
 
 module _ {E : Type 0} (o : Order) (es : List WriteEntry) (a : BitWriter SliceMut E) {name : GName} {len : ℕ}
-    (fresh : writer_state written_contents (λ target. slice_reference target ∷ []) a
+    (fresh : writer_state slice_mut_stream a
     ≡ new_writer_state (Some []) (to_slice name len ∷ [])) (all : AllAccepted es 0)
     (room : length (write_run (es ++ align ∷ []) 0) ≤ 8 * len) where
   abbrev slice_sink : Sink (BitWriter SliceMut E)
-  slice_sink = writer_sink written_contents slice_refuses_write (λ target. slice_reference target ∷ []) o
+  slice_sink = writer_sink slice_mut_stream o
 
   started : slice_sink.len a ≡ 0
   started = ap (λ (s : WriterState). 8 * s.port.sent + s.queued) fresh
@@ -185,10 +185,10 @@ module _ {E : Type 0} (o : Order) (es : List WriteEntry) (a : BitWriter SliceMut
   calls_done : (fs : List WriteEntry) (b : BitWriter SliceMut E) (r : Result (Unit {0}) Error) → AllAccepted fs 0
       → length (write_run fs 0) ≤ 8 * len → WritesAll slice_sink fs a r b → r ≡ Ok tt
   calls_done fs b r good few h =
-      room-all (writer_state written_contents (λ target. slice_reference target ∷ []))
-      (MayRefuse written_contents (λ target. slice_reference target ∷ []) slice_refuses_write) o fs a b r slice_lacks_room
+      room-all (writer_state slice_mut_stream)
+      (MayRefuseWrite slice_mut_stream) o fs a b r slice_lacks_room
       (ap (λ (s : WriterState). s.failed) fresh) (subst (AllAccepted fs) (sym started) good)
-      (subst (λ n. HasRoom (writer_state written_contents (λ target. slice_reference target ∷ []) a)
+      (subst (λ n. HasRoom (writer_state slice_mut_stream a)
       (length (write_run fs n))) (sym started) (new_room _ name len (length (write_run fs 0)) fresh few)) h
 
   -- accepted calls on a new writer, over bytes with room for them and for an alignment behind them, are done

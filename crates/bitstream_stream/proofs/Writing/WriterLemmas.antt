@@ -22,7 +22,7 @@ use Rattle.bitstream_stream.specs.Writing.Writer.{writer_state, AddsBits, queue_
 use Rattle.bitstream_stream.specs.Ways as flushes
 use Rattle.bitstream_stream.specs.Ways.{Flushes}
 use Rattle.bitstream_stream.specs.declared.write.writer.BitWriter.{BitWriter}
-use Rattle.bitstream_order.specs.Reference.{Reference}
+use Rattle.bitstream_order.specs.Streams.{OutputStream}
 
 -- a queue with a word behind it
 pub queue_small : (o : Order) (queued queue n v part q : ℕ) → queue < 2 ^ queued → part ≡ piece o n v 0 n → q
@@ -151,12 +151,12 @@ pushes_writes may o x e old (Ok done) new sound is h = was_done x done sound is 
 pushes_writes may o x e old (Err error) new sound is h = was_refused x error sound is tt refl h
 
 -- what an aligned writer added to its stream, from the first bit on
-pub adds_bits : {W E : Type 0} (contents : W → Option (List ℕ)) (references : W → List Reference) (o : Order)
-    (a b : BitWriter W E) (x : List Bool) → Carries o (writer_state contents references a) x
-    (writer_state contents references b) → a.queued ≡ 0
-    → (8 * (writer_state contents references b).port.sent + b.queued) % 8 ≡ 0
-    → AddsBits o (contents a.port.stream) x (contents b.port.stream)
-adds_bits contents references o a b x h none aligned =
+pub adds_bits : {W E : Type 0} (O : OutputStream W) (o : Order)
+    (a b : BitWriter W E) (x : List Bool) → Carries o (writer_state O a) x
+    (writer_state O b) → a.queued ≡ 0
+    → (8 * (writer_state O b).port.sent + b.queued) % 8 ≡ 0
+    → AddsBits o (O.contents a.port.stream) x (O.contents b.port.stream)
+adds_bits O o a b x h none aligned =
     let few : b.queued < 8 = b.few in
     let all : b.queued ≡ 0 = omega arith in
     record {

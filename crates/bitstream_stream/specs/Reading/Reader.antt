@@ -1,15 +1,15 @@
 -- What a reader's fields say.
 -- A source of bits is a record with its laws in it: so lemmas are imported.
 use Rattle.std.specs.Prelude.{◌≡◌, ℕ, ◌+◌, ◌-◌, ◌≤◌, Bool, false, List, [], Option, OnOk, Result}
-use Rattle.std.specs.declared.io.ErrorKind.{ErrorKind}
 use Rattle.std.proofs.Common.{ap, ◌∙◌}
 use Rattle.bitstream_order.specs.Reference.{Reference}
 use Rattle.bitstream_number.specs.Word.{Order, word}
 use Rattle.bitstream_number.proofs.WordLemmas.{length-word}
 use Rattle.bitstream_order.proofs.Moving.TakeLemmas.{word-none}
 use Rattle.bitstream_order.specs.Parts.{first_part}
-use Rattle.bitstream_order.specs.Port.{PortState, port_state, fetched_count, requests_count}
-use Rattle.bitstream_order.specs.Refusal.{MayRefuse}
+use Rattle.bitstream_order.specs.Port.{PortState, source_state, fetched_count, requests_count}
+use Rattle.bitstream_order.specs.Refusal.{MayRefuseRead}
+use Rattle.bitstream_order.specs.Streams.{InputStream}
 use Rattle.bitstream_order.specs.Moving.Pieces.{pieces}
 use Rattle.bitstream_count.specs.declared.error.Error.{Error}
 use Rattle.bitstream_stream.specs.declared.read.reader.BitReader.{BitReader}
@@ -32,13 +32,11 @@ abbrev pub queued_number : {R E : Type 0} → Order → BitReader R E → ℕ
 queued_number o r = first_part o r.queue 8 r.queued
 
 -- what the states of a reader mean
-abbrev pub reader_source : {R E : Type 0} → (R → Option (List ℕ)) → (R → ℕ → ErrorKind → R → Type 0) → (R → List Reference)
-    → Order → BitSource (BitReader R E)
-reader_source remaining refuses references o = record {
+abbrev pub reader_source : {R E : Type 0} → InputStream R → Order → BitSource (BitReader R E)
+reader_source I o = record {
   order = o;
-  state = λ r. reader_state o (port_state remaining references r.port) (queued_number o r) r.queued r.taken.count
-      r.failed;
-  may = MayRefuse remaining references refuses;
+  state = λ r. reader_state o (source_state I r.port) (queued_number o r) r.queued r.taken.count r.failed;
+  may = MayRefuseRead I;
   demands = λ r. r.whole;
   holds = λ r fine. ap (λ n. r.taken.count + n) (length-word o r.queued (queued_number o r)) ∙ r.back fine;
   empties = λ r failed. ap (λ n. word o n (queued_number o r)) (r.empty failed) ∙ word-none o (queued_number o r);

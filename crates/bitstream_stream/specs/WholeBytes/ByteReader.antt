@@ -1,14 +1,13 @@
 -- What the states of a `ByteReader` mean.
-use Rattle.std.specs.Prelude.{◌≡◌, ℕ, List, Option, Result, Ok, Err}
-use Rattle.std.specs.declared.io.ErrorKind.{ErrorKind}
+use Rattle.std.specs.Prelude.{◌≡◌, ℕ, Result, Ok, Err}
 use Rattle.std.specs.IoError.{error_kind}
 use Rattle.std.specs.declared.io.Error.{Error as IoError}
-use Rattle.bitstream_order.specs.Reference.{Reference}
 use Rattle.bitstream_number.specs.Word.{Order}
 use Rattle.bitstream_count.specs.Kind.{kind_of}
 use Rattle.bitstream_count.specs.declared.error.Error.{Error}
-use Rattle.bitstream_order.specs.Port.{PortState, SendRefused, Sought, port_state}
-use Rattle.bitstream_order.specs.Refusal.{MayRefuse, Refusal}
+use Rattle.bitstream_order.specs.Port.{PortState, SendRefused, Sought, source_state}
+use Rattle.bitstream_order.specs.Refusal.{MayRefuseRead, Refusal}
+use Rattle.bitstream_order.specs.Streams.{InputStream}
 use Rattle.bitstream_stream.specs.declared.bytes.byte_reader.ByteReader.{ByteReader}
 use Rattle.bitstream_stream.specs.WholeBytes.ByteReads.{ByteReaderState, ByteSource}
 
@@ -22,17 +21,16 @@ byte_reader_state port = record {
 }
 
 -- what the states of a reader of bytes mean
-abbrev pub byte_reader_source : {R E : Type 0} → (R → Option (List ℕ)) → (R → ℕ → ErrorKind → R → Type 0)
-    → (R → List Reference) → Order → ByteSource (ByteReader R E)
-byte_reader_source remaining refuses references o = record {
+abbrev pub byte_reader_source : {R E : Type 0} → InputStream R → Order → ByteSource (ByteReader R E)
+byte_reader_source I o = record {
   order = o;
-  state = λ r. byte_reader_state (port_state remaining references r.port);
-  may = MayRefuse remaining references refuses;
+  state = λ r. byte_reader_state (source_state I r.port);
+  may = MayRefuseRead I;
 }
 
 -- a reader, by what its stream tells
-abbrev pub byte_reader_port : {R E : Type 0} → (R → Option (List ℕ)) → (R → List Reference) → ByteReader R E → PortState
-byte_reader_port remaining references r = port_state remaining references r.port
+abbrev pub byte_reader_port : {R E : Type 0} → InputStream R → ByteReader R E → PortState
+byte_reader_port I r = source_state I r.port
 
 -- A seek by one request, from which on the fetched bytes are counted anew. If the stream refused it, the `io::Error` is
 -- of the kind of that refusal, and what was fetched stays counted.

@@ -1,14 +1,13 @@
 -- What the states of a `ByteWriter` mean.
 -- A sink of bytes is a record with its laws in it: so lemmas are imported.
-use Rattle.std.specs.Prelude.{◌≡◌, ℕ, ◌+◌, List, [], ◌++◌, length, Option, None}
-use Rattle.std.specs.declared.io.ErrorKind.{ErrorKind}
-use Rattle.bitstream_order.specs.Reference.{Reference}
+use Rattle.std.specs.Prelude.{◌≡◌, ℕ, ◌+◌, List, [], ◌++◌, length, None}
 use Rattle.std.specs.Io.KnownBytes.{Appends}
 use Rattle.std.proofs.Common.{sym, ap, ◌∙◌, add_assoc, add-zero, length-append}
 use Rattle.std.proofs.KnownBytes.{Appends-nil, Appends-trans}
 use Rattle.bitstream_number.specs.Word.{Order}
-use Rattle.bitstream_order.specs.Port.{PortState, port_state}
-use Rattle.bitstream_order.specs.Refusal.{MayRefuse}
+use Rattle.bitstream_order.specs.Port.{PortState, target_state}
+use Rattle.bitstream_order.specs.Refusal.{MayRefuseWrite}
+use Rattle.bitstream_order.specs.Streams.{OutputStream}
 use Rattle.bitstream_stream.specs.declared.bytes.byte_writer.ByteWriter.{ByteWriter}
 use Rattle.bitstream_stream.specs.WholeBytes.ByteSink.{ByteSink}
 
@@ -28,14 +27,13 @@ SentBytes-trans s t u x y p q = record {
 }
 
 -- a writer, by what its stream tells
-abbrev pub byte_writer_state : {W E : Type 0} → (W → Option (List ℕ)) → (W → List Reference) → ByteWriter W E → PortState
-byte_writer_state contents references w = port_state contents references w.port
+abbrev pub byte_writer_state : {W E : Type 0} → OutputStream W → ByteWriter W E → PortState
+byte_writer_state O w = target_state O w.port
 
 -- a writer as a sink of bytes
-abbrev pub byte_writer_sink : {W E : Type 0} → (W → Option (List ℕ)) → (W → ℕ → ErrorKind → W → Type 0)
-    → (W → List Reference) → Order → ByteSink (ByteWriter W E)
-byte_writer_sink {W} {E} contents refuses references o =
-    let state : ByteWriter W E → PortState = byte_writer_state contents references in
+abbrev pub byte_writer_sink : {W E : Type 0} → OutputStream W → Order → ByteSink (ByteWriter W E)
+byte_writer_sink {W} {E} O o =
+    let state : ByteWriter W E → PortState = byte_writer_state O in
     record {
       order = o;
       appends = λ a x b. SentBytes (state a) x (state b);
@@ -43,7 +41,7 @@ byte_writer_sink {W} {E} contents refuses references o =
       len = λ a. (state a).sent;
       limit = None;
       refusals = λ a. (state a).refusals;
-      may = MayRefuse contents references refuses;
+      may = MayRefuseWrite O;
       references = λ a. (state a).references;
       appends_nil = λ a. SentBytes-nil (state a);
       appends_trans = λ a b c x y p q. SentBytes-trans (state a) (state b) (state c) x y p q;

@@ -2,12 +2,12 @@
 -- A sink is a record with its laws in it: so lemmas are imported.
 use Rattle.std.specs.Prelude.{◌≡◌, ℕ, ◌+◌, ◌*◌, ◌≤◌, ◌<◌, Bool, false, List, Option, None, OnOk, Result, Ok, Err}
 use Rattle.bitstream_order.specs.Reference.{Reference}
-use Rattle.std.specs.declared.io.ErrorKind.{ErrorKind}
 use Rattle.std.specs.Io.KnownBytes.{Appends}
 use Rattle.bitstream_number.specs.Word.{Order, bits}
 use Rattle.bitstream_order.specs.Moving.Pieces.{pieces}
-use Rattle.bitstream_order.specs.Port.{port_state, new_port_state, requests_count}
-use Rattle.bitstream_order.specs.Refusal.{Refusal, MayRefuse}
+use Rattle.bitstream_order.specs.Port.{target_state, new_port_state, requests_count}
+use Rattle.bitstream_order.specs.Refusal.{Refusal, MayRefuseWrite}
+use Rattle.bitstream_order.specs.Streams.{OutputStream}
 use Rattle.bitstream_count.specs.declared.error.Error.{Error}
 use Rattle.bitstream_stream.specs.Writing.Carries.{WriterState, Carries, Fills}
 use Rattle.bitstream_stream.specs.Writing.CarriesLaws.{Carries-nil, Carries-trans, Fills-behind, Carries-len}
@@ -15,9 +15,9 @@ use Rattle.bitstream_stream.specs.Writing.Sink.{Sink, Appended, WriteRefused, in
 use Rattle.bitstream_stream.specs.declared.write.writer.BitWriter.{BitWriter}
 
 -- a writer, by what its stream tells
-abbrev pub writer_state : {W E : Type 0} → (W → Option (List ℕ)) → (W → List Reference) → BitWriter W E → WriterState
-writer_state contents references w = record {
-  port = port_state contents references w.port;
+abbrev pub writer_state : {W E : Type 0} → OutputStream W → BitWriter W E → WriterState
+writer_state O w = record {
+  port = target_state O w.port;
   queued = w.queued;
   queue = w.queue;
   failed = w.failed;
@@ -92,7 +92,5 @@ Pushes may o x old (Ok done) new = Appended (queue_sink may o) old x new
 Pushes may o x old (Err error) new = WriteRefused (queue_sink may o) old x error new
 
 -- a writer as a sink
-abbrev pub writer_sink : {W E : Type 0} → (W → Option (List ℕ)) → (W → ℕ → ErrorKind → W → Type 0) → (W → List Reference)
-    → Order → Sink (BitWriter W E)
-writer_sink contents refuses references o = inner_sink (writer_state contents references)
-    (queue_sink (MayRefuse contents references refuses) o)
+abbrev pub writer_sink : {W E : Type 0} → OutputStream W → Order → Sink (BitWriter W E)
+writer_sink O o = inner_sink (writer_state O) (queue_sink (MayRefuseWrite O) o)

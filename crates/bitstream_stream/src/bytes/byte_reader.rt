@@ -45,7 +45,7 @@ impl<R: Source, E: Endianness> ByteReader<R, E> {
     /// Returns a reader of a stream's bytes. No request is made yet.
     pub fn new(reader: R) -> ByteReader<R, E>
         ensures { ⟦<Self as ByteRead>⟧.source.state result
-            ≡ byte_reader_state (new_port_state (R.remaining reader) (R.references reader)) }
+            ≡ byte_reader_state (new_port_state (R.stream.remaining reader) (R.stream.references reader)) }
     {
         ByteReader {
             port: Port::new(reader),
@@ -58,7 +58,7 @@ impl<R: Source, E: Endianness> ByteReader<R, E> {
     where
         E: Drop,
         ensures { ⟦<Self as ByteRead>⟧.source.state result
-            ≡ byte_reader_state (new_port_state (R.remaining reader) (R.references reader)) }
+            ≡ byte_reader_state (new_port_state (R.stream.remaining reader) (R.stream.references reader)) }
     {
         ByteReader::new(reader)
     }
@@ -67,7 +67,7 @@ impl<R: Source, E: Endianness> ByteReader<R, E> {
 impl<R: Source, E: Endianness> ByteRead for ByteReader<R, E> {
     ghost use Rattle.bitstream_stream.specs.WholeBytes.ByteReader.{byte_reader_source};
 
-    ghost source = { byte_reader_source R.remaining R.refuses R.references E.order };
+    ghost source = { byte_reader_source R.stream E.order };
 
     #[inline(always)]
     fn read<V: Primitive>(&mut self) -> Result<V, Error> {
@@ -118,9 +118,8 @@ impl<R: SeekSource, E: Endianness> Seek for ByteReader<R, E> {
         // All bytes of the stream stay the same, if it tells them.
         ensures bytes { Keeps (R.bytes (byte_reader_stream self.old)) (R.bytes (byte_reader_stream self.new)) }
         // One request is made. Fetched bytes are counted anew, or the error has the refusal's kind.
-        ensures seeks { ByteSeeks (MayRefuseSeek R.remaining R.references R.refuses_seek to)
-            (byte_reader_port R.remaining R.references self.old) result
-            (byte_reader_port R.remaining R.references self.new) }
+        ensures seeks { ByteSeeks (MayRefuseSeek R.stream R.refuses_seek to)
+            (byte_reader_port R.stream self.old) result (byte_reader_port R.stream self.new) }
     {
         match self.port.seek(to) {
             Ok(at) => Ok(at),

@@ -36,8 +36,8 @@ impl<W: Target, E: Endianness> ByteWriter<W, E> {
 
     /// Returns a writer to a stream. No request is made yet.
     pub fn new(stream: W) -> ByteWriter<W, E>
-        ensures { byte_writer_state W.contents W.references result
-            ≡ new_port_state (W.contents stream) (W.references stream) }
+        ensures { byte_writer_state W.stream result
+            ≡ new_port_state (W.stream.contents stream) (W.stream.references stream) }
     {
         ByteWriter {
             port: Port::new(stream),
@@ -49,8 +49,8 @@ impl<W: Target, E: Endianness> ByteWriter<W, E> {
     pub fn endian(stream: W, _endian: E) -> ByteWriter<W, E>
     where
         E: Drop,
-        ensures { byte_writer_state W.contents W.references result
-            ≡ new_port_state (W.contents stream) (W.references stream) }
+        ensures { byte_writer_state W.stream result
+            ≡ new_port_state (W.stream.contents stream) (W.stream.references stream) }
     {
         ByteWriter::new(stream)
     }
@@ -59,7 +59,7 @@ impl<W: Target, E: Endianness> ByteWriter<W, E> {
 impl<W: Target, E: Endianness> ByteWrite for ByteWriter<W, E> {
     ghost use Rattle.bitstream_stream.specs.WholeBytes.ByteWriter.{byte_writer_sink};
 
-    ghost sink = { byte_writer_sink W.contents W.refuses W.references E.order };
+    ghost sink = { byte_writer_sink W.stream E.order };
 
     fn write<V: Primitive>(&mut self, value: V) -> Result<(), Error> {
         self.write_as::<E, V>(value)

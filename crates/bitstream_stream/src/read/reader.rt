@@ -70,7 +70,7 @@ impl<R: Source, E: Endianness> BitReader<R, E> {
     pub fn new(reader: R) -> BitReader<R, E>
         // Nothing is taken or queued yet, and the bytes left are the stream's, if it tells them.
         ensures state { ⟦<Self as BitRead>⟧.source.state result
-            ≡ new_reader_state (R.remaining reader) (R.references reader) }
+            ≡ new_reader_state (R.stream.remaining reader) (R.stream.references reader) }
         // No request was made yet.
         ensures requests { requests_made result ≡ 0 }
         // No turn was taken yet to read a unary number.
@@ -93,7 +93,7 @@ impl<R: Source, E: Endianness> BitReader<R, E> {
         E: Drop,
         // Nothing is taken or queued yet, and the bytes left are the stream's, if it tells them.
         ensures state { ⟦<Self as BitRead>⟧.source.state result
-            ≡ new_reader_state (R.remaining reader) (R.references reader) }
+            ≡ new_reader_state (R.stream.remaining reader) (R.stream.references reader) }
         // No request was made yet.
         ensures requests { requests_made result ≡ 0 }
         // No turn was taken yet to read a unary number.
@@ -340,7 +340,7 @@ impl<R: Source, E: Endianness> BitReader<R, E> {
 impl<R: Source, E: Endianness> BitRead for BitReader<R, E> {
     ghost use Rattle.bitstream_stream.specs.Reading.Reader.{reader_source, requests_made, AsksForBytes, AsksForWord, TurnsByBytes};
 
-    ghost source = { reader_source R.remaining R.refuses R.references E.order };
+    ghost source = { reader_source R.stream E.order };
 
     #[inline(always)]
     fn read_unsigned_counted<C: Count, U: UnsignedInteger>(&mut self, bits: C) -> Result<U, Error>

@@ -55,14 +55,14 @@ pub struct BitWriter<W, E> {
 
 impl<W: Target, E: Endianness> BitWriter<W, E> {
     ghost use Rattle.bitstream_number.specs.Word.{word, bits};
-    ghost use Rattle.bitstream_order.specs.Refusal.{MayRefuse};
+    ghost use Rattle.bitstream_order.specs.Refusal.{MayRefuseWrite};
     ghost use Rattle.bitstream_stream.specs.Writing.Carries.{failed_writer};
     ghost use Rattle.bitstream_stream.specs.Writing.Writer.{writer_state, new_writer_state, queued_bits, requests_made, AsksForBytes, AsksForWord, Pushes};
 
     /// Returns a writer to a stream. No request is made yet.
     pub fn new(stream: W) -> BitWriter<W, E>
-        ensures { writer_state W.contents W.references result
-            ≡ new_writer_state (W.contents stream) (W.references stream) }
+        ensures { writer_state W.stream result
+            ≡ new_writer_state (W.stream.contents stream) (W.stream.references stream) }
     {
         BitWriter {
             port: Port::new(stream),
@@ -77,8 +77,8 @@ impl<W: Target, E: Endianness> BitWriter<W, E> {
     pub fn endian(stream: W, _order: E) -> BitWriter<W, E>
     where
         E: Drop,
-        ensures { writer_state W.contents W.references result
-            ≡ new_writer_state (W.contents stream) (W.references stream) }
+        ensures { writer_state W.stream result
+            ≡ new_writer_state (W.stream.contents stream) (W.stream.references stream) }
     {
         BitWriter::new(stream)
     }
@@ -88,8 +88,8 @@ impl<W: Target, E: Endianness> BitWriter<W, E> {
         // It answers the error that it is given.
         ensures answer { result ≡ Err error }
         // The writer has failed with an empty queue, and nothing else has changed.
-        ensures fails { writer_state W.contents W.references self.new
-            ≡ failed_writer (writer_state W.contents W.references self.old) }
+        ensures fails { writer_state W.stream self.new
+            ≡ failed_writer (writer_state W.stream self.old) }
         // No request is made.
         ensures requests { requests_made self.new ≡ requests_made self.old }
     {
@@ -105,9 +105,8 @@ impl<W: Target, E: Endianness> BitWriter<W, E> {
         requires sound { self.old.failed ≡ false }
         requires room { n ≤ U.BITS_SIZE }
         // Writes just the n lowest bits of the value, or a request is refused and the writer fails.
-        ensures pushes { Pushes (MayRefuse W.contents W.references W.refuses) E.order (word E.order n (U.value value))
-            (writer_state W.contents W.references self.old) result
-            (writer_state W.contents W.references self.new) }
+        ensures pushes { Pushes (MayRefuseWrite W.stream) E.order (word E.order n (U.value value))
+            (writer_state W.stream self.old) result (writer_state W.stream self.new) }
         // At most one request is made, and none if no byte is filled.
         ensures asks { AsksForWord n self.old self.new }
     {
@@ -136,9 +135,8 @@ impl<W: Target, E: Endianness> BitWriter<W, E> {
         requires none { self.old.queued ≡ 0 }
         requires some { 1 ≤ length bytes.now }
         // Writes just these bytes, or a request is refused and the writer fails.
-        ensures pushes { Pushes (MayRefuse W.contents W.references W.refuses) E.order (bits E.order bytes.now)
-            (writer_state W.contents W.references self.old) result
-            (writer_state W.contents W.references self.new) }
+        ensures pushes { Pushes (MayRefuseWrite W.stream) E.order (bits E.order bytes.now)
+            (writer_state W.stream self.old) result (writer_state W.stream self.new) }
         // Exactly one request is made, whether it is refused or not.
         ensures requests { requests_made self.new ≡ requests_made self.old + 1 }
     {
@@ -154,9 +152,8 @@ impl<W: Target, E: Endianness> BitWriter<W, E> {
         requires queued { 1 ≤ self.old.queued }
         requires some { 1 ≤ length bytes.old }
         // Writes just the bytes as they came, or a request is refused and the writer fails.
-        ensures pushes { Pushes (MayRefuse W.contents W.references W.refuses) E.order (bits E.order bytes.old)
-            (writer_state W.contents W.references self.old) result
-            (writer_state W.contents W.references self.new) }
+        ensures pushes { Pushes (MayRefuseWrite W.stream) E.order (bits E.order bytes.old)
+            (writer_state W.stream self.old) result (writer_state W.stream self.new) }
         // If it succeeds, as many bits are queued as before.
         ensures queued { OnOk result (queued_bits self.new ≡ queued_bits self.old) }
         // Exactly one request is made, whether it is refused or not.
@@ -181,9 +178,8 @@ impl<W: Target, E: Endianness> BitWriter<W, E> {
         requires some { 1 ≤ N }
         requires few { N ≤ 1024 }
         // Writes just these bytes, or a request is refused and the writer fails.
-        ensures pushes { Pushes (MayRefuse W.contents W.references W.refuses) E.order (bits E.order bytes.now)
-            (writer_state W.contents W.references self.old) result
-            (writer_state W.contents W.references self.new) }
+        ensures pushes { Pushes (MayRefuseWrite W.stream) E.order (bits E.order bytes.now)
+            (writer_state W.stream self.old) result (writer_state W.stream self.new) }
         // If it succeeds, it made one request if no bit was queued, else one for each piece of up
         // to N bytes. For no bytes it made none.
         ensures asks { AsksForBytes N (length bytes.now) self.old result self.new }
@@ -208,9 +204,8 @@ impl<W: Target, E: Endianness> BitWriter<W, E> {
         requires some { 1 ≤ N }
         requires few { N ≤ 1024 }
         // Writes just these bytes, or a request is refused and the writer fails.
-        ensures pushes { Pushes (MayRefuse W.contents W.references W.refuses) E.order (bits E.order bytes.now)
-            (writer_state W.contents W.references self.old) result
-            (writer_state W.contents W.references self.new) }
+        ensures pushes { Pushes (MayRefuseWrite W.stream) E.order (bits E.order bytes.now)
+            (writer_state W.stream self.old) result (writer_state W.stream self.new) }
         // If it succeeds, it made one request if no bit was queued, else one for each piece of up
         // to N bytes. For no bytes it made none.
         ensures asks { AsksForBytes N (length bytes.now) self.old result self.new }
@@ -230,9 +225,8 @@ impl<W: Target, E: Endianness> BitWriter<W, E> {
     /// Writes the given number of zero bytes, in pieces.
     fn push_zeros(&mut self, bytes: usize) -> Result<(), Error>
         requires { self.old.failed ≡ false }
-        ensures { Pushes (MayRefuse W.contents W.references W.refuses) E.order (replicate (8 * bytes) false)
-            (writer_state W.contents W.references self.old) result
-            (writer_state W.contents W.references self.new) }
+        ensures { Pushes (MayRefuseWrite W.stream) E.order (replicate (8 * bytes) false)
+            (writer_state W.stream self.old) result (writer_state W.stream self.new) }
     {
         let zeros = [0u8; PIECE];
         let mut left = bytes;
@@ -252,7 +246,7 @@ impl<W: Target, E: Endianness> BitWrite for BitWriter<W, E> {
     ghost use Rattle.bitstream_stream.specs.Writing.Sink.{Writes};
     ghost use Rattle.bitstream_stream.specs.Writing.WriteTable.{unsigned, signed, plain, unary_word, bit as one_bit, count as count_entry, buffer};
 
-    ghost sink = { writer_sink W.contents W.refuses W.references E.order };
+    ghost sink = { writer_sink W.stream E.order };
 
     #[inline(always)]
     fn write_unsigned_counted<C: Count, U: UnsignedInteger>(

@@ -2,5 +2,5 @@ use Rattle.bitstream_stream.proofs.Reading.WaysLemmas.{aligned_reads}
 use Rattle.bitstream_stream.proofs.laws.dropped_queues_are_alignments.Goals as goal
 
 pub returns : goal.returns
-returns g c = λ r. aligned_reads g.R.Source.remaining g.R.Source.refuses g.R.Source.references g.E.Endianness.order
+returns g c = λ r. aligned_reads g.R.Source.stream g.E.Endianness.order
     r

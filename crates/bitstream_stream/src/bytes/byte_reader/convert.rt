@@ -37,8 +37,8 @@ impl<R: Source, E: Endianness> ByteReader<R, E> {
     pub fn into_bitreader(self) -> BitReader<R, E>
         // Nothing is taken or queued yet, and the bytes left are the stream's, if it tells them.
         ensures state { ⟦<BitReader<R, E> as BitRead>⟧.source.state result
-            ≡ new_reader_state (R.remaining (byte_reader_stream self))
-            (R.references (byte_reader_stream self)) }
+            ≡ new_reader_state (R.stream.remaining (byte_reader_stream self))
+            (R.stream.references (byte_reader_stream self)) }
         // No request was made yet.
         ensures requests { requests_made result ≡ 0 }
     {
@@ -55,8 +55,8 @@ impl<R: Source, E: Endianness> ByteReader<R, E> {
     pub fn bitreader<'a>(&'a mut self) -> BitReader<Lent<'a, R>, E>
         // Nothing is taken or queued yet, and the bytes left are the stream's, if it tells them.
         ensures state { ⟦<BitReader<Lent<'a, R>, E> as BitRead>⟧.source.state result
-            ≡ new_reader_state (R.remaining (byte_reader_stream self.old))
-            (by_name (reader_name result) ∷ R.references (byte_reader_stream self.old)) }
+            ≡ new_reader_state (R.stream.remaining (byte_reader_stream self.old))
+            (by_name (reader_name result) ∷ R.stream.references (byte_reader_stream self.old)) }
         // No request was made yet.
         ensures requests { requests_made result ≡ 0 }
         // When the new reader is dropped, only the stream may have changed: it is as it was left.

@@ -35,9 +35,9 @@ impl<W: Target, E: Endianness> ByteWriter<W, E> {
 
     /// Returns a new writer of bits to the stream, in the same order.
     pub fn into_bitwriter(self) -> BitWriter<W, E>
-        ensures { writer_state W.contents W.references result
-            ≡ new_writer_state (W.contents (byte_writer_stream self))
-            (W.references (byte_writer_stream self)) }
+        ensures { writer_state W.stream result
+            ≡ new_writer_state (W.stream.contents (byte_writer_stream self))
+            (W.stream.references (byte_writer_stream self)) }
     {
         BitWriter::new(self.into_writer())
     }
@@ -50,10 +50,9 @@ impl<W: Target, E: Endianness> ByteWriter<W, E> {
     /// [`byte_align`](crate::write::BitWrite::byte_align) first.
     pub fn bitwriter<'a>(&'a mut self) -> BitWriter<Lent<'a, W>, E>
         // Nothing is sent or queued yet, and the bytes held are the stream's, if it tells them.
-        ensures state { writer_state ⟦<Lent<'a, W> as Target>⟧.contents
-            ⟦<Lent<'a, W> as Target>⟧.references result
-            ≡ new_writer_state (W.contents (byte_writer_stream self.old))
-            (by_name (writer_name result) ∷ W.references (byte_writer_stream self.old)) }
+        ensures state { writer_state ⟦<Lent<'a, W> as Target>⟧.stream result
+            ≡ new_writer_state (W.stream.contents (byte_writer_stream self.old))
+            (by_name (writer_name result) ∷ W.stream.references (byte_writer_stream self.old)) }
         // When the new writer is dropped, only the stream may have changed: it is as it was left.
         ensures* writes_back { sem 𝓛 (follows (the_row W.row E.row) W.row self.entry.ghost_name
             (writer_name result) (byte_writer_with self.old)) }

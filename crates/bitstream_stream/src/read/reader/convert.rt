@@ -28,7 +28,7 @@ impl<R: Source, E: Endianness> BitReader<R, E> {
         // It is the reader's stream.
         ensures stream { result ≡ reader_stream self }
         // The bytes left in it are those that the reader tells as left in its stream.
-        ensures bytes { R.remaining result ≡ (⟦<Self as BitRead>⟧.source.state self).bytes }
+        ensures bytes { R.stream.remaining result ≡ (⟦<Self as BitRead>⟧.source.state self).bytes }
     {
         self.port.into_inner()
     }
@@ -77,8 +77,8 @@ impl<R: Source, E: Endianness> BitReader<R, E> {
         // The new one has taken nothing, and the bytes left are the stream's, if it tells them.
         ensures state { IfSome result (λ reader.
             ⟦<ByteReader<Lent<'a, R>, E> as ByteRead>⟧.source.state reader
-            ≡ byte_reader_state (new_port_state (R.remaining (reader_stream self.old))
-            (by_name (byte_reader_name reader) ∷ R.references (reader_stream self.old)))) }
+            ≡ byte_reader_state (new_port_state (R.stream.remaining (reader_stream self.old))
+            (by_name (byte_reader_name reader) ∷ R.stream.references (reader_stream self.old)))) }
         // When the new reader is dropped, only the stream may have changed: it is as it was left.
         ensures* writes_back { sem 𝓛 (follows_if (the_row R.row E.row) R.row self.entry.ghost_name
             (name_if_some byte_reader_name result) (reader_with self.old) self.old) }
@@ -93,8 +93,8 @@ impl<R: Source, E: Endianness> BitReader<R, E> {
         // The new one has taken nothing, and the bytes left are the stream's, if it tells them.
         ensures state { IfSome stream.entry (λ lent. IfSome result (λ reader.
             ⟦<ByteReader<Lent<'a, R>, E> as ByteRead>⟧.source.state reader
-            ≡ byte_reader_state (new_port_state (R.remaining lent.now)
-            (by_name (byte_reader_name reader) ∷ R.references lent.now)))) }
+            ≡ byte_reader_state (new_port_state (R.stream.remaining lent.now)
+            (by_name (byte_reader_name reader) ∷ R.stream.references lent.now)))) }
     {
         match stream {
             Some(stream) => Some(ByteReader::new(Lent::new(stream))),
@@ -110,8 +110,8 @@ impl<R: Source, E: Endianness> BitReader<R, E> {
     /// them first, or pass over them by [`byte_align`](BitRead::byte_align).
     pub fn into_bytereader(self) -> ByteReader<R, E>
         ensures { ⟦<ByteReader<R, E> as ByteRead>⟧.source.state result
-            ≡ byte_reader_state (new_port_state (R.remaining (reader_stream self))
-            (R.references (reader_stream self))) }
+            ≡ byte_reader_state (new_port_state (R.stream.remaining (reader_stream self))
+            (R.stream.references (reader_stream self))) }
     {
         ByteReader::new(self.into_reader())
     }

@@ -46,7 +46,7 @@ impl<R: SeekSource, E: Endianness> BitReader<R, E> {
     /// ```
     pub fn seek_bits(&mut self, to: SeekFrom) -> Result<u64, Error>
         ensures { SeeksBits (reader_seeker ⟦<Self as BitRead>⟧.source R.position R.bytes
-            (MayRefuseSeek R.remaining R.references R.refuses_seek)) to self.old result self.new }
+            (MayRefuseSeek R.stream R.refuses_seek)) to self.old result self.new }
     {
         match to {
             SeekFrom::Start(place) => self.go_to(place),
@@ -71,7 +71,7 @@ impl<R: SeekSource, E: Endianness> BitReader<R, E> {
     pub fn position_in_bits(&mut self) -> Result<u64, Error>
         // Asks the stream, changes nothing else and answers the place, or answers an error.
         ensures asks { AsksPlace (reader_seeker ⟦<Self as BitRead>⟧.source R.position R.bytes
-            (MayRefuseSeek R.remaining R.references R.refuses_seek)) (Current (pos 0)) self.old result self.new }
+            (MayRefuseSeek R.stream R.refuses_seek)) (Current (pos 0)) self.old result self.new }
         // Unless the reader had failed, exactly one request is made.
         ensures requests { (⟦<Self as BitRead>⟧.source.state self.old).failed ≡ false →
             requests_made self.new ≡ requests_made self.old + 1 }
@@ -84,7 +84,7 @@ impl<R: SeekSource, E: Endianness> BitReader<R, E> {
         requires { IsFromHere to }
         // Asks the stream, changes nothing else and answers the place, or answers an error.
         ensures asks { AsksPlace (reader_seeker ⟦<Self as BitRead>⟧.source R.position R.bytes
-            (MayRefuseSeek R.remaining R.references R.refuses_seek)) to self.old result self.new }
+            (MayRefuseSeek R.stream R.refuses_seek)) to self.old result self.new }
         // Unless the reader had failed, exactly one request is made.
         ensures requests { self.old.failed ≡ false →
             requests_made self.new ≡ requests_made self.old + 1 }
@@ -109,7 +109,7 @@ impl<R: SeekSource, E: Endianness> BitReader<R, E> {
     /// Goes n bits back from the end of the stream.
     fn go_back(&mut self, back: i64) -> Result<u64, Error>
         ensures { SeeksBits (reader_seeker ⟦<Self as BitRead>⟧.source R.position R.bytes
-            (MayRefuseSeek R.remaining R.references R.refuses_seek)) (End back) self.old result self.new }
+            (MayRefuseSeek R.stream R.refuses_seek)) (End back) self.old result self.new }
     {
         // Where the end is, only a seek to it tells.
         let end = self.seek_bytes(SeekFrom::End(0))?;
@@ -126,7 +126,7 @@ impl<R: SeekSource, E: Endianness> BitReader<R, E> {
     /// Goes to a place in bits.
     fn go_to(&mut self, place: u64) -> Result<u64, Error>
         ensures { GoesTo (reader_seeker ⟦<Self as BitRead>⟧.source R.position R.bytes
-            (MayRefuseSeek R.remaining R.references R.refuses_seek)) place (bytes_fetched self.old)
+            (MayRefuseSeek R.stream R.refuses_seek)) place (bytes_fetched self.old)
             self.old result self.new }
     {
         // First to the byte that holds the bit, and then over the bits before it.
@@ -138,7 +138,7 @@ impl<R: SeekSource, E: Endianness> BitReader<R, E> {
     /// Drops the queue, and seeks to a position in bytes. The counts begin anew there.
     fn seek_bytes(&mut self, to: SeekFrom) -> Result<u64, Error>
         ensures { SeeksBytes (reader_seeker ⟦<Self as BitRead>⟧.source R.position R.bytes
-            (MayRefuseSeek R.remaining R.references R.refuses_seek)) to self.old result self.new }
+            (MayRefuseSeek R.stream R.refuses_seek)) to self.old result self.new }
     {
         // The queued bits are not those at the new place.
         self.drop_queue();

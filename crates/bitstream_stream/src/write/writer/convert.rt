@@ -3,7 +3,7 @@ ghost use Rattle.std.specs.Prelude.{◌≡◌, ◌↔◌, ◌%◌, ◌∷◌, fa
 ghost use Rattle.std.specs.Option.{ghost_name_of};
 ghost use Rattle.bitstream_order.specs.Reference.{by_name};
 ghost use Rattle.bitstream_order.specs.Port.{new_port_state};
-ghost use Rattle.bitstream_order.specs.Refusal.{MayRefuse};
+ghost use Rattle.bitstream_order.specs.Refusal.{MayRefuseWrite};
 
 use super::BitWriter;
 use crate::bytes::byte_writer::ByteWriter;
@@ -79,10 +79,9 @@ impl<W: Target, E: Endianness> BitWriter<W, E> {
             × (⟦<Self as BitWrite>⟧.sink.len self.old % 8 ≡ 0)) }
         // The new one has sent nothing, and the bytes held are the stream's, if it tells them.
         ensures state { IfSome result (λ writer.
-            byte_writer_state ⟦<Lent<'a, W> as Target>⟧.contents
-            ⟦<Lent<'a, W> as Target>⟧.references writer
-            ≡ new_port_state (W.contents (writer_stream self.old))
-            (by_name (byte_writer_name writer) ∷ W.references (writer_stream self.old))) }
+            byte_writer_state ⟦<Lent<'a, W> as Target>⟧.stream writer
+            ≡ new_port_state (W.stream.contents (writer_stream self.old))
+            (by_name (byte_writer_name writer) ∷ W.stream.references (writer_stream self.old))) }
         // When the new writer is dropped, only the stream may have changed: it is as it was left.
         ensures* writes_back { sem 𝓛 (follows_if (the_row W.row E.row) W.row self.entry.ghost_name
             (name_if_some byte_writer_name result) (writer_with self.old) self.old) }
@@ -96,9 +95,8 @@ impl<W: Target, E: Endianness> BitWriter<W, E> {
         ensures name { name_if_some byte_writer_name result ≡ ghost_name_of stream.entry }
         // The new one has sent nothing, and the bytes held are the stream's, if it tells them.
         ensures state { IfSome stream.entry (λ lent. IfSome result (λ writer.
-            byte_writer_state ⟦<Lent<'a, W> as Target>⟧.contents
-            ⟦<Lent<'a, W> as Target>⟧.references writer
-            ≡ new_port_state (W.contents lent.now) (by_name (byte_writer_name writer) ∷ W.references lent.now))) }
+            byte_writer_state ⟦<Lent<'a, W> as Target>⟧.stream writer
+            ≡ new_port_state (W.stream.contents lent.now) (by_name (byte_writer_name writer) ∷ W.stream.references lent.now))) }
     {
         match stream {
             Some(stream) => Some(ByteWriter::new(Lent::new(stream))),
@@ -112,9 +110,9 @@ impl<W: Target, E: Endianness> BitWriter<W, E> {
     ///
     /// The bits behind the last whole byte are lost: call [`byte_align`](BitWrite::byte_align) first.
     pub fn into_bytewriter(self) -> ByteWriter<W, E>
-        ensures { byte_writer_state W.contents W.references result
-            ≡ new_port_state (W.contents (writer_stream self))
-            (W.references (writer_stream self)) }
+        ensures { byte_writer_state W.stream result
+            ≡ new_port_state (W.stream.contents (writer_stream self))
+            (W.stream.references (writer_stream self)) }
     {
         ByteWriter::new(self.into_writer())
     }
@@ -129,11 +127,10 @@ impl<W: Target, E: Endianness> BitWriter<W, E> {
     pub fn flush(&mut self) -> Result<(), Error>
         // One request is made, and no bit is sent or lost. Or it is refused and the writer fails,
         // or the writer had failed.
-        ensures flushes { Flushes (MayRefuse W.contents W.references W.refuses)
-            (writer_state W.contents W.references self.old) result
-            (writer_state W.contents W.references self.new) }
+        ensures flushes { Flushes (MayRefuseWrite W.stream) (writer_state W.stream self.old) result
+            (writer_state W.stream self.new) }
         // If it succeeds, the stream did what it says that a flush does.
-        ensures flushed { OnOk result (W.flushes (writer_stream self.old) (writer_stream self.new)) }
+        ensures flushed { OnOk result (W.stream.flushes (writer_stream self.old) (writer_stream self.new)) }
     {
         if self.failed {
             return Err(Error::Failed);

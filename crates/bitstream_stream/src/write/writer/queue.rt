@@ -47,14 +47,13 @@ impl<W: Target, E: Endianness> BitWriter<W, E> {
 }
 
 impl<A: Allocator, E: Endianness> BitWriter<Growing<A>, E> {
-    ghost use Rattle.bitstream_order.specs.Streaming.Growing.{growing_contents};
+    ghost use Rattle.bitstream_order.specs.Streaming.Growing.{growing_stream};
     ghost use Rattle.bitstream_stream.specs.Writing.Writer.{writer_state, new_writer_state};
 
     /// Removes all bits and bytes, also of a writer that has failed: it is as a new one is then. The
     /// vector keeps its memory.
     pub fn clear(&mut self)
-        ensures { writer_state growing_contents (λ _. []) self.new
-            ≡ new_writer_state (Some []) [] }
+        ensures { writer_state growing_stream self.new ≡ new_writer_state (Some []) [] }
     {
         // The counts and the refusals of before are forgotten, too.
         self.port.restart();

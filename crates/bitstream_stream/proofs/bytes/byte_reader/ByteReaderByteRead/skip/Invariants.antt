@@ -6,7 +6,7 @@ use Rattle.bitstream_stream.proofs.bytes.byte_reader.ByteReaderByteRead.skip.Giv
 -- k bytes so far, and the rest to come
 abbrev pub invariant-loop-left : goal.invariant-loop-left
 invariant-loop-left g l =
-    let K = byte_reader_source {E = g.row.E.Denot} g.R.Source.remaining g.R.Source.refuses g.R.Source.references
+    let K = byte_reader_source {E = g.row.E.Denot} g.R.Source.stream
     g.E.Endianness.order in
     (k : ℕ) × (k + l.left ≡ l.fn.bytes) × ((x : List ℕ) × ByteReads K (given_bytes k) l.fn.self (Ok x) l.self)
 

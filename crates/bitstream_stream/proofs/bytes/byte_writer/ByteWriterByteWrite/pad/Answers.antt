@@ -7,7 +7,7 @@ use Rattle.bitstream_stream.proofs.bytes.byte_writer.ByteWriterByteWrite.pad.Goa
 
 pub returns-in_err-write_bytes : goal.returns-in_err-write_bytes
 returns-in_err-write_bytes g c =
-    let K = byte_writer_sink {E = g.row.E.Denot} g.W.Target.contents g.W.Target.refuses g.W.Target.references
+    let K = byte_writer_sink {E = g.row.E.Denot} g.W.Target.stream
     g.E.Endianness.order in
     let piece = c.min-piece.result in
     record {
@@ -19,7 +19,7 @@ returns-in_err-write_bytes g c =
 
 pub loop-left-preserved : goal.loop-left-preserved
 loop-left-preserved g c =
-    let K = byte_writer_sink {E = g.row.E.Denot} g.W.Target.contents g.W.Target.refuses g.W.Target.references
+    let K = byte_writer_sink {E = g.row.E.Denot} g.W.Target.stream
     g.E.Endianness.order in
     let k = c.loop-left.invariant.0 in
     let piece = c.min-piece.result in (
@@ -31,7 +31,7 @@ loop-left-preserved g c =
 
 pub returns : goal.returns
 returns g c =
-    let K = byte_writer_sink {E = g.row.E.Denot} g.W.Target.contents g.W.Target.refuses g.W.Target.references
+    let K = byte_writer_sink {E = g.row.E.Denot} g.W.Target.stream
     g.E.Endianness.order in
     let all : c.loop-left.invariant.0 ≡ c.args.bytes = omega (arith, c.loop-left-test.false, c.loop-left.invariant.1) in
     record {

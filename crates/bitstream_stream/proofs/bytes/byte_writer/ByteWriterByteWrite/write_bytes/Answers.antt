@@ -7,13 +7,13 @@ use Rattle.bitstream_stream.proofs.bytes.byte_writer.ByteWriterByteWrite.write_b
 
 pub returns-then-is_empty : goal.returns-then-is_empty
 returns-then-is_empty g c =
-    let K = byte_writer_sink {E = g.row.E.Denot} g.W.Target.contents g.W.Target.refuses g.W.Target.references
+    let K = byte_writer_sink {E = g.row.E.Denot} g.W.Target.stream
     g.E.Endianness.order in
     let none : c.args.bytes.now ≡ [] = nil_from_length c.args.bytes.now (search rules) in
     record { writes = rw none (was_done tt tt refl (none_appended K c.args.self.now)) }
 
 pub returns : goal.returns
 returns g c = record {
-  writes = bytes_sent g.W.Target.contents g.W.Target.refuses g.W.Target.references
+  writes = bytes_sent g.W.Target.stream
       g.E.Endianness.order c.args.bytes.now _ _ _ (search rules) c.send.ensures;
 }

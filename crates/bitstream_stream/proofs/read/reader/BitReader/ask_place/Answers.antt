@@ -42,10 +42,10 @@ returns-in-Err-clause-asks g c =
       refusal = refused.refusal;
       allowed = (Current (pos 0), refl, refused.allowed);
       answer = ap Err refused.answer;
-      after = ap (λ r. g.R.Source.remaining (port_stream r.port)) c.drop_queue.ensures ∙ refused.after;
+      after = ap (λ r. g.R.Source.stream.remaining (port_stream r.port)) c.drop_queue.ensures ∙ refused.after;
       fetched = ap (λ r. r.port.fetched.count) c.drop_queue.ensures ∙ refused.fetched;
       refusals = ap (λ r. r.port.refusals.list) c.drop_queue.ensures ∙ refused.refusals;
-      references = ap (λ r. g.R.Source.references (port_stream r.port)) c.drop_queue.ensures ∙ refused.references;
+      references = ap (λ r. g.R.Source.stream.references (port_stream r.port)) c.drop_queue.ensures ∙ refused.references;
       queue = ap (λ r. word o r.queued (first_part o r.queue 8 r.queued)) c.drop_queue.ensures ∙ word-none o _;
       failed = refl;
     })

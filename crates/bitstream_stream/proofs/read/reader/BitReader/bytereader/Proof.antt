@@ -49,7 +49,7 @@ bytereader_spec 𝓤 𝓛 𝓜 𝓡 wired X Y LX LY gs ds ge de gd dd ms me md =
     walk X Y R Self Made (λ reader. ((before reader).failed ≡ false) × ((before reader).taken % 8 ≡ 0)) reader_stream
     reader_with (λ κs. byte_reader_name)
     (λ κs reader stream. after reader ≡ byte_reader_state
-    (new_port_state (gs.remaining stream) (by_name (byte_reader_name reader) ∷ gs.references stream))) 𝓛 κs qs bounds a.0
+    (new_port_state (gs.stream.remaining stream) (by_name (byte_reader_name reader) ∷ gs.stream.references stream))) 𝓛 κs qs bounds a.0
     𝓜 𝓡
     -- [of the code: how many lifetimes, which outlives which, the kinds, how many givens; two lifetimes; five types]
     _ _ _ _ _ _ _ _ _ _ _

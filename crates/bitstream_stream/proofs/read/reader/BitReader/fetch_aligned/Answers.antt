@@ -3,7 +3,7 @@ use Rattle.std.proofs.lemmas.Nat.{pow_pos}
 use Rattle.bitstream_number.specs.Word.{word, bits}
 use Rattle.bitstream_number.proofs.Bytes.{AreBytes-from}
 use Rattle.bitstream_order.specs.Parts.{first_part}
-use Rattle.bitstream_order.specs.Port.{port_state}
+use Rattle.bitstream_order.specs.Port.{source_state}
 use Rattle.bitstream_order.proofs.Moving.ShiftLemmas.{shifts_aligned}
 use Rattle.bitstream_order.proofs.Moving.TakeLemmas.{takes_none, word-none}
 use Rattle.bitstream_stream.specs.Reading.Reads.{was_done, was_refused}
@@ -14,8 +14,8 @@ use Rattle.bitstream_stream.proofs.read.reader.BitReader.fetch_aligned.Goals as 
 pub returns-in-Ok-clause-reads : goal.returns-in-Ok-clause-reads
 returns-in-Ok-clause-reads g c =
     let o = g.E.Endianness.order in
-    let p = port_state g.R.Source.remaining g.R.Source.references c.args.self.now.port in
-    let new = port_state g.R.Source.remaining g.R.Source.references c.fetch.new.self in
+    let p = source_state g.R.Source.stream c.args.self.now.port in
+    let new = source_state g.R.Source.stream c.fetch.new.self in
     let n = length c.args.buf.now in
     let made = c.fetch.new.buf in
     let queued = c.args.self.now.queued in
@@ -32,8 +32,8 @@ returns-in-Ok-clause-reads g c =
 pub returns-in-Err-clause-reads : goal.returns-in-Err-clause-reads
 returns-in-Err-clause-reads g c =
     let o = g.E.Endianness.order in
-    let p = port_state g.R.Source.remaining g.R.Source.references c.args.self.now.port in
-    let new = port_state g.R.Source.remaining g.R.Source.references c.fetch.new.self in
+    let p = source_state g.R.Source.stream c.args.self.now.port in
+    let new = source_state g.R.Source.stream c.fetch.new.self in
     let n = length c.args.buf.now in
     let queued = c.args.self.now.queued in
     let few : queued < 8 = c.args.self.now.few in

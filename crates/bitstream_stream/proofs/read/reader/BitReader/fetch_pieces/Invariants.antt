@@ -11,7 +11,7 @@ invariant-loop-at g l =
     (k : ℕ) × record {
       len : length l.buf ≡ length l.initial.buf;
       within : l.at ≤ length l.buf;
-      reads : Reads (reader_source g.R.Source.remaining g.R.Source.refuses g.R.Source.references
+      reads : Reads (reader_source g.R.Source.stream
           g.E.Endianness.order) (bytes_entry g.E.Endianness.order l.at) l.initial.self (Ok (take l.at l.buf)) l.self;
       fine : l.self.failed ≡ false;
       queued : queued_bits l.self ≡ queued_bits l.initial.self;

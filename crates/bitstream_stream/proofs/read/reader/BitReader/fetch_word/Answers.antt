@@ -1,6 +1,6 @@
 use Rattle.std.proofs.Common.{rules, arith, ℕ, ◌≡◌, ◌≤◌, ◌<◌, ◌-◌, ◌+◌, ◌/◌, ◌∙◌, sym, refl}
 use Rattle.bitstream_order.specs.Parts.{first_part}
-use Rattle.bitstream_order.specs.Port.{port_state}
+use Rattle.bitstream_order.specs.Port.{source_state}
 use Rattle.bitstream_order.proofs.PartLemmas.{first_below}
 use Rattle.bitstream_order.proofs.Moving.TakeLemmas.{takes_none, takes_as}
 use Rattle.bitstream_stream.specs.Reading.Reads.{was_done, was_refused}
@@ -10,8 +10,8 @@ use Rattle.bitstream_stream.proofs.read.reader.BitReader.fetch_word.Goals as goa
 
 pub returns-in_err-value-clause-reads : goal.returns-in_err-value-clause-reads
 returns-in_err-value-clause-reads g c =
-    let p = port_state g.R.Source.remaining g.R.Source.references c.args.self.now.port in
-    let new = port_state g.R.Source.remaining g.R.Source.references c.take_bits.new.port in
+    let p = source_state g.R.Source.stream c.args.self.now.port in
+    let new = source_state g.R.Source.stream c.take_bits.new.port in
     let queued = c.args.self.now.queued in
     let byte : c.args.self.now.queue < 256 = search rules in
     let few = c.args.self.now.few in
@@ -25,8 +25,8 @@ returns-in_err-value-clause-reads g c =
 
 pub returns-clause-reads : goal.returns-clause-reads
 returns-clause-reads g c =
-    let p = port_state g.R.Source.remaining g.R.Source.references c.args.self.now.port in
-    let new = port_state g.R.Source.remaining g.R.Source.references c.take_bits.new.port in
+    let p = source_state g.R.Source.stream c.args.self.now.port in
+    let new = source_state g.R.Source.stream c.take_bits.new.port in
     let queued = c.args.self.now.queued in
     let byte : c.first.result < 256 = c.first.type_inv in
     let same = g.met.U.UnsignedInteger.byte_law _ _ c.from_u8-queue.ensures byte ∙ c.first.ensures.value in

@@ -19,7 +19,7 @@ returns-in-Ok g c =
       taken = c.new-self.ensures;
       fetched = seeks.fetched;
       refusals = seeks.refusals ∙ ap (λ r. r.port.refusals.list) same;
-      references = seeks.references ∙ ap (λ r. g.R.Source.references (port_stream r.port)) same;
+      references = seeks.references ∙ ap (λ r. g.R.Source.stream.references (port_stream r.port)) same;
       moves = subst (λ r. SeekMoves {E = Error} (g.R.SeekSource.position (port_stream r.port))
           (g.R.SeekSource.position (port_stream c.seek.new.self)) (g.R.SeekSource.bytes (port_stream r.port)) c.args.to
           (Ok c.in-Ok.at)) same c.in-Ok.ensures.moves;
@@ -39,7 +39,7 @@ returns-in-Err g c =
       after = refused.after;
       fetched = refused.fetched ∙ ap (λ r. r.port.fetched.count) same;
       refusals = refused.refusals ∙ ap (λ r. refused.refusal ∷ r.port.refusals.list) same;
-      references = refused.references ∙ ap (λ r. g.R.Source.references (port_stream r.port)) same;
+      references = refused.references ∙ ap (λ r. g.R.Source.stream.references (port_stream r.port)) same;
       queue = ap (λ r. word o r.queued (first_part o r.queue 8 r.queued)) same ∙ word-none o _;
       failed = refl;
     }

@@ -37,7 +37,7 @@ loop-left-preserved g c =
 
 pub returns : goal.returns
 returns g c =
-    let K = reader_source {E = g.row.E.Denot} g.R.Source.remaining g.R.Source.refuses g.R.Source.references
+    let K = reader_source {E = g.row.E.Denot} g.R.Source.stream
     g.E.Endianness.order in
     let all : c.loop-left.invariant.0 ≡ c.args.bytes = omega (arith, c.loop-left-test.false, c.loop-left.invariant.1) in
     subst (λ n. Reads K (skip_entry (8 * n)) c.args.self.now (Ok tt) c.loop-left.self) all c.loop-left.invariant.2

@@ -7,7 +7,7 @@ use Rattle.bitstream_stream.proofs.read.reader.BitReader.skip_bytes.Given as goa
 -- k bytes so far, and the rest to come
 abbrev pub invariant-loop-left : goal.invariant-loop-left
 invariant-loop-left g l =
-    let K = reader_source g.R.Source.remaining g.R.Source.refuses g.R.Source.references g.E.Endianness.order in
+    let K = reader_source g.R.Source.stream g.E.Endianness.order in
     (k : ℕ) × (k + l.left ≡ l.bytes) × Reads K (skip_entry (8 * k)) l.initial.self (Ok tt) l.self
 
 abbrev pub decreases-loop-left : goal.decreases-loop-left

@@ -1,5 +1,5 @@
 use Rattle.std.proofs.Common.{rules, arith, refl, ◌<◌, ◌-◌, ◌∙◌}
-use Rattle.bitstream_order.specs.Port.{port_state}
+use Rattle.bitstream_order.specs.Port.{source_state}
 use Rattle.bitstream_order.proofs.Moving.TakeLemmas.{takes_queue}
 use Rattle.bitstream_stream.specs.Reading.Reads.{was_done}
 use Rattle.bitstream_stream.proofs.Reading.ReaderLemmas.{answered}
@@ -11,7 +11,7 @@ returns-clause-reads g c =
     let queue : c.args.self.now.queue < 256 = search rules in
     let few = c.args.self.now.few in
     let value = g.met.U.UnsignedInteger.byte_law _ _ c.from_u8.ensures byte ∙ c.first-first.ensures.value in
-    let p = port_state g.R.Source.remaining g.R.Source.references c.args.self.now.port in
+    let p = source_state g.R.Source.stream c.args.self.now.port in
     was_done (answered _ _ _ _ _ _ _ _ _ _ _ _ p p c.requires.fine c.requires.fine c.requires.room c.add.ensures
     (takes_queue g.E.Endianness.order _ c.args.self.now.queue _ (c.args.self.now.queued - c.args.bits) _ _ p queue
     (omega arith) (omega arith) value (c.rest-self.ensures _ (omega arith))))

@@ -4,5 +4,5 @@ use Rattle.bitstream_stream.proofs.read.reader.BitReaderBitRead.byte_align.Goals
 pub returns-clause-reads : goal.returns-clause-reads
 returns-clause-reads g c =
     rw c.drop_queue.ensures
-    (aligned_reads g.R.Source.remaining g.R.Source.refuses g.R.Source.references g.E.Endianness.order
+    (aligned_reads g.R.Source.stream g.E.Endianness.order
     c.args.self.now)

@@ -1,5 +1,5 @@
 use Rattle.std.proofs.Common.{ap, true}
-use Rattle.bitstream_order.specs.Port.{port_state}
+use Rattle.bitstream_order.specs.Port.{source_state}
 use Rattle.bitstream_order.proofs.Moving.TakeLemmas.{word-none}
 use Rattle.bitstream_stream.specs.Reading.Reader.{reader_state}
 use Rattle.bitstream_stream.proofs.read.reader.BitReaderBitRead.fail.Goals as goal
@@ -7,6 +7,6 @@ use Rattle.bitstream_stream.proofs.read.reader.BitReaderBitRead.fail.Goals as go
 pub returns : goal.returns
 returns g c =
     ap (λ w. record (reader_state g.E.Endianness.order
-    (port_state g.R.Source.remaining g.R.Source.references c.args.self.now.port) 0 0
+    (source_state g.R.Source.stream c.args.self.now.port) 0 0
     c.args.self.now.taken.count true) { queue = w })
     (word-none g.E.Endianness.order _)

@@ -45,8 +45,8 @@ bytewriter_spec 𝓤 𝓛 𝓜 𝓡 wired X Y LX LY gs ds ge de gd dd ms me md =
     (λ κs. (mut_vals, tt)) (λ κs. (mut_Tells (named 0) κs.0 Self, tt)) (λ κs qs bounds a gh are.
     walk X Y R Self Made (λ writer. (sink.failed writer ≡ false) × (sink.len writer % 8 ≡ 0)) writer_stream writer_with
     (λ κs. byte_writer_name)
-    (λ κs writer stream. byte_writer_state lent.contents lent.references writer
-    ≡ new_port_state (gs.contents stream) (by_name (byte_writer_name writer) ∷ gs.references stream)) 𝓛 κs qs bounds a.0
+    (λ κs writer stream. byte_writer_state lent.stream writer
+    ≡ new_port_state (gs.stream.contents stream) (by_name (byte_writer_name writer) ∷ gs.stream.references stream)) 𝓛 κs qs bounds a.0
     𝓜 𝓡
     -- [of the code: how many lifetimes, which outlives which, the kinds, how many givens; two lifetimes; five types]
     _ _ _ _ _ _ _ _ _ _ _

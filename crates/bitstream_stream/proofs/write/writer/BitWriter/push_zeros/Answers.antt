@@ -1,5 +1,5 @@
 use Rattle.std.proofs.Common.{rules, ◌≡◌, ◌+◌, ◌*◌, Ok, Err, refl, arith}
-use Rattle.bitstream_order.specs.Refusal.{MayRefuse}
+use Rattle.bitstream_order.specs.Refusal.{MayRefuseWrite}
 use Rattle.bitstream_stream.specs.Writing.Writer.{queue_sink}
 use Rattle.bitstream_stream.proofs.Writing.BytesWritten.{appended_none, zeros-piece, zeros-all, zeros-stop}
 use Rattle.bitstream_stream.proofs.write.writer.BitWriter.push_zeros.Goals as goal
@@ -8,7 +8,7 @@ pub loop-left-init : goal.loop-left-init
 loop-left-init g c = (
   0,
   omega arith,
-  appended_none (queue_sink (MayRefuse g.W.Target.contents g.W.Target.references g.W.Target.refuses)
+  appended_none (queue_sink (MayRefuseWrite g.W.Target.stream)
       g.E.Endianness.order) _ c.requires,
 )
 

@@ -1,5 +1,5 @@
 use Rattle.std.proofs.Common.{rules, arith, ◌≡◌, ◌+◌, ◌-◌, length, refl, sym, ap, ◌∙◌}
-use Rattle.bitstream_order.specs.Refusal.{MayRefuse}
+use Rattle.bitstream_order.specs.Refusal.{MayRefuseWrite}
 use Rattle.bitstream_stream.specs.Writing.Writer.{queue_sink, requests_made}
 use Rattle.bitstream_stream.proofs.PieceCounts.{reaches-none, reaches-more, pieces-all}
 use Rattle.bitstream_stream.proofs.Writing.BytesWritten.{appended_none, appended_part, pushes_stop}
@@ -10,7 +10,7 @@ loop-at-init g c = (
   0,
   record {
     within = omega arith;
-    written = appended_none (queue_sink (MayRefuse g.W.Target.contents g.W.Target.references g.W.Target.refuses) g.E.Endianness.order) _
+    written = appended_none (queue_sink (MayRefuseWrite g.W.Target.stream) g.E.Endianness.order) _
         c.requires.sound;
     queued = refl;
     requests = omega arith;

@@ -1,6 +1,6 @@
 use Rattle.std.proofs.Common.{◌≡◌, ◌+◌, ◌-◌, ◌≤◌, ℕ, length, take}
 use Rattle.bitstream_number.specs.Word.{bits}
-use Rattle.bitstream_order.specs.Refusal.{MayRefuse}
+use Rattle.bitstream_order.specs.Refusal.{MayRefuseWrite}
 use Rattle.bitstream_stream.specs.Writing.Sink.{Appended}
 use Rattle.bitstream_stream.specs.Writing.Writer.{writer_state, queue_sink, queued_bits, requests_made}
 use Rattle.bitstream_stream.proofs.PieceCounts.{Reaches}
@@ -12,9 +12,9 @@ invariant-loop-at g l =
     let o = g.E.Endianness.order in
     (k : ℕ) × record {
       within : l.at ≤ length l.bytes;
-      written : Appended (queue_sink (MayRefuse g.W.Target.contents g.W.Target.references g.W.Target.refuses) o)
-          (writer_state g.W.Target.contents g.W.Target.references l.initial.self) (bits o (take l.at l.bytes))
-          (writer_state g.W.Target.contents g.W.Target.references l.self);
+      written : Appended (queue_sink (MayRefuseWrite g.W.Target.stream) o)
+          (writer_state g.W.Target.stream l.initial.self) (bits o (take l.at l.bytes))
+          (writer_state g.W.Target.stream l.self);
       queued : queued_bits l.self ≡ queued_bits l.initial.self;
       requests : requests_made l.self ≡ requests_made l.initial.self + k;
       reaches : Reaches g.row.N k l.at (length l.bytes);

@@ -1,5 +1,5 @@
 use Rattle.std.proofs.Common.{refl}
-use Rattle.bitstream_order.specs.Refusal.{MayRefuse}
+use Rattle.bitstream_order.specs.Refusal.{MayRefuseWrite}
 use Rattle.bitstream_stream.specs.Writing.Writer.{writer_state, queue_sink}
 use Rattle.bitstream_stream.proofs.Writing.BytesWritten.{pushes_align}
 use Rattle.bitstream_stream.proofs.Writing.SinkLemmas.{inner}
@@ -7,9 +7,9 @@ use Rattle.bitstream_stream.proofs.write.writer.BitWriterBitWrite.byte_align.Goa
 
 pub returns : goal.returns
 returns g c =
-    let may = MayRefuse g.W.Target.contents g.W.Target.references g.W.Target.refuses in
+    let may = MayRefuseWrite g.W.Target.stream in
     let o = g.E.Endianness.order in
     record {
-      writes = inner (writer_state g.W.Target.contents g.W.Target.references) (queue_sink may o) _ _ _ _
+      writes = inner (writer_state g.W.Target.stream) (queue_sink may o) _ _ _ _
           (pushes_align may o _ _ _ _ refl c.args.self.now.few c.if-self.false c.push.ensures.pushes);
     }

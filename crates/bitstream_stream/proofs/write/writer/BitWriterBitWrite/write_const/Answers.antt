@@ -5,6 +5,6 @@ use Rattle.bitstream_stream.proofs.write.writer.BitWriterBitWrite.write_const.Go
 
 pub returns-clause-writes : goal.returns-clause-writes
 returns-clause-writes g c =
-    let K = writer_sink g.W.Target.contents g.W.Target.refuses g.W.Target.references g.E.Endianness.order in
+    let K = writer_sink g.W.Target.stream g.E.Endianness.order in
     restate K _ _ _ _ _ (unsigned-const K.order 32 g.B.Width.BITS g.V.Width.BITS (K.len c.args.self.now) c.requires.word
     c.requires.value) (rw c.BITS.ensures at c.write_unsigned.ensures.writes)

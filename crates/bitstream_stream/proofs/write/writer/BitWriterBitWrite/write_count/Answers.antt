@@ -5,7 +5,7 @@ use Rattle.bitstream_stream.proofs.write.writer.BitWriterBitWrite.write_count.Go
 
 pub returns-clause-writes : goal.returns-clause-writes
 returns-clause-writes g c =
-    let K = writer_sink g.W.Target.contents g.W.Target.refuses g.W.Target.references g.E.Endianness.order in
+    let K = writer_sink g.W.Target.stream g.E.Endianness.order in
     restate K _ _ _ _ _ (unsigned-count K.order 32 g.C.Count.MAX (g.C.Count.number c.args.count) _ _ _
     (K.len c.args.self.now) c.count_bits.ensures.width c.MAX.ensures c.count_bits.ensures.bound c.bits.ensures.value
     c.bits.ensures.bound) c.write_unsigned_var.ensures.writes

@@ -1,4 +1,4 @@
-use Rattle.bitstream_order.specs.Refusal.{MayRefuse}
+use Rattle.bitstream_order.specs.Refusal.{MayRefuseWrite}
 use Rattle.std.proofs.Common.{Ok, refl, ap, sym, ◌∙◌}
 use Rattle.bitstream_number.specs.Word.{word}
 use Rattle.bitstream_stream.specs.Writing.Writer.{writer_state, queue_sink, writer_sink}
@@ -10,19 +10,19 @@ use Rattle.bitstream_stream.proofs.write.writer.BitWriterBitWrite.write_signed_v
 
 pub returns-then-self-clause-writes : goal.returns-then-self-clause-writes
 returns-then-self-clause-writes g c =
-    fails (writer_sink g.W.Target.contents g.W.Target.refuses g.W.Target.references g.E.Endianness.order) _ _ _
+    fails (writer_sink g.W.Target.stream g.E.Endianness.order) _ _ _
     c.if-self.true refl
 
 pub returns-in_err-check_signed-clause-writes : goal.returns-in_err-check_signed-clause-writes
 returns-in_err-check_signed-clause-writes g c =
-    refuses (writer_sink g.W.Target.contents g.W.Target.refuses g.W.Target.references g.E.Endianness.order) _ _ _ _
+    refuses (writer_sink g.W.Target.stream g.E.Endianness.order) _ _ _ _
     c.if-self.false (c.in_err-check_signed.ensures.refusal _ _) (exit_is _ c.from_residual.ensures.1)
 
 pub returns-clause-writes : goal.returns-clause-writes
 returns-clause-writes g c =
     let o = g.E.Endianness.order in
-    inner (writer_state g.W.Target.contents g.W.Target.references)
-    (queue_sink (MayRefuse g.W.Target.contents g.W.Target.references g.W.Target.refuses) o) _ _ _ _
+    inner (writer_state g.W.Target.stream)
+    (queue_sink (MayRefuseWrite g.W.Target.stream) o) _ _ _ _
     (pushes_writes _ o _ _ _ _ _ c.if-self.false (signed-accepts o _ _ _ _
     c.in_ok-check_signed.ensures.some c.in_ok-check_signed.ensures.holds ∙ ap (λ n. Ok (word o c.args.bits n)) (sym c.complement.ensures))
     c.push.ensures.pushes)

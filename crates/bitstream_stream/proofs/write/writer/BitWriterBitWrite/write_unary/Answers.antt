@@ -1,7 +1,7 @@
 use Rattle.std.proofs.Common.{arith, ◌≡◌, ◌+◌, ◌*◌, ◌%◌, Ok, refl, sym, ap}
 use Rattle.std.specs.Prelude.{◌==◌}
 use Rattle.bitstream_count.specs.Unary.{unary}
-use Rattle.bitstream_order.specs.Refusal.{MayRefuse}
+use Rattle.bitstream_order.specs.Refusal.{MayRefuseWrite}
 use Rattle.bitstream_stream.specs.Writing.Writer.{writer_state, queue_sink}
 use Rattle.bitstream_stream.proofs.Writing.BytesWritten.{appended_none}
 use Rattle.bitstream_stream.proofs.Writing.SinkLemmas.{inner}
@@ -11,18 +11,18 @@ use Rattle.bitstream_stream.proofs.write.writer.BitWriterBitWrite.write_unary.Go
 
 pub loop-done-init : goal.loop-done-init
 loop-done-init g c = record {
-  wrote = appended_none (queue_sink (MayRefuse g.W.Target.contents g.W.Target.references g.W.Target.refuses) g.E.Endianness.order) _
+  wrote = appended_none (queue_sink (MayRefuseWrite g.W.Target.stream) g.E.Endianness.order) _
       c.if-self.false;
   none = λ _. refl;
 }
 
 pub returns-in_err-push-clause-writes : goal.returns-in_err-push-clause-writes
 returns-in_err-push-clause-writes g c =
-    let may = MayRefuse g.W.Target.contents g.W.Target.references g.W.Target.refuses in
+    let may = MayRefuseWrite g.W.Target.stream in
     let o = g.E.Endianness.order in
     let stop = c.BITS-stop.result == 1 in
     let n = c.args.value in
-    inner (writer_state g.W.Target.contents g.W.Target.references) (queue_sink may o) _ _ _ _
+    inner (writer_state g.W.Target.stream) (queue_sink may o) _ _ _ _
     (pushes_writes may o (unary stop n) _ _ _ _ c.if-self.false
     (ap (λ k. Ok (unary (k == 1) n)) (sym c.BITS-stop.ensures))
     (others-stop may o stop (64 * c.loop-done._done) 64 n c.run_without_stop.result _ _ _ _ c.from_residual.result
@@ -31,7 +31,7 @@ returns-in_err-push-clause-writes g c =
 
 pub loop-done-preserved : goal.loop-done-preserved
 loop-done-preserved g c =
-    let may = MayRefuse g.W.Target.contents g.W.Target.references g.W.Target.refuses in
+    let may = MayRefuseWrite g.W.Target.stream in
     let stop = c.BITS-stop.result == 1 in
     let done = c.loop-done._done in
     record {
@@ -42,13 +42,13 @@ loop-done-preserved g c =
 
 pub returns-clause-writes : goal.returns-clause-writes
 returns-clause-writes g c =
-    let may = MayRefuse g.W.Target.contents g.W.Target.references g.W.Target.refuses in
+    let may = MayRefuseWrite g.W.Target.stream in
     let o = g.E.Endianness.order in
     let stop = c.BITS-stop.result == 1 in
     let n = c.args.value in
     let last = n % 64 in
     let sum : 64 * c.loop-done._done + last ≡ n = omega (arith, c.loop-done.auto._done-end, c.loop-done-test.false) in
-    inner (writer_state g.W.Target.contents g.W.Target.references) (queue_sink may o) _ _ _ _
+    inner (writer_state g.W.Target.stream) (queue_sink may o) _ _ _ _
     (pushes_writes may o (unary stop n) _ _ _ _ c.if-self.false
     (ap (λ k. Ok (unary (k == 1) n)) (sym c.BITS-stop.ensures))
     (lead-behind may o stop (64 * c.loop-done._done) last n c.put.result _ _ _ c.push-2.result sum

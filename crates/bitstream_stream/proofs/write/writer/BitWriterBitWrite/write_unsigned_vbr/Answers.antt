@@ -1,6 +1,6 @@
 use Rattle.std.proofs.Common.{arith, ◌≡◌, ℕ, ◌≤◌, ◌+◌, Ok, Err, refl, sym, ap, ◌∙◌}
 use Rattle.bitstream_order.specs.Parts.{put_number}
-use Rattle.bitstream_order.specs.Refusal.{MayRefuse}
+use Rattle.bitstream_order.specs.Refusal.{MayRefuseWrite}
 use Rattle.bitstream_stream.specs.Writing.Carries.{WriterState}
 use Rattle.bitstream_stream.specs.Groups.{IsFirstGroup}
 use Rattle.bitstream_stream.specs.Writing.Sink.{Sink}
@@ -13,7 +13,7 @@ use Rattle.bitstream_stream.proofs.write.writer.BitWriterBitWrite.write_unsigned
 use Rattle.bitstream_stream.proofs.write.writer.BitWriterBitWrite.write_unsigned_vbr.Goals as goal
 
 abbrev sink : Over → Sink WriterState
-sink g = queue_sink (MayRefuse g.W.Target.contents g.W.Target.references g.W.Target.refuses) g.E.Endianness.order
+sink g = queue_sink (MayRefuseWrite g.W.Target.stream) g.E.Endianness.order
 
 -- the group is gathered behind the others
 gathered : (g : Over) (c : After-BITS-bits g) (group next : ℕ)
@@ -21,8 +21,8 @@ gathered : (g : Over) (c : After-BITS-bits g) (group next : ℕ)
     → g.U.UnsignedInteger.value c.put-word.result ≡ put_number g.E.Endianness.order
     (g.U.UnsignedInteger.value c.loop-group.word) c.loop-group.bits group c.BITS.result
     → GroupsGathered (sink g) g.F.Width.BITS (g.U.UnsignedInteger.value c.args.value)
-    (writer_state g.W.Target.contents g.W.Target.references c.args.self.now) next
-    (writer_state g.W.Target.contents g.W.Target.references c.loop-group.self)
+    (writer_state g.W.Target.stream c.args.self.now) next
+    (writer_state g.W.Target.stream c.loop-group.self)
     (c.loop-group.bits + c.BITS-bits.result) (g.U.UnsignedInteger.value c.put-word.result)
 gathered g c group next first put =
     let wide = ap (put_number g.E.Endianness.order _ c.loop-group.bits group) (c.BITS.ensures
@@ -38,13 +38,13 @@ room g c =
 pub returns-then-self : goal.returns-then-self
 returns-then-self g c =
     record {
-      writes = fails (writer_sink g.W.Target.contents g.W.Target.refuses g.W.Target.references
+      writes = fails (writer_sink g.W.Target.stream
           g.E.Endianness.order) _ _ _ c.if-self.true refl;
     }
 
 pub loop-group-init : goal.loop-group-init
 loop-group-init g c =
-    let may = MayRefuse g.W.Target.contents g.W.Target.references g.W.Target.refuses in
+    let may = MayRefuseWrite g.W.Target.stream in
     let o = g.E.Endianness.order in
     let within = c.requires.within in
     record {
@@ -64,7 +64,7 @@ returns-in_err-push g c =
     let written = group-pushed _ _ _ _ _ _ _ (Err _) _ refl (room g at) before.below
     c.loop-group.invariant.groups.done.done.sound c.in_err-push.ensures.pushes in
     record {
-      writes = inner (writer_state g.W.Target.contents g.W.Target.references) (sink g) _ _ _ _
+      writes = inner (writer_state g.W.Target.stream) (sink g) _ _ _ _
           (gathered-stop (sink g) g.F.Width.BITS g.U.Numeric.BITS_SIZE _ (omega (arith, c.requires.within)) _ _ _ _ _
           before _ _ _ _ (room g at) written refl (exit_is _ c.from_residual.ensures.1) tt);
     }
@@ -102,7 +102,7 @@ returns-then-bits-eq0 g c =
     let written = group-pushed _ _ field size _ _ _ _ _ c.BITS-then-bits-eq0.ensures within final.fits
     inv.groups.done.done.sound c.push-then-bits-eq0.ensures.pushes in
     record {
-      writes = inner (writer_state g.W.Target.contents g.W.Target.references) (sink g) _ _ _ _
+      writes = inner (writer_state g.W.Target.stream) (sink g) _ _ _ _
           (gathered-none (sink g) field size _ within _ _ _ _ _ inv.groups _ _ c.if-bits-eq0.true final written tt);
     }
 
@@ -124,6 +124,6 @@ returns-else-bits-eq0 g c =
     let written = group-pushed _ _ _ size _ _ _ _ _ refl room below inv.groups.done.done.sound
     c.push-else-bits-eq0.ensures.pushes in
     record {
-      writes = inner (writer_state g.W.Target.contents g.W.Target.references) (sink g) _ _ _ _
+      writes = inner (writer_state g.W.Target.stream) (sink g) _ _ _ _
           (gathered-last (sink g) field size _ within _ _ _ _ _ inv.groups _ _ _ _ step final put room written tt);
     }

@@ -1,5 +1,5 @@
 use Rattle.std.proofs.Common.{◌+◌, ◌≤◌}
-use Rattle.bitstream_order.specs.Refusal.{MayRefuse}
+use Rattle.bitstream_order.specs.Refusal.{MayRefuseWrite}
 use Rattle.bitstream_stream.specs.Writing.Writer.{writer_state, queue_sink}
 use Rattle.bitstream_stream.proofs.Writing.VbrWrites.{GroupsGathered}
 use Rattle.bitstream_stream.proofs.write.writer.BitWriterBitWrite.write_unsigned_vbr.Given as goal
@@ -8,11 +8,11 @@ use Rattle.bitstream_stream.proofs.write.writer.BitWriterBitWrite.write_unsigned
 abbrev pub invariant-loop-group : goal.invariant-loop-group
 invariant-loop-group g l =
     let target = g.W.Target in
-    let state = writer_state target.contents target.references in
+    let state = writer_state target.stream in
     let u = g.U.UnsignedInteger in
     record {
       room : l.bits + g.F.Width.BITS ≤ g.U.Numeric.BITS_SIZE;
-      groups : GroupsGathered (queue_sink (MayRefuse target.contents target.references target.refuses) g.E.Endianness.order)
+      groups : GroupsGathered (queue_sink (MayRefuseWrite target.stream) g.E.Endianness.order)
           g.F.Width.BITS (u.value l.fn.value) (state l.fn.self) (u.value l.rest) (state l.self) l.bits (u.value l.word);
     }
 
