@@ -11,6 +11,7 @@ use Rattle.bitstream_io.proofs.WordLemmas.{length-word, length-bits}
 use Rattle.bitstream_io.specs.Error.{Error}
 use Rattle.bitstream_io.specs.Entry.{WriteEntry}
 use Rattle.bitstream_io.specs.Refusal.{Refusal}
+use Rattle.bitstream_io.specs.Streams.{OutputStream}
 use Rattle.bitstream_io.proofs.TakeLemmas.{word-none}
 use Rattle.bitstream_io.specs.Alignment.{to_boundary}
 use Rattle.bitstream_io.specs.Run.{accepted, refusal_if_any, write_run, write_refusals}
@@ -236,23 +237,21 @@ PackedBytes-from o fields vs held references s t few fresh was =
 -- ---- refusals
 
 -- an input whose values were refused is answered so, and the stream is as it was
-pub Packs-refused : {W : Type 0} (contents : W → Option (List ℕ)) (may : Refusal → Type 0) (o : Order) (fields :
-    List Field) (values : Result (List FieldValue) Fault) (output : W) (r : Result (Unit {0}) Fault) (f : Fault)
+pub Packs-refused : {W : Type 0} (O : OutputStream W) (o : Order) (fields : List Field) (values : Result (List FieldValue) Fault) (output : W) (r : Result (Unit {0}) Fault) (f : Fault)
     → IsErrAnd r (λ e. e ≡ f) → (f ≡ fault 0 OutOfMemory) ⊎ (values ≡ Err f)
-    → Packs contents may o fields values output r output
-Packs-refused contents may o fields values output (Ok done) f h why = absurd h
-Packs-refused contents may o fields (Ok vs) output (Err e) f h (inl memory) = inl (h ∙ memory, refl)
-Packs-refused contents may o fields (Ok vs) output (Err e) f h (inr is) = absurd (cc)
-Packs-refused contents may o fields (Err x) output (Err e) f h (inl memory) = (refl, inr (h ∙ memory))
-Packs-refused contents may o fields (Err x) output (Err e) f h (inr is) =
+    → Packs O o fields values output r output
+Packs-refused O o fields values output (Ok done) f h why = absurd h
+Packs-refused O o fields (Ok vs) output (Err e) f h (inl memory) = inl (h ∙ memory, refl)
+Packs-refused O o fields (Ok vs) output (Err e) f h (inr is) = absurd (cc)
+Packs-refused O o fields (Err x) output (Err e) f h (inl memory) = (refl, inr (h ∙ memory))
+Packs-refused O o fields (Err x) output (Err e) f h (inr is) =
     (let same : x ≡ f = cc in (refl, inl (h ∙ sym same)))
 
 -- values that the input spells were packed, or the stream refused a request
-pub Packs-values : {W : Type 0} (contents : W → Option (List ℕ)) (may : Refusal → Type 0) (o : Order)
-    (fields : List Field) (vs : List FieldValue) (old : W) (r : Result (Unit {0}) Fault) (new : W)
-    → PacksValues contents may o fields vs old r new → Packs contents may o fields (Ok vs) old r new
-Packs-values contents may o fields vs old (Ok done) new h = h
-Packs-values contents may o fields vs old (Err f) new h = inr h
+pub Packs-values : {W : Type 0} (O : OutputStream W) (o : Order) (fields : List Field) (vs : List FieldValue) (old : W) (r : Result (Unit {0}) Fault) (new : W)
+    → PacksValues O o fields vs old r new → Packs O o fields (Ok vs) old r new
+Packs-values O o fields vs old (Ok done) new h = h
+Packs-values O o fields vs old (Err f) new h = inr h
 
 -- the bytes that bits filled, of a new writer
 pub filled : (o : Order) (held : Option (List ℕ)) (references : List Reference) (s : WriterState) → s

@@ -7,8 +7,8 @@ use Rattle.bitstream_io.specs.Error.{Error}
 use Rattle.bitstream_io.specs.Error.TheVariants as errors
 use Rattle.bitstream_io.specs.Fault.{refusal_of}
 use Rattle.bitstream_io.specs.Gather.{seen}
-use Rattle.bitstream_io.specs.Refusal.{Refusal, IsTrueEnd, MayRefuse, TrueEnds}
-use Rattle.bitstream_io.specs.Reference.{Reference, capacity_of}
+use Rattle.bitstream_io.specs.Refusal.{Refusal, IsTrueEnd, MayRefuseRead, MayRefuseWrite, TrueEnds, refused_read}
+use Rattle.bitstream_io.specs.Streams.{InputStream, OutputStream}
 use Rattle.bitstream_io.specs.Word.{Order, bits}
 use Rattle.bitstream_io.proofs.ReadsLemmas.{Consumes-known}
 use Rattle.bitstream_io.proofs.WordLemmas.{bits-append}
@@ -25,52 +25,54 @@ use Rattle.bitfields_core.specs.Value.{Fit}
 use Rattle.bitfields_core.proofs.ExactRuns.{ends_at_a_byte, named, same_bytes, values_fit}
 use Rattle.bitfields_core.proofs.UnpackedBytes.{all_say_fault, FieldsKnown}
 
+-- packed fields, or their fault, by the bytes of a stream
+abbrev pub PackedKnown : (Refusal → Type 0) → Order → List Field → Option (List ℕ) → Result (List FieldValue) Fault
+    → Option (List ℕ) → Type 0
+PackedKnown may o fields old (Ok vs) new = ReadPacked o fields old vs new
+PackedKnown may o fields old (Err f) new = PackedFault may o fields old f new
+
 -- what a new reader's calls of packed fields come to
 pub packed_known : (may : Refusal → Type 0) (o : Order) (fields : List Field) (known after : Option (List ℕ))
     (answer result : Result (List FieldValue) Fault)
     → FieldsKnown exact_read may o (with_alignment fields) known answer after
     → result ≡ unnamed_result (length fields) answer
-    → ReadsPackedBytes {R = Option (List ℕ)} (λ b. b) may o fields known result after
+    → PackedKnown may o fields known result after
 packed_known may o fields known after (Ok vs) result h is =
     let whole : h.len % 8 ≡ 0 = ends_at_a_byte o 1 fields 0 (bits o h.gone ++ []) vs h.len (h.says []) in
     let size : h.len ≡ 8 * length h.gone = omega (arith, whole, h.taken.least.0, h.taken.least.1) in
-    subst (λ (r : Result (List FieldValue) Fault). ReadsPackedBytes {R = Option (List ℕ)} (λ b. b) may o fields known r
+    subst (λ (r : Result (List FieldValue) Fault). PackedKnown may o fields known r
     after) (sym is) (record {
       gone = h.gone;
       loses = h.taken.loses;
       says = λ more. ap (unnamed_last (length fields)) (h.says more) ∙ ap (Unpacks vs) size;
     })
 packed_known may o fields known after (Err g) result h is =
-    subst (λ (r : Result (List FieldValue) Fault). ReadsPackedBytes {R = Option (List ℕ)} (λ b. b) may o fields known r
+    subst (λ (r : Result (List FieldValue) Fault). PackedKnown may o fields known r
     after) (sym is) (g, h, refl)
 
 -- the same of a stream
-pub packed_stream : {R : Type 0} (known : R → Option (List ℕ)) (may : Refusal → Type 0) (o : Order)
-    (fields : List Field) (old new : R) (r : Result (List FieldValue) Fault)
-    → ReadsPackedBytes {R = Option (List ℕ)} (λ b. b) may o fields (known old) r (known new)
-    → ReadsPackedBytes known may o fields old r new
-packed_stream known may o fields old new (Ok vs) h = h
-packed_stream known may o fields old new (Err f) h = h
+pub packed_stream : {R : Type 0} (I : InputStream R) (o : Order) (fields : List Field) (old new : R) (r : Result (List FieldValue) Fault)
+    → PackedKnown (MayRefuseRead I) o fields (I.remaining old) r (I.remaining new)
+    → ReadsPackedBytes I o fields old r new
+packed_stream I o fields old new (Ok vs) h = h
+packed_stream I o fields old new (Err f) h = h
 
 -- values that were read fit
-pub packed_fits : {R V : Type 0} (known : R → Option (List ℕ)) (may : Refusal → Type 0) (o : Order)
-    (fields : List Field) (old new : R) (view : V → List FieldValue) (r : Result V Fault) → IsLayout fields
-    → ReadsPackedBytes known may o fields old (seen view r) new → IfOk r (λ v. Fit fields (view v))
-packed_fits known may o fields old new view (Ok v) layout h =
+pub packed_fits : {R V : Type 0} (I : InputStream R) (o : Order) (fields : List Field) (old new : R) (view : V → List FieldValue) (r : Result V Fault) → IsLayout fields
+    → ReadsPackedBytes I o fields old (seen view r) new → IfOk r (λ v. Fit fields (view v))
+packed_fits I o fields old new view (Ok v) layout h =
     values_fit o fields (bits o h.gone ++ []) (view v) (8 * length h.gone) layout
     (named (length fields) (says_by exact_read o 1 (with_alignment fields) 0 (bits o h.gone ++ [])) (view v)
     (8 * length h.gone) (h.says []))
-packed_fits known may o fields old new view (Err f) layout h = tt
+packed_fits I o fields old new view (Err f) layout h = tt
 
 -- values that were read to the input's end were packed, or the output refused a request
-pub packed_again : {R W : Type 0} (known : R → Option (List ℕ)) (references : R → List Reference)
-    (refuses : R → ℕ → ErrorKind → R → Type 0)
-    (contents : W → Option (List ℕ)) (may : Refusal → Type 0) (o : Order) (fields : List Field) (input input_after : R)
+pub packed_again : {R W : Type 0} (I : InputStream R) (O : OutputStream W) (o : Order) (fields : List Field) (input input_after : R)
     (output output_after : W) (vs : List FieldValue) (r : Result (Unit {0}) Fault) → IsLayout fields
-    → ReadToLast known refuses o fields input vs input_after
-    → PacksValues contents may o fields vs output r output_after
-    → Repacks known references refuses contents may o fields input output r input_after output_after
-packed_again known references refuses contents may o fields input input_after output output_after vs (Ok done) layout read packs =
+    → ReadToLast I o fields input vs input_after
+    → PacksValues O o fields vs output r output_after
+    → Repacks I O o fields input output r input_after output_after
+packed_again I O o fields input input_after output output_after vs (Ok done) layout read packs =
     let xs = read.reads.gone in
     let says : repacked o fields (bits o xs) ≡ Unpacks vs (8 * length xs) =
     ap (repacked o fields) (sym (append-nil (bits o xs))) ∙ read.reads.says [] in
@@ -80,7 +82,7 @@ packed_again known references refuses contents may o fields input input_after ou
       packs = packs;
       same = λ one. packs.says ∙ sym (same_bytes o fields xs vs layout one says);
     }
-packed_again known references refuses contents may o fields input input_after output output_after vs (Err f) layout read refused =
+packed_again I O o fields input input_after output output_after vs (Err f) layout read refused =
     refused_output vs read refused
 
 -- a fault keeps its reason
@@ -105,24 +107,16 @@ output_refused may o p fields vs old f new xs h = elim (write_reasons (refusal_o
   | inr stream ↦ inl (inr (ap (λ (g : Fault). g.reason) h.reason ∙ stream))
 ]
 
-module _ {R : Type 0} {known : R → Option (List ℕ)} {references : R → List Reference}
-    {refuses : R → ℕ → ErrorKind → R → Type 0}
-    (ends : TrueEnds (MayRefuse known references refuses)) (o : Order) (fields : List Field) {input : R} {xs : List ℕ}
-    (told : known input ≡ Some xs) where
+module _ {R : Type 0} {I : InputStream R} (ends : TrueEnds (MayRefuseRead I)) (o : Order) (fields : List Field) {input : R} {xs : List ℕ}
+    (told : I.remaining input ≡ Some xs) where
   -- a refusal is a true end
-  true_end : {wanted : ℕ} {kind : ErrorKind} {s t : R} → refuses s wanted kind t
-      → IsTrueEnd (record {
-        kind = kind;
-        wanted = wanted;
-        capacity = capacity_of (references s);
-        before = known s;
-        after = known t;
-      })
+  true_end : {wanted : ℕ} {kind : ErrorKind} {s t : R} → I.refuses s wanted kind t
+      → IsTrueEnd (refused_read I s wanted kind t)
   true_end {wanted = wanted} {kind = kind} {s = s} {t = t} h =
       ends _ (record { old = s; new = t; capacity = refl; before = refl; after = refl; refused = h })
 
   -- what all bytes say, by those that were read
-  say : {vs : List FieldValue} {behind : Option (List ℕ)} (h : ReadPacked o fields (known input) vs behind)
+  say : {vs : List FieldValue} {behind : Option (List ℕ)} (h : ReadPacked o fields (I.remaining input) vs behind)
       (rest : List ℕ) → xs ≡ h.gone ++ rest → repacked o fields (bits o xs) ≡ Unpacks vs (8 * length h.gone)
   say h rest is =
       ap (λ (bytes : List ℕ). repacked o fields (bits o bytes)) is
@@ -130,10 +124,10 @@ module _ {R : Type 0} {known : R → Option (List ℕ)} {references : R → List
 
   -- the fields were not read
   pub not_read : {f : Fault} {after : Option (List ℕ)}
-      → PackedFault (MayRefuse known references refuses) o fields (known input) f after → IsRepacked o fields xs (Err f)
+      → PackedFault (MayRefuseRead I) o fields (I.remaining input) f after → IsRepacked o fields xs (Err f)
   not_read {after = after} (g, h, is) =
-      let why = all_say_fault exact_read o (with_alignment fields) (known input) after xs told
-      (MayRefuse known references refuses) g ends h in
+      let why = all_say_fault exact_read o (with_alignment fields) (I.remaining input) after xs told
+      (MayRefuseRead I) g ends h in
       elim why [
         | inl memory ↦ inl (inl (ap (λ (f : Fault). f.reason) is ∙ unnamed-reason (length fields) g ∙ memory))
         | inr says ↦ inr (inl (ap (unnamed_last (length fields)) says ∙ ap Stops (sym is)))
@@ -141,11 +135,11 @@ module _ {R : Type 0} {known : R → Option (List ℕ)} {references : R → List
 
   -- the input did not end behind them
   pub not_ended : {vs : List FieldValue} {behind : R} {f : Fault} {after : R}
-      → ReadPacked o fields (known input) vs (known behind) → IsNoEnd known refuses behind f after
+      → ReadPacked o fields (I.remaining input) vs (I.remaining behind) → IsNoEnd I behind f after
       → IsRepacked o fields xs (Err f)
   not_ended {vs = vs} {behind = behind} {after = after} h (inl (byte, loses, is)) =
-      let first = Consumes-known (known input) (known behind) h.gone xs h.loses told in
-      let second = Consumes-known (known behind) (known after) (byte ∷ []) first.0 loses first.1 in
+      let first = Consumes-known (I.remaining input) (I.remaining behind) h.gone xs h.loses told in
+      let second = Consumes-known (I.remaining behind) (I.remaining after) (byte ∷ []) first.0 loses first.1 in
       let few : 8 * length h.gone < 8 * length xs =
       omega (
         arith,
@@ -159,10 +153,10 @@ module _ {R : Type 0} {known : R → Option (List ℕ)} {references : R → List
   not_ended h (inr (kind, refused, other, is)) = absurd (other (true_end refused).kind)
 
   -- the input ended behind them
-  pub ended : {vs : List FieldValue} {after : R} → ReadToLast known refuses o fields input vs after
+  pub ended : {vs : List FieldValue} {after : R} → ReadToLast I o fields input vs after
       → AreRepacked o fields xs
   ended {vs = vs} h =
-      let first = Consumes-known (known input) (known h.behind) h.reads.gone xs h.reads.loses told in
+      let first = Consumes-known (I.remaining input) (I.remaining h.behind) h.reads.gone xs h.reads.loses told in
       let end = true_end h.ended in
       let same : Some first.0 ≡ Some end.left = sym first.1 ∙ end.told in
       let none : first.0 ≡ [] = nil_from_length first.0 (let e : first.0 ≡ end.left = cc same in
@@ -172,10 +166,10 @@ module _ {R : Type 0} {known : R → Option (List ℕ)} {references : R → List
       (vs, say h.reads first.0 first.2 ∙ ap (λ (bytes : List ℕ). Unpacks vs (8 * length bytes)) (sym whole))
 
   -- the output took the packed bytes, or refused a request
-  pub was_ended : {W : Type 0} (contents : W → Option (List ℕ)) (may : Refusal → Type 0) {vs : List FieldValue}
+  pub was_ended : {W : Type 0} (O : OutputStream W) {vs : List FieldValue}
       {after : R} (output output_after : W) (r : Result (Unit {0}) Fault)
-      → ReadToLast known refuses o fields input vs after → PacksValues contents may o fields vs output r output_after
+      → ReadToLast I o fields input vs after → PacksValues O o fields vs output r output_after
       → IsRepacked o fields xs r
-  was_ended contents may output output_after (Ok done) read packs = ended read
-  was_ended contents may {vs = vs} output output_after (Err f) read refused =
-      output_refused may o o fields vs (contents output) f (contents output_after) xs refused
+  was_ended O output output_after (Ok done) read packs = ended read
+  was_ended O {vs = vs} output output_after (Err f) read refused =
+      output_refused (MayRefuseWrite O) o o fields vs (O.contents output) f (O.contents output_after) xs refused

@@ -9,7 +9,8 @@ use Rattle.std.proofs.Math.Seq.{drop-append_seam}
 use Rattle.bitstream_io.specs.Word.{Order, bits}
 use Rattle.bitstream_io.specs.Gather.{seen}
 use Rattle.bitstream_io.specs.Fault.{read_refusal_of}
-use Rattle.bitstream_io.specs.Refusal.{Refusal, MayRefuse, TrueEnds}
+use Rattle.bitstream_io.specs.Refusal.{Refusal, MayRefuse, MayRefuseRead, TrueEnds}
+use Rattle.bitstream_io.specs.Streams.{InputStream}
 use Rattle.bitstream_io.proofs.WordLemmas.{bits-append}
 use Rattle.bitstream_io.proofs.ReadsLemmas.{Consumes-known}
 use Rattle.bitstream_io.specs.Reader.{new_reader_state}
@@ -19,7 +20,7 @@ use Rattle.bitfields_core.specs.declared.fault.Reason.TheVariants.{OutOfMemory}
 use Rattle.bitfields_core.specs.declared.field.Field.{Field}
 use Rattle.bitfields_core.specs.declared.field_value.FieldValue.{FieldValue}
 use Rattle.bitfields_core.specs.Fault.{fault}
-use Rattle.bitfields_core.specs.Unpacking.{FieldCalls, Unpacks, Stops, says_by, unpacked, field_read, read_reason, in_lines, ReadsFields, ReadsLines, SaidValues, FieldsFault, TakesLeastBytes, UnpacksBytes, IsSaid}
+use Rattle.bitfields_core.specs.Unpacking.{FieldCalls, Unpacks, Stops, says_by, unpacked, field_read, read_reason, in_lines, ReadsFields, ReadsLines, SaidValues, FieldsFault, TakesLeastBytes, UnpackedBytes, UnpacksBytes, IsSaid}
 use Rattle.bitfields_core.proofs.UnpackingLemmas.{ComesTo, ComesTo-calls, ComesTo-references}
 
 -- a new reader fetched the bytes that the bits taken reach into
@@ -142,10 +143,16 @@ module _ (calls : FieldCalls) (may allowed : Refusal → Type 0) (o : Order) (fi
         end.kind));
   }))
 
+-- the lines of fields, or their fault, by the bytes of a stream
+abbrev pub LinesKnown : (Refusal → Type 0) → Order → List Field → Option (List ℕ) → Result (List ℕ) Fault
+    → Option (List ℕ) → Type 0
+LinesKnown may o fields old (Ok text) new = UnpackedBytes o fields old text new
+LinesKnown may o fields old (Err f) new = FieldsFault field_read may o fields old f new
+
 -- the lines of values that bytes say
 in_lines_known : (may : Refusal → Type 0) (o : Order) (fields : List Field) (old new : Option (List ℕ))
     (r : Result (List FieldValue) Fault) → FieldsKnown field_read may o fields old r new
-    → UnpacksBytes {R = Option (List ℕ)} (λ b. b) may o fields old (in_lines r) new
+    → LinesKnown may o fields old (in_lines r) new
 in_lines_known may o fields old new (Ok vs) h =
     record { gone = h.gone; len = h.len; taken = h.taken; values = vs; says = h.says; prints = refl }
 in_lines_known may o fields old new (Err f) h = h
@@ -186,23 +193,23 @@ pub Unpacks-from : {R : Type 0} (K : BitSource R) (allowed : Refusal → Type 0)
     (known : Option (List ℕ)) (references : List Reference) (old new : R) (result : Result (List ℕ) Fault)
     → ((x : Refusal) → K.may x → allowed x)
     → K.state old ≡ new_reader_state known references → ReadsLines K fields old result new
-    → UnpacksBytes {R = Option (List ℕ)} (λ b. b) allowed K.order fields known result (K.state new).bytes
+    → LinesKnown allowed K.order fields known result (K.state new).bytes
     × ((K.state new).references ≡ references)
 Unpacks-from K allowed fields known references old new result is fresh h =
     let all = Fields-from field_read K allowed fields known references old new h.answer is fresh h.reads in (
-      subst (λ (r : Result (List ℕ) Fault). UnpacksBytes {R = Option (List ℕ)} (λ b. b) allowed K.order fields known r
+      subst (λ (r : Result (List ℕ) Fault). LinesKnown allowed K.order fields known r
           (K.state new).bytes) (sym h.prints)
           (in_lines_known allowed K.order fields known (K.state new).bytes h.answer all.0),
       all.1,
     )
 
-pub UnpacksBytes-exit : {R V : Type 0} (known : R → Option (List ℕ)) (may : Refusal → Type 0) (o : Order)
+pub UnpacksBytes-exit : {R V : Type 0} (I : InputStream R) (o : Order)
     (fields : List Field) (old new : R) (view : V → List ℕ) (r : Result V Fault) (f : Fault)
-    → IsErrAnd r (λ e. e ≡ f) → UnpacksBytes known may o fields old (Err f) new
-    → UnpacksBytes known may o fields old (seen view r) new
-UnpacksBytes-exit known may o fields old new view (Ok v) f h k = absurd h
-UnpacksBytes-exit known may o fields old new view (Err e) f h k =
-    subst (λ (x : Fault). UnpacksBytes known may o fields old (Err x) new) (sym h) k
+    → IsErrAnd r (λ e. e ≡ f) → UnpacksBytes I o fields old (Err f) new
+    → UnpacksBytes I o fields old (seen view r) new
+UnpacksBytes-exit I o fields old new view (Ok v) f h k = absurd h
+UnpacksBytes-exit I o fields old new view (Err e) f h k =
+    subst (λ (x : Fault). UnpacksBytes I o fields old (Err x) new) (sym h) k
 
 -- what the bytes taken say, whatever follows them, all bytes say
 said_by : {A : Type 0} (o : Order) (f : List Bool → A) (known after : Option (List ℕ)) (gone xs : List ℕ) (a : A)
@@ -230,16 +237,15 @@ module _ (calls : FieldCalls) (o : Order) (fields : List Field) (old new : Optio
   all_say_fault may f ends (inr (inr h)) = inr (h.ended (ends h.refusal h.allowed) xs told)
 
 -- over a source whose refusals are all true ends, a refusal is exactly that of the bits
-pub said : {R : Type 0} (known : R → Option (List ℕ)) (may : Refusal → Type 0) (o : Order) (fields :
-    List Field) (old new : R) (result : Result (List ℕ) Fault) → UnpacksBytes known may o fields old result new
-    → TrueEnds may
-    → (xs : List ℕ) → known old ≡ Some xs → IsSaid o fields xs result
-said known may o fields old new (Ok text) h ends xs told = record {
+pub said : {R : Type 0} (I : InputStream R) (o : Order) (fields : List Field) (old new : R) (result : Result (List ℕ) Fault) → UnpacksBytes I o fields old result new
+    → TrueEnds (MayRefuseRead I)
+    → (xs : List ℕ) → I.remaining old ≡ Some xs → IsSaid o fields xs result
+said I o fields old new (Ok text) h ends xs told = record {
   values = h.values;
   len = h.len;
-  says = said_by o (unpacked o 1 fields 0) (known old) (known new) h.gone xs (Unpacks h.values h.len) h.taken.loses told
+  says = said_by o (unpacked o 1 fields 0) (I.remaining old) (I.remaining new) h.gone xs (Unpacks h.values h.len) h.taken.loses told
       h.says;
   prints = h.prints;
 }
-said known may o fields old new (Err f) h ends xs told =
-    all_say_fault field_read o fields (known old) (known new) xs told may f ends h
+said I o fields old new (Err f) h ends xs told =
+    all_say_fault field_read o fields (I.remaining old) (I.remaining new) xs told (MayRefuseRead I) f ends h

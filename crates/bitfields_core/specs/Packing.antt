@@ -9,7 +9,8 @@ use Rattle.bitstream_io.specs.Error.{Error}
 use Rattle.bitstream_io.specs.Error.TheVariants as errors
 use Rattle.bitstream_io.specs.Entry.{WriteEntry}
 use Rattle.bitstream_io.specs.Fault.{refusal_of}
-use Rattle.bitstream_io.specs.Refusal.{Refusal}
+use Rattle.bitstream_io.specs.Refusal.{Refusal, MayRefuseWrite}
+use Rattle.bitstream_io.specs.Streams.{OutputStream}
 use Rattle.bitstream_io.specs.Run.{write_run}
 use Rattle.bitstream_io.specs.Sink.{Sink, Appended, WriteRefused}
 use Rattle.bitstream_io.specs.WriteTable.{unsigned, signed, unary_word, vbr, signed_vbr, buffer, zeros, align}
@@ -92,17 +93,17 @@ pub record PackingRefused (may : Refusal → Type 0) (o : Order) (fields : List 
   pub after : new ≡ refusal.after
 
 -- values were packed, or the stream refused a request
-abbrev pub PacksValues : {W : Type 0} → (W → Option (List ℕ)) → (Refusal → Type 0) → Order → List Field
-    → List FieldValue → W → Result (Unit {0}) Fault → W → Type 0
-PacksValues contents may o fields vs old (Ok done) new = PackedBytes o fields vs (contents old) (contents new)
-PacksValues contents may o fields vs old (Err f) new = PackingRefused may o fields vs (contents old) f (contents new)
+abbrev pub PacksValues : {W : Type 0} → OutputStream W → Order → List Field → List FieldValue → W
+    → Result (Unit {0}) Fault → W → Type 0
+PacksValues O o fields vs old (Ok done) new = PackedBytes o fields vs (O.contents old) (O.contents new)
+PacksValues O o fields vs old (Err f) new =
+    PackingRefused (MayRefuseWrite O) o fields vs (O.contents old) f (O.contents new)
 
 -- The values were packed, or the first fault of the input was answered and the stream is as it was. Else memory was
 -- refused and the stream is as it was, or the stream refused a request.
-abbrev pub Packs : {W : Type 0} → (W → Option (List ℕ)) → (Refusal → Type 0) → Order → List Field
-    → Result (List FieldValue) Fault → W → Result (Unit {0}) Fault → W → Type 0
-Packs contents may o fields (Ok vs) old (Ok done) new = PackedBytes o fields vs (contents old) (contents new)
-Packs contents may o fields (Ok vs) old (Err f) new = ((f ≡ fault 0 OutOfMemory) × (new ≡ old))
-    ⊎ PackingRefused may o fields vs (contents old) f (contents new)
-Packs contents may o fields (Err f) old (Ok done) new = ⊥
-Packs contents may o fields (Err f) old (Err g) new = (new ≡ old) × ((g ≡ f) ⊎ (g ≡ fault 0 OutOfMemory))
+abbrev pub Packs : {W : Type 0} → OutputStream W → Order → List Field → Result (List FieldValue) Fault → W → Result (Unit {0}) Fault → W → Type 0
+Packs O o fields (Ok vs) old (Ok done) new = PackedBytes o fields vs (O.contents old) (O.contents new)
+Packs O o fields (Ok vs) old (Err f) new = ((f ≡ fault 0 OutOfMemory) × (new ≡ old))
+    ⊎ PackingRefused (MayRefuseWrite O) o fields vs (O.contents old) f (O.contents new)
+Packs O o fields (Err f) old (Ok done) new = ⊥
+Packs O o fields (Err f) old (Err g) new = (new ≡ old) × ((g ≡ f) ⊎ (g ≡ fault 0 OutOfMemory))

@@ -6,8 +6,8 @@ use Rattle.std.specs.declared.io.ErrorKind.TheVariants.{UnexpectedEof}
 use Rattle.bitstream_io.specs.Alignment.{to_boundary}
 use Rattle.bitstream_io.specs.Entry.{ReadEntry, call, chain, gives, takes, word_front}
 use Rattle.bitstream_io.specs.Reads.{BitSource}
-use Rattle.bitstream_io.specs.Refusal.{Refusal, MayRefuse}
-use Rattle.bitstream_io.specs.Reference.{Reference}
+use Rattle.bitstream_io.specs.Refusal.{Refusal, MayRefuseRead, MayRefuseWrite}
+use Rattle.bitstream_io.specs.Streams.{InputStream, OutputStream}
 use Rattle.bitstream_io.specs.Word.{Order, bits}
 use Rattle.bitfields_core.specs.declared.fault.Reason.{Reason}
 use Rattle.bitfields_core.specs.declared.fault.Reason.TheVariants.{BytesLeftOver, OutOfMemory, PaddingNotZero, StreamFault}
@@ -96,63 +96,58 @@ PackedFault may o fields old f new = (g : Fault)
     × FieldsFault exact_read may o (with_alignment fields) old g new × (f ≡ unnamed (length fields) g)
 
 -- packed fields, read from a stream's bytes: the values, or the fault
-abbrev pub ReadsPackedBytes : {R : Type 0} → (R → Option (List ℕ)) → (Refusal → Type 0) → Order → List Field → R
-    → Result (List FieldValue) Fault → R → Type 0
-ReadsPackedBytes known may o fields old (Ok vs) new = ReadPacked o fields (known old) vs (known new)
-ReadsPackedBytes known may o fields old (Err f) new = PackedFault may o fields (known old) f (known new)
+abbrev pub ReadsPackedBytes : {R : Type 0} → InputStream R → Order → List Field → R → Result (List FieldValue) Fault → R → Type 0
+ReadsPackedBytes I o fields old (Ok vs) new = ReadPacked o fields (I.remaining old) vs (I.remaining new)
+ReadsPackedBytes I o fields old (Err f) new = PackedFault (MayRefuseRead I) o fields (I.remaining old) f (I.remaining new)
 
 -- one byte more is there, or the request for it was refused, but not as an end
-abbrev pub IsNoEnd : {R : Type 0} → (R → Option (List ℕ)) → (R → ℕ → ErrorKind → R → Type 0) → R → Fault → R → Type 0
-IsNoEnd known refuses old f new =
-    ((byte : ℕ) × Consumes (known old) (known new) (byte ∷ []) × (f ≡ fault 0 BytesLeftOver))
-    ⊎ ((kind : ErrorKind) × refuses old 1 kind new × (kind ≢ UnexpectedEof) × (f ≡ fault 0 (refusal_reason kind)))
+abbrev pub IsNoEnd : {R : Type 0} → InputStream R → R → Fault → R → Type 0
+IsNoEnd I old f new =
+    ((byte : ℕ) × Consumes (I.remaining old) (I.remaining new) (byte ∷ []) × (f ≡ fault 0 BytesLeftOver))
+    ⊎ ((kind : ErrorKind) × I.refuses old 1 kind new × (kind ≢ UnexpectedEof) × (f ≡ fault 0 (refusal_reason kind)))
 
 -- a stream was asked for one byte, and refused it as its end
-abbrev pub Ends : {R : Type 0} → (R → Option (List ℕ)) → (R → ℕ → ErrorKind → R → Type 0) → R → Result (Unit {0}) Fault
-    → R → Type 0
-Ends known refuses old (Ok done) new = refuses old 1 UnexpectedEof new
-Ends known refuses old (Err f) new = IsNoEnd known refuses old f new
+abbrev pub Ends : {R : Type 0} → InputStream R → R → Result (Unit {0}) Fault → R → Type 0
+Ends I old (Ok done) new = I.refuses old 1 UnexpectedEof new
+Ends I old (Err f) new = IsNoEnd I old f new
 
 -- the input ended behind the packed bytes: it refused one byte more as its end
-pub record ReadToLast {R : Type 0} (known : R → Option (List ℕ)) (refuses : R → ℕ → ErrorKind → R → Type 0)
-    (o : Order) (fields : List Field) (input : R) (vs : List FieldValue) (input_after : R) : Type 0 where
+pub record ReadToLast {R : Type 0} (I : InputStream R) (o : Order) (fields : List Field) (input : R) (vs : List FieldValue) (input_after : R) : Type 0 where
   pub behind : R
-  pub reads : ReadPacked o fields (known input) vs (known behind)
-  pub ended : refuses behind 1 UnexpectedEof input_after
+  pub reads : ReadPacked o fields (I.remaining input) vs (I.remaining behind)
+  pub ended : I.refuses behind 1 UnexpectedEof input_after
 
 -- All bytes of the input were read and their values packed. If each value has one word, the bits of the packed bytes
 -- are those that were read.
-pub record RepackedBytes {R W : Type 0} (known : R → Option (List ℕ)) (refuses : R → ℕ → ErrorKind → R → Type 0)
-    (contents : W → Option (List ℕ)) (o : Order) (fields : List Field) (input : R) (output : W) (input_after : R)
+pub record RepackedBytes {R W : Type 0} (I : InputStream R) (O : OutputStream W) (o : Order) (fields : List Field) (input : R) (output : W) (input_after : R)
     (output_after : W) : Type 0 where
   pub vs : List FieldValue
-  pub read : ReadToLast known refuses o fields input vs input_after
-  pub packs : PackedBytes o fields vs (contents output) (contents output_after)
+  pub read : ReadToLast I o fields input vs input_after
+  pub packs : PackedBytes o fields vs (O.contents output) (O.contents output_after)
   pub same : All HasOneWord fields → bits o packs.bytes ≡ bits o read.reads.gone
 
 -- Why an input was not repacked. Its bits have a fault, or it refused a request, or memory was refused, at a field; or
 -- its padding behind the last field is not zero. Or it has a byte more, or refused the request for that byte, but not
 -- as its end. The output is as it was then. Else all of it was read, and the output refused a request.
-pub data RepackingFault {R W : Type 0} (known : R → Option (List ℕ)) (references : R → List Reference)
-    (refuses : R → ℕ → ErrorKind → R → Type 0) (contents : W → Option (List ℕ)) (may : Refusal → Type 0) (o : Order) (fields : List Field) (input : R) (output : W)
-    (f : Fault) (input_after : R) (output_after : W) : Type 0 where
-  stopped_input : PackedFault (MayRefuse known references refuses) o fields (known input) f (known input_after)
+pub data RepackingFault {R W : Type 0} (I : InputStream R) (O : OutputStream W) (o : Order) (fields : List Field)
+    (input : R) (output : W) (f : Fault) (input_after : R) (output_after : W) : Type 0 where
+  stopped_input : PackedFault (MayRefuseRead I) o fields (I.remaining input) f (I.remaining input_after)
       → output_after ≡ output
-      → RepackingFault known references refuses contents may o fields input output f input_after output_after
-  no_end : (vs : List FieldValue) (behind : R) → ReadPacked o fields (known input) vs (known behind)
-      → IsNoEnd known refuses behind f input_after → output_after ≡ output
-      → RepackingFault known references refuses contents may o fields input output f input_after output_after
-  refused_output : (vs : List FieldValue) → ReadToLast known refuses o fields input vs input_after
-      → PackingRefused may o fields vs (contents output) f (contents output_after)
-      → RepackingFault known references refuses contents may o fields input output f input_after output_after
+      → RepackingFault I O o fields input output f input_after output_after
+  no_end : (vs : List FieldValue) (behind : R) → ReadPacked o fields (I.remaining input) vs (I.remaining behind)
+      → IsNoEnd I behind f input_after → output_after ≡ output
+      → RepackingFault I O o fields input output f input_after output_after
+  refused_output : (vs : List FieldValue) → ReadToLast I o fields input vs input_after
+      → PackingRefused (MayRefuseWrite O) o fields vs (O.contents output) f (O.contents output_after)
+      → RepackingFault I O o fields input output f input_after output_after
 
 -- repacking an input
-abbrev pub Repacks : {R W : Type 0} → (R → Option (List ℕ)) → (R → List Reference)
-    → (R → ℕ → ErrorKind → R → Type 0) → (W → Option (List ℕ)) → (Refusal → Type 0) → Order → List Field → R → W → Result (Unit {0}) Fault → R → W → Type 0
-Repacks known references refuses contents may o fields input output (Ok done) input_after output_after =
-    RepackedBytes known refuses contents o fields input output input_after output_after
-Repacks known references refuses contents may o fields input output (Err f) input_after output_after =
-    RepackingFault known references refuses contents may o fields input output f input_after output_after
+abbrev pub Repacks : {R W : Type 0} → InputStream R → OutputStream W → Order → List Field → R → W
+    → Result (Unit {0}) Fault → R → W → Type 0
+Repacks I O o fields input output (Ok done) input_after output_after =
+    RepackedBytes I O o fields input output input_after output_after
+Repacks I O o fields input output (Err f) input_after output_after =
+    RepackingFault I O o fields input output f input_after output_after
 
 -- all bytes of a stream say values, and no byte is left over
 abbrev pub AreRepacked : Order → List Field → List ℕ → Type 0

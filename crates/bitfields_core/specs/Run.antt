@@ -4,7 +4,8 @@ use Rattle.std.specs.Fmt.{decimal}
 use Rattle.std.specs.Io.KnownBytes.{Appends}
 use Rattle.std.specs.declared.io.ErrorKind.{ErrorKind}
 use Rattle.bitstream_io.specs.Word.{Order}
-use Rattle.bitstream_io.specs.Refusal.{MayRefuse}
+use Rattle.bitstream_io.specs.Refusal.{MayRefuseWrite}
+use Rattle.bitstream_io.specs.Streams.{InputStream, OutputStream}
 use Rattle.bitfields_core.specs.declared.fault.Reason.TheVariants.{BadArguments, OutOfMemory}
 use Rattle.bitfields_core.specs.declared.fault.Fault.{Fault}
 use Rattle.bitfields_core.specs.declared.field.Field.{Field}
@@ -17,7 +18,7 @@ use Rattle.bitfields_core.specs.Layout.{IsUnlessMemory, layout_of}
 use Rattle.bitfields_core.specs.Packing.{PackedBytes, PackingRefused}
 use Rattle.bitfields_core.specs.Repacking.{RepackedBytes, RepackingFault}
 use Rattle.bitfields_core.specs.Size.{size_of}
-use Rattle.bitfields_core.specs.Streams.{InputStream, OutputStream, ReadToEnd, RefusedInput, RefusedOutput, Flushed}
+use Rattle.bitfields_core.specs.Streams.{ReadToEnd, RefusedInput, RefusedOutput, Flushed}
 use Rattle.bitfields_core.specs.Unpacking.{UnpackedBytes, UnpacksBytes}
 use Rattle.bitfields_core.specs.Value.{lines, values}
 
@@ -49,28 +50,29 @@ pub record UnflushedBytes {W : Type 0} (O : OutputStream W) (o : Order) (fields 
 -- Why an input was not packed: it refused to be read, its lines have a fault, or memory was refused, and then the
 -- output is as it was.
 -- Else all lines had been read, and the output refused a request for the packed bytes, or the flush behind them.
-pub data PackingFault {R W : Type 0} (I : InputStream R) (O : OutputStream W) (o : Order) (fields : List Field)
-    (input : R) (output : W) (f : Fault) (input_after : R) (output_after : W) : Type 0 where
-  refused_input : RefusedInput I input f input_after → output_after ≡ output
-      → PackingFault I O o fields input output f input_after output_after
+pub data PackingFault {R W : Type 0} (I : InputStream R) (refuses_rest : R → ErrorKind → R → Type 0)
+    (O : OutputStream W) (o : Order) (fields : List Field) (input : R) (output : W) (f : Fault) (input_after : R)
+    (output_after : W) : Type 0 where
+  refused_input : RefusedInput refuses_rest input f input_after → output_after ≡ output
+      → PackingFault I refuses_rest O o fields input output f input_after output_after
   misspelt_input : SpelledInput fields (I.remaining input) (Err f) (I.remaining input_after) → output_after ≡ output
-      → PackingFault I O o fields input output f input_after output_after
+      → PackingFault I refuses_rest O o fields input output f input_after output_after
   refused_memory : (bytes : List ℕ) → ReadToEnd (I.remaining input) bytes (I.remaining input_after) → f
-      ≡ fault 0 OutOfMemory → output_after ≡ output → PackingFault I O o fields input output f input_after output_after
+      ≡ fault 0 OutOfMemory → output_after ≡ output → PackingFault I refuses_rest O o fields input output f input_after output_after
   refused_bytes : (vs : List FieldValue) → SpelledInput fields (I.remaining input) (Ok vs) (I.remaining input_after)
-      → PackingRefused (MayRefuse O.contents O.references O.refuses) o fields vs (O.contents output) f (O.contents output_after)
-      → PackingFault I O o fields input output f input_after output_after
+      → PackingRefused (MayRefuseWrite O) o fields vs (O.contents output) f (O.contents output_after)
+      → PackingFault I refuses_rest O o fields input output f input_after output_after
   unflushed_bytes : (vs : List FieldValue) → SpelledInput fields (I.remaining input) (Ok vs) (I.remaining input_after)
       → UnflushedBytes O o fields vs output f output_after
-      → PackingFault I O o fields input output f input_after output_after
+      → PackingFault I refuses_rest O o fields input output f input_after output_after
 
 -- packing an input
-abbrev pub PacksInput : {R W : Type 0} → InputStream R → OutputStream W → Order → List Field → R → W
-    → Result (Unit {0}) Fault → R → W → Type 0
-PacksInput I O o fields input output (Ok done) input_after output_after =
+abbrev pub PacksInput : {R W : Type 0} → InputStream R → (R → ErrorKind → R → Type 0) → OutputStream W → Order
+    → List Field → R → W → Result (Unit {0}) Fault → R → W → Type 0
+PacksInput I refuses_rest O o fields input output (Ok done) input_after output_after =
     PackedInput I O o fields input output input_after output_after
-PacksInput I O o fields input output (Err f) input_after output_after =
-    PackingFault I O o fields input output f input_after output_after
+PacksInput I refuses_rest O o fields input output (Err f) input_after output_after =
+    PackingFault I refuses_rest O o fields input output f input_after output_after
 
 -- ---- unpacking
 
@@ -96,7 +98,7 @@ pub record UnflushedLines {W : Type 0} (O : OutputStream W) (output : W) (text :
 -- flush behind them.
 pub data UnpackingFault {R W : Type 0} (I : InputStream R) (O : OutputStream W) (o : Order)
     (fields : List Field) (input : R) (output : W) (f : Fault) (input_after : R) (output_after : W) : Type 0 where
-  stopped_input : UnpacksBytes I.remaining (MayRefuse I.remaining I.references I.refuses) o fields input (Err f) input_after
+  stopped_input : UnpacksBytes I o fields input (Err f) input_after
       → output_after ≡ output → UnpackingFault I O o fields input output f input_after output_after
   refused_lines : (text : List ℕ) → UnpackedBytes o fields (I.remaining input) text (I.remaining input_after)
       → RefusedOutput O output (length text) f output_after
@@ -119,16 +121,15 @@ UnpacksInput I O o fields input output (Err f) input_after output_after =
 pub record RepackedInput {R W : Type 0} (I : InputStream R) (O : OutputStream W) (o : Order) (fields : List Field)
     (input : R) (output : W) (input_after : R) (output_after : W) : Type 0 where
   pub filled : W
-  pub repacks : RepackedBytes I.remaining I.refuses O.contents o fields input output input_after filled
+  pub repacks : RepackedBytes I O o fields input output input_after filled
   pub flushed : Flushed O filled output_after
 
 -- Why an input was not repacked, or the flush behind the bytes was refused.
 pub data RepackedFault {R W : Type 0} (I : InputStream R) (O : OutputStream W) (o : Order) (fields : List Field)
     (input : R) (output : W) (f : Fault) (input_after : R) (output_after : W) : Type 0 where
   not_repacked :
-      RepackingFault I.remaining I.references I.refuses O.contents (MayRefuse O.contents O.references O.refuses) o fields input output f
-      input_after output_after → RepackedFault I O o fields input output f input_after output_after
-  unflushed : (filled : W) → RepackedBytes I.remaining I.refuses O.contents o fields input output input_after filled
+      RepackingFault I O o fields input output f input_after output_after → RepackedFault I O o fields input output f input_after output_after
+  unflushed : (filled : W) → RepackedBytes I O o fields input output input_after filled
       → RefusedOutput O filled 0 f output_after → RepackedFault I O o fields input output f input_after output_after
 
 -- repacking an input
@@ -156,42 +157,44 @@ pub record SizedInput {R W : Type 0} (I : InputStream R) (O : OutputStream W) (o
 
 -- Why an input's values are not known: it refused to be read, its lines have a fault, or memory was refused behind its
 -- end.
-abbrev pub ValuesFault : {R : Type 0} → InputStream R → List Field → R → Fault → R → Type 0
-ValuesFault I fields input f input_after =
-    RefusedInput I input f input_after
+abbrev pub ValuesFault : {R : Type 0} → InputStream R → (R → ErrorKind → R → Type 0) → List Field → R → Fault → R
+    → Type 0
+ValuesFault I refuses_rest fields input f input_after =
+    RefusedInput refuses_rest input f input_after
     ⊎ SpelledInput fields (I.remaining input) (Err f) (I.remaining input_after)
     ⊎ ((bytes : List ℕ) × ReadToEnd (I.remaining input) bytes (I.remaining input_after) × (f ≡ fault 0 OutOfMemory))
 
 -- Why the size of an input's values was not written: the values are not known, or memory for the line was refused, and
 -- then the output is as it was. Else the output refused the one request for the line, or the flush behind it.
-pub data SizingFault {R W : Type 0} (I : InputStream R) (O : OutputStream W) (o : Order) (fields : List Field)
-    (input : R) (output : W) (f : Fault) (input_after : R) (output_after : W) : Type 0 where
-  unknown_values : ValuesFault I fields input f input_after → output_after ≡ output
-      → SizingFault I O o fields input output f input_after output_after
+pub data SizingFault {R W : Type 0} (I : InputStream R) (refuses_rest : R → ErrorKind → R → Type 0)
+    (O : OutputStream W) (o : Order) (fields : List Field) (input : R) (output : W) (f : Fault) (input_after : R)
+    (output_after : W) : Type 0 where
+  unknown_values : ValuesFault I refuses_rest fields input f input_after → output_after ≡ output
+      → SizingFault I refuses_rest O o fields input output f input_after output_after
   refused_line : (vs : List FieldValue) → SpelledInput fields (I.remaining input) (Ok vs) (I.remaining input_after)
       → RefusedOutput O output (length (size_line o fields vs)) f output_after
-      → SizingFault I O o fields input output f input_after output_after
+      → SizingFault I refuses_rest O o fields input output f input_after output_after
   unflushed_line : (vs : List FieldValue) → SpelledInput fields (I.remaining input) (Ok vs) (I.remaining input_after)
       → UnflushedLines O output (size_line o fields vs) f output_after
-      → SizingFault I O o fields input output f input_after output_after
+      → SizingFault I refuses_rest O o fields input output f input_after output_after
 
 -- writing the size of an input's values
-abbrev pub SizesInput : {R W : Type 0} → InputStream R → OutputStream W → Order → List Field → R → W
-    → Result (Unit {0}) Fault → R → W → Type 0
-SizesInput I O o fields input output (Ok done) input_after output_after =
+abbrev pub SizesInput : {R W : Type 0} → InputStream R → (R → ErrorKind → R → Type 0) → OutputStream W → Order
+    → List Field → R → W → Result (Unit {0}) Fault → R → W → Type 0
+SizesInput I refuses_rest O o fields input output (Ok done) input_after output_after =
     SizedInput I O o fields input output input_after output_after
-SizesInput I O o fields input output (Err f) input_after output_after =
-    SizingFault I O o fields input output f input_after output_after
+SizesInput I refuses_rest O o fields input output (Err f) input_after output_after =
+    SizingFault I refuses_rest O o fields input output f input_after output_after
 
 -- ---- a call
 
 -- a command's work
-abbrev pub Performs : {R W : Type 0} → InputStream R → OutputStream W → Command → Order → List Field → R → W
-    → Result (Unit {0}) Fault → R → W → Type 0
-Performs I O Pack = PacksInput I O
-Performs I O Unpack = UnpacksInput I O
-Performs I O Size = SizesInput I O
-Performs I O Repack = RepacksInput I O
+abbrev pub Performs : {R W : Type 0} → InputStream R → (R → ErrorKind → R → Type 0) → OutputStream W → Command → Order
+    → List Field → R → W → Result (Unit {0}) Fault → R → W → Type 0
+Performs I refuses_rest O Pack = PacksInput I refuses_rest O
+Performs I refuses_rest O Unpack = UnpacksInput I O
+Performs I refuses_rest O Size = SizesInput I refuses_rest O
+Performs I refuses_rest O Repack = RepacksInput I O
 
 -- memory was refused before a stream was touched
 abbrev pub IsMemoryRefused : {R W : Type 0} → R → W → Result (Unit {0}) Fault → R → W → Type 0
@@ -200,20 +203,20 @@ IsMemoryRefused input output result input_after output_after = (result ≡ Err (
 
 -- The fields of a layout are packed or unpacked. Or the layout has a fault, or memory was refused; that is answered,
 -- and no stream is touched.
-abbrev pub Follows : {R W : Type 0} → InputStream R → OutputStream W → Command → Order → Result (List Field) Fault → R
-    → W → Result (Unit {0}) Fault → R → W → Type 0
-Follows I O command o (Ok fields) input output result input_after output_after =
+abbrev pub Follows : {R W : Type 0} → InputStream R → (R → ErrorKind → R → Type 0) → OutputStream W → Command → Order
+    → Result (List Field) Fault → R → W → Result (Unit {0}) Fault → R → W → Type 0
+Follows I refuses_rest O command o (Ok fields) input output result input_after output_after =
     IsMemoryRefused input output result input_after output_after
-    ⊎ Performs I O command o fields input output result input_after output_after
-Follows I O command o (Err f) input output result input_after output_after =
+    ⊎ Performs I refuses_rest O command o fields input output result input_after output_after
+Follows I refuses_rest O command o (Err f) input output result input_after output_after =
     IsUnlessMemory (Err f) result × (input_after ≡ input) × (output_after ≡ output)
 
 -- what is asked for is done; if nothing is, that is answered, and no stream is touched
-abbrev pub Calls : {R W : Type 0} → InputStream R → OutputStream W → Option Request → R → W → Result (Unit {0}) Fault
-    → R → W → Type 0
-Calls I O (Some request) input output result input_after output_after =
-    Follows I O request.command request.order (layout_of request.layout) input output result input_after output_after
-Calls I O None input output result input_after output_after =
+abbrev pub Calls : {R W : Type 0} → InputStream R → (R → ErrorKind → R → Type 0) → OutputStream W → Option Request → R
+    → W → Result (Unit {0}) Fault → R → W → Type 0
+Calls I refuses_rest O (Some request) input output result input_after output_after =
+    Follows I refuses_rest O request.command request.order (layout_of request.layout) input output result input_after output_after
+Calls I refuses_rest O None input output result input_after output_after =
     (result ≡ Err (fault 0 BadArguments)) × (input_after ≡ input) × (output_after ≡ output)
 
 -- 0, or the status of a fault
@@ -238,11 +241,10 @@ ReportsAny T (Ok done) faults faults_after = faults_after ≡ faults
 ReportsAny T (Err f) faults faults_after = Reports T f faults faults_after
 
 -- a call ends with the status of what became of it, which is reported
-pub record Runs {R W X : Type 0} (I : InputStream R) (O : OutputStream W) (T : OutputStream X)
-    (request : Option Request)
-    (input : R) (output : W) (faults : X) (status : ℕ) (input_after : R) (output_after : W) (faults_after : X) :
+pub record Runs {R W X : Type 0} (I : InputStream R) (refuses_rest : R → ErrorKind → R → Type 0)
+    (O : OutputStream W) (T : OutputStream X) (request : Option Request) (input : R) (output : W) (faults : X) (status : ℕ) (input_after : R) (output_after : W) (faults_after : X) :
     Type 0 where
   pub outcome : Result (Unit {0}) Fault
-  pub calls : Calls I O request input output outcome input_after output_after
+  pub calls : Calls I refuses_rest O request input output outcome input_after output_after
   pub reports : ReportsAny T outcome faults faults_after
   pub ends : status ≡ status_of outcome

@@ -8,7 +8,8 @@ use Rattle.bitstream_io.specs.Entry.{ReadEntry, Takes, chain, gives}
 use Rattle.bitstream_io.specs.ReadTable.{unsigned_entry, signed_entry, unary_entry, vbr_entry, any_vbr_entry, signed_vbr_entry, bytes_entry, skip_entry, align_entry}
 use Rattle.bitstream_io.specs.Run.{read_run}
 use Rattle.bitstream_io.specs.Fault.{read_refusal_of}
-use Rattle.bitstream_io.specs.Refusal.{Refusal, IsTrueEnd}
+use Rattle.bitstream_io.specs.Refusal.{Refusal, IsTrueEnd, MayRefuseRead}
+use Rattle.bitstream_io.specs.Streams.{InputStream}
 use Rattle.bitstream_io.specs.Reads.{BitSource}
 use Rattle.bitstream_io.specs.Own.{OwnAnswer, ReadsOwn}
 use Rattle.bitfields_core.specs.declared.fault.Reason.{Reason}
@@ -266,10 +267,10 @@ FieldsFault calls may o fields old f new =
     ⊎ UnpackingRefused calls may o fields old f new
 
 -- fields, read from a stream's bytes: the lines of their values, or the fault
-abbrev pub UnpacksBytes : {R : Type 0} → (R → Option (List ℕ)) → (Refusal → Type 0) → Order → List Field → R
-    → Result (List ℕ) Fault → R → Type 0
-UnpacksBytes known may o fields old (Ok text) new = UnpackedBytes o fields (known old) text (known new)
-UnpacksBytes known may o fields old (Err f) new = FieldsFault field_read may o fields (known old) f (known new)
+abbrev pub UnpacksBytes : {R : Type 0} → InputStream R → Order → List Field → R → Result (List ℕ) Fault → R → Type 0
+UnpacksBytes I o fields old (Ok text) new = UnpackedBytes o fields (I.remaining old) text (I.remaining new)
+UnpacksBytes I o fields old (Err f) new =
+    FieldsFault field_read (MayRefuseRead I) o fields (I.remaining old) f (I.remaining new)
 
 -- all bytes of a stream say the values whose lines are printed
 pub record SaidBytes (o : Order) (fields : List Field) (xs text : List ℕ) : Type 0 where

@@ -21,8 +21,8 @@ pub trait Input: Source {
     /// The input's own, as [`Read::read_to_end`] has them: of kind `OutOfMemory` too if memory for
     /// the bytes is refused. The bytes that came before are lost then.
     fn read_rest(&mut self, alloc: Global) -> io::Result<Vec<u8>>
-        ensures bytes { IfOk result (λ bytes. ReadToEnd (Self.remaining self.old) bytes.items
-            (Self.remaining self.new)) }
+        ensures bytes { IfOk result (λ bytes. ReadToEnd (Self.stream.remaining self.old) bytes.items
+            (Self.stream.remaining self.new)) }
         ensures refused { IfErr result (λ e. refuses_rest self.old (error_kind e) self.new) };
 }
 

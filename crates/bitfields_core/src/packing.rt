@@ -1,7 +1,6 @@
 //! Packing: the words of an input's values, and a last alignment.
 
 ghost use Rattle.std.specs.Prelude.{◌≡◌, false, None, [], ◌∷◌, ◌++◌};
-ghost use Rattle.bitstream_io.specs.Refusal.{MayRefuse};
 ghost use Rattle.bitstream_io.specs.Sink.{Writes, WritesAll};
 ghost use Rattle.bitstream_io.specs.WriteTable.{align, unary_word, vbr, signed_vbr};
 ghost use Rattle.bitfields_core.specs.Layout.{group_bits};
@@ -32,7 +31,7 @@ pub fn pack<E: Endianness, W: Target>(
     input: &[u8],
     output: &mut W,
 ) -> Result<(), Fault>
-    ensures { Packs W.contents (MayRefuse W.contents W.references W.refuses) E.order layout.now
+    ensures { Packs W.stream E.order layout.now
         (values_of 1 layout.now (lines_of input.now)) output.old result output.new }
 {
     let values = values(alloc, layout, input)?;
@@ -52,8 +51,7 @@ pub fn pack_values<E: Endianness, W: Target>(
     output: &mut W,
 ) -> Result<(), Fault>
     requires fit { Fit layout.now values.now }
-    ensures { PacksValues W.contents (MayRefuse W.contents W.references W.refuses) E.order layout.now values.now
-        output.old result output.new }
+    ensures { PacksValues W.stream E.order layout.now values.now output.old result output.new }
 {
     let mut writer = BitWriter::<Lent<W>, E>::new(Lent::new(output));
     match pack_to(layout, values, &mut writer) {

@@ -2,7 +2,7 @@
 
 ghost use Rattle.std.specs.Prelude.{◌≡◌, ℕ, List, Some, IfOk};
 ghost use Rattle.bitstream_io.specs.Gather.{seen};
-ghost use Rattle.bitstream_io.specs.Refusal.{MayRefuse, TrueEnds};
+ghost use Rattle.bitstream_io.specs.Refusal.{MayRefuseRead, TrueEnds};
 ghost use Rattle.bitfields_core.specs.Layout.{IsLayout};
 ghost use Rattle.bitfields_core.specs.Repacking.{Ends, IsRepacked, ReadsPackedBytes, Repacks};
 ghost use Rattle.bitfields_core.specs.Value.{Fit};
@@ -33,10 +33,10 @@ pub fn repack<E: Endianness, R: Source, W: Target>(
     input: &mut R,
     output: &mut W,
 ) -> Result<(), Fault>
-    ensures repacks { Repacks R.remaining R.references R.refuses W.contents (MayRefuse W.contents W.references W.refuses)
-        E.order layout.now input.old output.old result input.new output.new }
-    ensures repacked { TrueEnds (MayRefuse R.remaining R.references R.refuses) → (xs : List ℕ)
-        → R.remaining input.old ≡ Some xs → IsRepacked E.order layout.now xs result }
+    ensures repacks { Repacks R.stream W.stream E.order layout.now
+        input.old output.old result input.new output.new }
+    ensures repacked { TrueEnds (MayRefuseRead R.stream) → (xs : List ℕ)
+        → R.stream.remaining input.old ≡ Some xs → IsRepacked E.order layout.now xs result }
 {
     let values = read_packed::<E, R>(alloc, layout, input)?;
     expect_end(input)?;
@@ -53,7 +53,7 @@ fn read_packed<E: Endianness, R: Source>(
     layout: &Layout,
     input: &mut R,
 ) -> Result<Vec<FieldValue>, Fault>
-    ensures reads { ReadsPackedBytes R.remaining (MayRefuse R.remaining R.references R.refuses) E.order layout.now
+    ensures reads { ReadsPackedBytes R.stream E.order layout.now
         input.old (seen (λ v. v.items) result) input.new }
     ensures fit { IfOk result (λ v. Fit layout.now v.items) }
     ensures is_layout { IsLayout layout.now }
@@ -69,7 +69,7 @@ fn read_packed<E: Endianness, R: Source>(
 /// `BytesLeftOver` (field 0) if there is one. `StreamFault` or `OutOfMemory` (field 0), as the stream
 /// refuses the request, unless it refuses it as its end.
 fn expect_end<R: Source>(input: &mut R) -> Result<(), Fault>
-    ensures { Ends R.remaining R.refuses input.old result input.new }
+    ensures { Ends R.stream input.old result input.new }
 {
     let mut byte = [0];
     match input.read_exact(&mut byte) {

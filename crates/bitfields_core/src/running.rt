@@ -6,7 +6,6 @@ ghost use Rattle.bitstream_io.specs.Word.{Order};
 ghost use Rattle.bitfields_core.specs.Call.{bit_order, command_of, order_of, request_of};
 ghost use Rattle.bitfields_core.specs.Layout.{layout_of};
 ghost use Rattle.bitfields_core.specs.Run.{Calls, Follows, PacksInput, Performs, RepacksInput, Reports, Runs, SizesInput, UnpacksInput};
-ghost use Rattle.bitfields_core.specs.Streams.{input_stream, output_stream};
 
 use crate::fault::{Fault, Reason};
 use crate::fault_line::FaultLine;
@@ -53,8 +52,7 @@ pub fn run<R: Input, W: Target, X: Target>(
     output: &mut W,
     faults: &mut X,
 ) -> u8
-    ensures { Runs (input_stream R.remaining R.references R.refuses R.refuses_rest)
-        (output_stream W.contents W.references W.refuses W.flushes) (output_stream X.contents X.references X.refuses X.flushes)
+    ensures { Runs R.stream R.refuses_rest W.stream X.stream
         (request_of (map string_bytes words.now))
         input.old output.old faults.old result input.new output.new faults.new }
 {
@@ -67,8 +65,7 @@ pub fn run<R: Input, W: Target, X: Target>(
 /// Prints the line of a fault, and returns its status.
 pub fn report<X: Target>(fault: Fault, faults: &mut X) -> u8
     ensures status { result ≡ fault.status }
-    ensures line { Reports (output_stream X.contents X.references X.refuses X.flushes) fault
-        faults.old faults.new }
+    ensures line { Reports X.stream fault faults.old faults.new }
 {
     print_line(fault, faults);
     fault.status
@@ -76,7 +73,7 @@ pub fn report<X: Target>(fault: Fault, faults: &mut X) -> u8
 
 /// Prints the line of a fault by one request. Its refusal is ignored.
 fn print_line<X: Target>(fault: Fault, faults: &mut X)
-    ensures { Reports (output_stream X.contents X.references X.refuses X.flushes) fault faults.old faults.new }
+    ensures { Reports X.stream fault faults.old faults.new }
 {
     let line = FaultLine::of(fault);
     let _ = faults.write_all(line.as_slice());
@@ -88,8 +85,7 @@ fn run_command<R: Input, W: Target>(
     input: &mut R,
     output: &mut W,
 ) -> Result<(), Fault>
-    ensures { Calls (input_stream R.remaining R.references R.refuses R.refuses_rest)
-        (output_stream W.contents W.references W.refuses W.flushes) (request_of (map string_bytes words.now))
+    ensures { Calls R.stream R.refuses_rest W.stream (request_of (map string_bytes words.now))
         input.old output.old result input.new output.new }
 {
     let [command, order, text] = words else {
@@ -134,8 +130,7 @@ fn with_layout<R: Input, W: Target>(
     input: &mut R,
     output: &mut W,
 ) -> Result<(), Fault>
-    ensures { Follows (input_stream R.remaining R.references R.refuses R.refuses_rest)
-        (output_stream W.contents W.references W.refuses W.flushes) command (bit_order order) (layout_of text.now)
+    ensures { Follows R.stream R.refuses_rest W.stream command (bit_order order) (layout_of text.now)
         input.old output.old result input.new output.new }
 {
     let layout = parse_layout(alloc, text)?;
@@ -154,8 +149,7 @@ fn dispatch<E: Endianness, R: Input, W: Target>(
     input: &mut R,
     output: &mut W,
 ) -> Result<(), Fault>
-    ensures { Performs (input_stream R.remaining R.references R.refuses R.refuses_rest)
-        (output_stream W.contents W.references W.refuses W.flushes) command E.order layout.now
+    ensures { Performs R.stream R.refuses_rest W.stream command E.order layout.now
         input.old output.old result input.new output.new }
 {
     match command {
@@ -172,8 +166,7 @@ fn pack_input<E: Endianness, R: Input, W: Target>(
     input: &mut R,
     output: &mut W,
 ) -> Result<(), Fault>
-    ensures { PacksInput (input_stream R.remaining R.references R.refuses R.refuses_rest)
-        (output_stream W.contents W.references W.refuses W.flushes) E.order layout.now
+    ensures { PacksInput R.stream R.refuses_rest W.stream E.order layout.now
         input.old output.old result input.new output.new }
 {
     let bytes = input.read_rest(alloc)?;
@@ -188,8 +181,7 @@ fn unpack_input<E: Endianness, R: Input, W: Target>(
     input: &mut R,
     output: &mut W,
 ) -> Result<(), Fault>
-    ensures { UnpacksInput (input_stream R.remaining R.references R.refuses R.refuses_rest)
-        (output_stream W.contents W.references W.refuses W.flushes) E.order layout.now
+    ensures { UnpacksInput R.stream W.stream E.order layout.now
         input.old output.old result input.new output.new }
 {
     let lines = unpack::<E, R>(alloc, layout, input)?;
@@ -204,8 +196,7 @@ fn repack_input<E: Endianness, R: Input, W: Target>(
     input: &mut R,
     output: &mut W,
 ) -> Result<(), Fault>
-    ensures { RepacksInput (input_stream R.remaining R.references R.refuses R.refuses_rest)
-        (output_stream W.contents W.references W.refuses W.flushes) E.order layout.now
+    ensures { RepacksInput R.stream W.stream E.order layout.now
         input.old output.old result input.new output.new }
 {
     repack::<E, R, W>(alloc, layout, input, output)?;
@@ -220,8 +211,7 @@ fn size_input<R: Input, W: Target>(
     output: &mut W,
 ) -> Result<(), Fault>
     ensures { (o : Order)
-        → SizesInput (input_stream R.remaining R.references R.refuses R.refuses_rest)
-        (output_stream W.contents W.references W.refuses W.flushes) o layout.now
+        → SizesInput R.stream R.refuses_rest W.stream o layout.now
         input.old output.old result input.new output.new }
 {
     let text = input.read_rest(alloc)?;

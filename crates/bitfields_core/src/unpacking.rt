@@ -2,7 +2,7 @@
 
 ghost use Rattle.std.specs.Prelude.{◌≡◌, ◌++◌, ◌^◌, ℕ, List, Some, true, length, string_bytes, IfOk, IsErr, IsSome, OnOk, None, Ok, Err, if◌then◌else◌};
 ghost use Rattle.bitstream_io.specs.Gather.{seen};
-ghost use Rattle.bitstream_io.specs.Refusal.{MayRefuse, TrueEnds};
+ghost use Rattle.bitstream_io.specs.Refusal.{MayRefuseRead, TrueEnds};
 ghost use Rattle.bitstream_io.specs.ReadTable.{unary_entry, vbr_entry, any_vbr_entry, signed_vbr_entry};
 ghost use Rattle.bitstream_io.specs.Reads.{Reads};
 ghost use Rattle.bitfields_core.specs.Layout.{group_bits};
@@ -34,10 +34,10 @@ pub fn unpack<E: Endianness, R: Source>(
     layout: &Layout,
     input: &mut R,
 ) -> Result<Vec<u8>, Fault>
-    ensures unpacks { UnpacksBytes R.remaining (MayRefuse R.remaining R.references R.refuses) E.order layout.now
+    ensures unpacks { UnpacksBytes R.stream E.order layout.now
         input.old (seen (λ v. v.items) result) input.new }
-    ensures said { TrueEnds (MayRefuse R.remaining R.references R.refuses) → (xs : List ℕ)
-        → R.remaining input.old ≡ Some xs
+    ensures said { TrueEnds (MayRefuseRead R.stream) → (xs : List ℕ)
+        → R.stream.remaining input.old ≡ Some xs
         → IsSaid E.order layout.now xs (seen (λ v. v.items) result) }
 {
     let mut reader = BitReader::<Lent<R>, E>::new(Lent::new(input));

@@ -1,7 +1,7 @@
 use Rattle.std.proofs.Common.{rules, ◌∷◌, subst}
 use Rattle.bitstream_io.specs.Reference.{by_name}
 use Rattle.bitstream_io.specs.Gather.{seen}
-use Rattle.bitstream_io.specs.Refusal.{MayRefuse}
+use Rattle.bitstream_io.specs.Refusal.{MayRefuseRead}
 use Rattle.bitstream_io.proofs.ReadsLemmas.{first_name}
 use Rattle.bitfields_core.specs.Repacking.{exact_read, with_alignment, ReadsPackedBytes}
 use Rattle.bitfields_core.proofs.RepackedBytes.{packed_fits, packed_known, packed_stream}
@@ -11,8 +11,8 @@ use Rattle.bitfields_core.proofs.repacking.read_packed.Goals as goal
 pub returns : goal.returns
 returns g c =
     let o = g.E.Endianness.order in
-    let source = g.R.Source in
-    let may = MayRefuse source.remaining source.references source.refuses in
+    let source = g.R.Source.stream in
+    let may = MayRefuseRead source in
     let fields = c.args.layout.now in
     let first = c.new.result in
     let last = c.read_packed_from.new.reader.port.stream in
@@ -24,14 +24,14 @@ returns g c =
     calls.reads in
     let place = first_name {m = last.at.ghost_name} {n = first.at.ghost_name} all.1 in
     let names = c.new.ensures.name in
-    let bytes : ReadsPackedBytes source.remaining may o fields c.args.input.now result last.at.now =
-    rw (← c.new.ensures.value) (packed_stream source.remaining may o fields first.at.now last.at.now result
+    let bytes : ReadsPackedBytes source o fields c.args.input.now result last.at.now =
+    rw (← c.new.ensures.value) (packed_stream source o fields first.at.now last.at.now result
     (packed_known may o fields (source.remaining first.at.now) (source.remaining last.at.now) calls.answer result all.0
     calls.names)) in
     record {
-      reads = subst (λ l. ReadsPackedBytes source.remaining may o fields c.args.input.now result l) (search rules)
+      reads = subst (λ l. ReadsPackedBytes source o fields c.args.input.now result l) (search rules)
           bytes;
-      fit = packed_fits source.remaining may o fields c.args.input.now last.at.now (λ v. v.items)
+      fit = packed_fits source o fields c.args.input.now last.at.now (λ v. v.items)
           c.read_packed_from.result c.fields.ensures.is_layout bytes;
       is_layout = c.fields.ensures.is_layout;
     }

@@ -1,5 +1,4 @@
 use Rattle.std.proofs.Common.{refl}
-use Rattle.bitstream_io.specs.Refusal.{MayRefuse}
 use Rattle.bitfields_core.specs.Repacking.{no_end, stopped_input, ReadToLast}
 use Rattle.bitfields_core.proofs.PackingLemmas.{result_err}
 use Rattle.bitfields_core.proofs.RepackedBytes.{not_ended, not_read, packed_again, was_ended}
@@ -28,37 +27,32 @@ returns-in_err-expect_end-clause-repacks g c =
 
 pub returns-clause-repacks : goal.returns-clause-repacks
 returns-clause-repacks g c =
-    let known = g.R.Source.remaining in
-    let references = g.R.Source.references in
-    let refuses = g.R.Source.refuses in
+    let source = g.R.Source.stream in
     let o = g.E.Endianness.order in
     let fields = c.args.layout.now in
     let vs = c.in_ok-values.values.items in
     let layout = c.in_ok-values.ensures.is_layout in
-    let read : ReadToLast known refuses o fields c.args.input.now vs c.expect_end.new.input =
+    let read : ReadToLast source o fields c.args.input.now vs c.expect_end.new.input =
     record {
       behind = c.read_packed.new.input;
       reads = c.in_ok-values.ensures.reads;
       ended = c.in_ok-expect_end.ensures;
     }
     in
-    packed_again known references refuses g.W.Target.contents (MayRefuse g.W.Target.contents g.W.Target.references g.W.Target.refuses) o fields _ _ _ _
-    vs c.pack_values.result layout read (rw c.deref.ensures.value at c.pack_values.ensures)
+    packed_again source g.W.Target.stream o fields _ _ _ _ vs c.pack_values.result layout read (rw c.deref.ensures.value at c.pack_values.ensures)
 
 pub returns-clause-repacked : goal.returns-clause-repacked
 returns-clause-repacked g c =
-    let known = g.R.Source.remaining in
-    let refuses = g.R.Source.refuses in
+    let source = g.R.Source.stream in
     let o = g.E.Endianness.order in
     let fields = c.args.layout.now in
     let vs = c.in_ok-values.values.items in
-    let read : ReadToLast known refuses o fields c.args.input.now vs c.expect_end.new.input =
+    let read : ReadToLast source o fields c.args.input.now vs c.expect_end.new.input =
     record {
       behind = c.read_packed.new.input;
       reads = c.in_ok-values.ensures.reads;
       ended = c.in_ok-expect_end.ensures;
     }
     in
-    λ ends xs told. was_ended ends o fields told g.W.Target.contents
-    (MayRefuse g.W.Target.contents g.W.Target.references g.W.Target.refuses) _ _ c.pack_values.result read
+    λ ends xs told. was_ended ends o fields told g.W.Target.stream _ _ c.pack_values.result read
     (rw c.deref.ensures.value at c.pack_values.ensures)

@@ -15,7 +15,7 @@ returns-in_err-bytes g c =
 
 pub returns-in_err-pack : goal.returns-in_err-pack
 returns-in_err-pack g c =
-    let known = g.R.Source.remaining in
+    let known = g.R.Source.stream.remaining in
     let reads : ReadToEnd (known c.args.input.now) c.deref.result.now (known c.read_rest.new.self) =
     rw c.deref.ensures.value c.in_ok-bytes.ensures.bytes in
     rw (result_err c.from_residual-in_err-pack.result c.from_residual-in_err-pack.ensures.1)
@@ -23,7 +23,7 @@ returns-in_err-pack g c =
 
 pub returns-in_err-flush : goal.returns-in_err-flush
 returns-in_err-flush g c =
-    let known = g.R.Source.remaining in
+    let known = g.R.Source.stream.remaining in
     let reads : ReadToEnd (known c.args.input.now) c.deref.result.now (known c.read_rest.new.self) =
     rw c.deref.ensures.value c.in_ok-bytes.ensures.bytes in
     rw (result_err c.from_residual-in_err-flush.result c.from_residual-in_err-flush.ensures.1)
@@ -35,7 +35,7 @@ returns-in_err-flush g c =
 
 pub returns : goal.returns
 returns g c =
-    let known = g.R.Source.remaining in
+    let known = g.R.Source.stream.remaining in
     let reads : ReadToEnd (known c.args.input.now) c.deref.result.now (known c.read_rest.new.self) =
     rw c.deref.ensures.value c.in_ok-bytes.ensures.bytes in
     packed_input reads _ refl c.in_ok-pack.ensures (record {

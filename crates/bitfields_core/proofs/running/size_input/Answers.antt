@@ -15,7 +15,7 @@ returns-in_err-text g c =
 
 pub returns-in_err-line : goal.returns-in_err-line
 returns-in_err-line g c =
-    let known = g.R.Source.remaining in
+    let known = g.R.Source.stream.remaining in
     let reads : ReadToEnd (known c.args.input.now) c.deref.result.now (known c.read_rest.new.self) =
     rw c.deref.ensures.value c.in_ok-text.ensures.bytes in
     λ o. rw (result_err c.from_residual-in_err-line.result c.from_residual-in_err-line.ensures.1)
@@ -23,7 +23,7 @@ returns-in_err-line g c =
 
 pub returns-in_err-bits : goal.returns-in_err-bits
 returns-in_err-bits g c =
-    let known = g.R.Source.remaining in
+    let known = g.R.Source.stream.remaining in
     let reads : ReadToEnd (known c.args.input.now) c.deref.result.now (known c.read_rest.new.self) =
     rw c.deref.ensures.value c.in_ok-text.ensures.bytes in
     λ o. rw (result_err c.from_residual-in_err-bits.result c.from_residual-in_err-bits.ensures.1)
@@ -31,7 +31,7 @@ returns-in_err-bits g c =
 
 pub returns-in_err-write_all : goal.returns-in_err-write_all
 returns-in_err-write_all g c =
-    let known = g.R.Source.remaining in
+    let known = g.R.Source.stream.remaining in
     let reads : ReadToEnd (known c.args.input.now) c.deref.result.now (known c.read_rest.new.self) =
     rw c.deref.ensures.value c.in_ok-text.ensures.bytes in
     let line = c.as_bytes.ensures.value ∙ c.in_ok-line.ensures in
@@ -44,7 +44,7 @@ returns-in_err-write_all g c =
 
 pub returns-in_err-flush : goal.returns-in_err-flush
 returns-in_err-flush g c =
-    let known = g.R.Source.remaining in
+    let known = g.R.Source.stream.remaining in
     let reads : ReadToEnd (known c.args.input.now) c.deref.result.now (known c.read_rest.new.self) =
     rw c.deref.ensures.value c.in_ok-text.ensures.bytes in
     let line = c.as_bytes.ensures.value ∙ c.in_ok-line.ensures in
@@ -57,7 +57,7 @@ returns-in_err-flush g c =
 
 pub returns : goal.returns
 returns g c =
-    let known = g.R.Source.remaining in
+    let known = g.R.Source.stream.remaining in
     let reads : ReadToEnd (known c.args.input.now) c.deref.result.now (known c.read_rest.new.self) =
     rw c.deref.ensures.value c.in_ok-text.ensures.bytes in
     let line = c.as_bytes.ensures.value ∙ c.in_ok-line.ensures in
