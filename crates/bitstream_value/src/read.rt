@@ -127,22 +127,19 @@ impl<R: BitRead> BitReadExt for R {
         I::read::<B, R>(self)
     }
 
-    #[inline(always)]
+    #[inline]
     fn read_var<I: Integer>(&mut self, bits: u32) -> Result<I, Error> {
         I::read_var(self, BitCount::unknown(bits))
     }
 
-    #[inline(always)]
     fn read_counted<C: Count, I: Integer>(&mut self, bits: C) -> Result<I, Error> {
         I::read_var(self, bits)
     }
 
-    #[inline(always)]
     fn read_vbr<F: Width, I: VBRInteger>(&mut self) -> Result<I, Error> {
         I::read_vbr::<F, R>(self)
     }
 
-    #[inline(always)]
     fn read_checked<C: CheckablePrimitive>(&mut self, count: C::CountType) -> Result<C, Error> {
         C::read(self, count)
     }
@@ -151,17 +148,14 @@ impl<R: BitRead> BitReadExt for R {
         code.from_bits(self)
     }
 
-    #[inline(always)]
     fn parse<F: FromBitStream>(&mut self) -> Result<F, F::Error> {
         F::from_reader(self)
     }
 
-    #[inline(always)]
     fn parse_with<F: FromBitStreamWith>(&mut self, context: &F::Context) -> Result<F, F::Error> {
         F::from_reader(self, context)
     }
 
-    #[inline(always)]
     fn parse_using<F: FromBitStreamUsing>(&mut self, context: F::Context) -> Result<F, F::Error> {
         F::from_reader(self, context)
     }
