@@ -107,7 +107,7 @@ output_refused may o p fields vs old f new xs h = elim (write_reasons (refusal_o
   | inr stream ↦ inl (inr (ap (λ (g : Fault). g.reason) h.reason ∙ stream))
 ]
 
-module _ {R : Type 0} {I : InputStream R} (ends : TrueEnds (MayRefuseRead I)) (o : Order) (fields : List Field) {input : R} {xs : List ℕ}
+module _ {R : Type 0} (I : InputStream R) (ends : TrueEnds (MayRefuseRead I)) (o : Order) (fields : List Field) {input : R} {xs : List ℕ}
     (told : I.remaining input ≡ Some xs) where
   -- a refusal is a true end
   true_end : {wanted : ℕ} {kind : ErrorKind} {s t : R} → I.refuses s wanted kind t

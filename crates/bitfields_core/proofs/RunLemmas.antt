@@ -62,13 +62,13 @@ spelt_values fields (Ok vs) n h =
     (vs, refl, λ o. let same : spelt_size o fields (Ok vs) ≡ Ok n = value_expected (h o) in cc)
 spelt_values fields (Err x) n h = let same : spelt_size High fields (Err x) ≡ Ok n = value_expected (h High) in cc
 
-values_fault : {R : Type 0} {I : InputStream R} {refuses_rest : R → ErrorKind → R → Type 0} (o : Order) (fields : List Field) {input : R} {bytes : List ℕ}
+values_fault : {R : Type 0} (I : InputStream R) {refuses_rest : R → ErrorKind → R → Type 0} (o : Order) (fields : List Field) {input : R} {bytes : List ℕ}
     {input_after : R} {f : Fault} (spelt : Result (List FieldValue) Fault)
     → ReadToEnd (I.remaining input) bytes (I.remaining input_after) → values 1 fields (lines bytes) ≡ spelt
     → (f ≡ fault 0 OutOfMemory) ⊎ (spelt_size o fields spelt ≡ Err f) → ValuesFault I refuses_rest fields input f input_after
-values_fault o fields {bytes = bytes} spelt reads is (inl memory) = inr (inr (bytes, reads, memory))
-values_fault o fields (Ok vs) reads is (inr same) = cc
-values_fault o fields {f = f} (Err x) reads is (inr same) =
+values_fault I o fields {bytes = bytes} spelt reads is (inl memory) = inr (inr (bytes, reads, memory))
+values_fault I o fields (Ok vs) reads is (inr same) = cc
+values_fault I o fields {f = f} (Err x) reads is (inr same) =
     let e : x ≡ f = cc in inr (inl (spelt_as reads (is ∙ ap Err e)))
 
 -- a text is the line of the size of the values that an input's lines spell
@@ -95,7 +95,7 @@ module _ {R W : Type 0} {I : InputStream R} {O : OutputStream W} {fields : List 
   pub sizing_fault : {refuses_rest : R → ErrorKind → R → Type 0} (o : Order) {f : Fault} {output_after : W} → Sizes fields (values 1 fields (lines bytes)) (Err f)
       → output_after ≡ output → SizingFault I refuses_rest O o fields input output f input_after output_after
   sizing_fault o h same =
-      unknown_values (values_fault o fields (values 1 fields (lines bytes)) reads refl (fault_expected (h o))) same
+      unknown_values (values_fault I o fields (values 1 fields (lines bytes)) reads refl (fault_expected (h o))) same
 
   module _ {n : ℕ} {text : List ℕ} (h : Sizes fields (values 1 fields (lines bytes)) (Ok n)) (line : text
       ≡ decimal n ++ 10 ∷ []) (o : Order) where

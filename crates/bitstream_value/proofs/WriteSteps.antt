@@ -255,13 +255,13 @@ pub record Packed (held : Option (List ℕ)) (reached : List Reference) (o : Ord
   pub whole : {xs : List ℕ} → held ≡ Some xs → bits o xs ≡ x
   pub reached_as : reached ≡ names
 
-pub packed_stream : {W E : Type 0} {O : OutputStream W} {o : Order} (es : List WriteEntry) {known : Option (List ℕ)}
+pub packed_stream : {W E : Type 0} (O : OutputStream W) {o : Order} (es : List WriteEntry) {known : Option (List ℕ)}
     {names : List Reference} (a : BitWriter W E) {m b : BitWriter W E}
     → known ≡ Some [] → writer_state O a ≡ new_writer_state known names
     → WritesAll (writer_sink O o) es a (Ok tt) m
     → Writes {T = Unit {0}} (writer_sink O o) align m (Ok tt) b
     → Packed (O.contents b.port.stream) (O.references b.port.stream) o (write_run (es ++ align ∷ []) 0) names
-packed_stream {O = O} {o = o} es {known = known} {names = names} a {m = m} {b =
+packed_stream O {o = o} es {known = known} {names = names} a {m = m} {b =
     b} none fresh h k = record {
       whole = λ {xs} is. whole_bytes none (subst (AddsBits o known (write_run (es ++ align ∷ []) 0)) is
           (bytes_added O o es known names a m b fresh h k));

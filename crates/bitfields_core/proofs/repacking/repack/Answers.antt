@@ -11,12 +11,12 @@ returns-in_err-values-clause-repacks g c =
 pub returns-in_err-values-clause-repacked : goal.returns-in_err-values-clause-repacked
 returns-in_err-values-clause-repacked g c = λ ends xs told.
     rw (result_err c.from_residual.result c.from_residual.ensures.1)
-    (not_read ends g.E.Endianness.order c.args.layout.now told c.in_err-values.ensures.reads)
+    (not_read g.R.Source.stream ends g.E.Endianness.order c.args.layout.now told c.in_err-values.ensures.reads)
 
 pub returns-in_err-expect_end-clause-repacked : goal.returns-in_err-expect_end-clause-repacked
 returns-in_err-expect_end-clause-repacked g c = λ ends xs told.
     rw (result_err c.from_residual-in_err-expect_end.result c.from_residual-in_err-expect_end.ensures.1)
-    (not_ended ends g.E.Endianness.order c.args.layout.now told {behind = c.read_packed.new.input}
+    (not_ended g.R.Source.stream ends g.E.Endianness.order c.args.layout.now told {behind = c.read_packed.new.input}
     {after = c.expect_end.new.input} c.in_ok-values.ensures.reads c.in_err-expect_end.ensures)
 
 pub returns-in_err-expect_end-clause-repacks : goal.returns-in_err-expect_end-clause-repacks
@@ -54,5 +54,5 @@ returns-clause-repacked g c =
       ended = c.in_ok-expect_end.ensures;
     }
     in
-    λ ends xs told. was_ended ends o fields told g.W.Target.stream _ _ c.pack_values.result read
+    λ ends xs told. was_ended source ends o fields told g.W.Target.stream _ _ c.pack_values.result read
     (rw c.deref.ensures.value at c.pack_values.ensures)
