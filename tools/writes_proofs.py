@@ -162,7 +162,7 @@ class Proofs:
         enough = "(omega arith)" if self.sized else "enough"
         asked = f"let all = {m}_packs {o} _ fits in"
         room = f"(all.accepted 0) (packs-room all _ {enough}) _ _"
-        packed = f"""let whole = (packed_stream _ ({m}_writes {o} {v}) c.over-writer.result (cc) c.over-writer.ensures
+        packed = f"""let whole = (packed_stream _ _ ({m}_writes {o} {v}) c.over-writer.result (cc) c.over-writer.ensures
     c.in_ok-write.ensures c.in_ok-byte_align.ensures.writes).whole refl ∙ told {v} in
     search rules"""
         written = f"""λ fits enough. {asked}

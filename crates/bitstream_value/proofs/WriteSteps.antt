@@ -8,6 +8,7 @@ use Rattle.bitstream_order.specs.Streams.{OutputStream}
 use Rattle.std.specs.Int.{Width}
 use Rattle.std.specs.Result.{IsErrAnd, result_from_control_flow}
 use Rattle.std.specs.declared.ops.ControlFlow.{ControlFlow}
+use Rattle.std.specs.declared.io.ErrorKind.{ErrorKind}
 use Rattle.bitstream_count.specs.declared.error.Error.{Error}
 use Rattle.bitstream_count.specs.Entry.{WriteEntry}
 use Rattle.bitstream_number.specs.Word.{Order, bits}
@@ -206,41 +207,52 @@ run_appended K (e ∷ es) s t sound (inr p) =
 
 -- ---- what a new writer's stream holds then, behind a last alignment
 
+-- a target that tells these bytes and references, and refuses so
+abbrev pub output_told : {W : Type 0} → (W → Option (List ℕ)) → (W → List Reference)
+    → (W → ℕ → ErrorKind → W → Type 0) → OutputStream W
+output_told held references refuses = record {
+  contents = held;
+  references = references;
+  refuses = refuses;
+  flushes = λ _ _. Unit {0};
+}
+
 aligned : {S : Type 0} (K : Sink S) (s t : S) → Writes {T = Unit {0}} K align s (Ok tt) t → K.len t % 8 ≡ 0
 aligned K s t h =
     let zeros = replicate (to_boundary (K.len s)) false in
     let far : K.len t ≡ K.len s + length zeros = K.appends_len s t zeros (wrote K align s t h).grown in
     rw (far, length-replicate (to_boundary (K.len s)) false) (padded (K.len s))
 
-module _ {W E : Type 0} (O : OutputStream W) (o : Order) (es : List WriteEntry) (known : Option (List ℕ)) (names : List Reference)
+module _ {W E : Type 0} (held : W → Option (List ℕ)) (refuses : W → ℕ → ErrorKind → W → Type 0) (references : W
+    → List Reference) (o : Order) (es : List WriteEntry) (known : Option (List ℕ)) (names : List Reference)
     (a m b : BitWriter W E) where
-  packed : writer_state O a ≡ new_writer_state known names
-      → WritesAll (writer_sink O o) es a (Ok tt) m
-      → Writes {T = Unit {0}} (writer_sink O o) align m (Ok tt) b
-      → Appended (writer_sink O o) a (write_run (es ++ align ∷ []) 0) b
+  packed : writer_state (output_told held references refuses) a ≡ new_writer_state known names
+      → WritesAll (writer_sink (output_told held references refuses) o) es a (Ok tt) m
+      → Writes {T = Unit {0}} (writer_sink (output_told held references refuses) o) align m (Ok tt) b
+      → Appended (writer_sink (output_told held references refuses) o) a (write_run (es ++ align ∷ []) 0) b
   packed fresh h k =
-      let K = writer_sink O o in
+      let K = writer_sink (output_told held references refuses) o in
       let start : K.len a ≡ 0 = ap (λ (s : WriterState). 8 * s.port.sent + s.queued) fresh in
       let all = all_append K es (align ∷ []) a m (Ok tt) b h (all_one K align m (Ok tt) b k) in
       subst (λ n. Appended K a (write_run (es ++ align ∷ []) n) b) start
       (run_appended K (es ++ align ∷ []) a b (ap (λ (s : WriterState). s.failed) fresh) all)
 
   -- the bits of the bytes that were added are the write run
-  pub bytes_added : writer_state O a ≡ new_writer_state known names
-      → WritesAll (writer_sink O o) es a (Ok tt) m
-      → Writes {T = Unit {0}} (writer_sink O o) align m (Ok tt) b
-      → AddsBits o known (write_run (es ++ align ∷ []) 0) (O.contents b.port.stream)
+  pub bytes_added : writer_state (output_told held references refuses) a ≡ new_writer_state known names
+      → WritesAll (writer_sink (output_told held references refuses) o) es a (Ok tt) m
+      → Writes {T = Unit {0}} (writer_sink (output_told held references refuses) o) align m (Ok tt) b
+      → AddsBits o known (write_run (es ++ align ∷ []) 0) (held b.port.stream)
   bytes_added fresh h k =
-      subst (λ z. AddsBits o z (write_run (es ++ align ∷ []) 0) (O.contents b.port.stream))
+      subst (λ z. AddsBits o z (write_run (es ++ align ∷ []) 0) (held b.port.stream))
       (ap (λ (s : WriterState). s.port.bytes) fresh)
-      (adds_bits O o a b (write_run (es ++ align ∷ []) 0) (packed fresh h k).grown
-      (ap (λ (s : WriterState). s.queued) fresh) (aligned (writer_sink O o) m b k))
+      (adds_bits (output_told held references refuses) o a b (write_run (es ++ align ∷ []) 0) (packed fresh h k).grown
+      (ap (λ (s : WriterState). s.queued) fresh) (aligned (writer_sink (output_told held references refuses) o) m b k))
 
   -- and the stream is reached as it was
-  pub names_kept : writer_state O a ≡ new_writer_state known names
-      → WritesAll (writer_sink O o) es a (Ok tt) m
-      → Writes {T = Unit {0}} (writer_sink O o) align m (Ok tt) b
-      → O.references b.port.stream ≡ names
+  pub names_kept : writer_state (output_told held references refuses) a ≡ new_writer_state known names
+      → WritesAll (writer_sink (output_told held references refuses) o) es a (Ok tt) m
+      → Writes {T = Unit {0}} (writer_sink (output_told held references refuses) o) align m (Ok tt) b
+      → references b.port.stream ≡ names
   names_kept fresh h k = (packed fresh h k).references ∙ ap (λ (s : WriterState). s.port.references) fresh
 
 -- the bytes of a stream that held none
@@ -255,15 +267,16 @@ pub record Packed (held : Option (List ℕ)) (reached : List Reference) (o : Ord
   pub whole : {xs : List ℕ} → held ≡ Some xs → bits o xs ≡ x
   pub reached_as : reached ≡ names
 
-pub packed_stream : {W E : Type 0} (O : OutputStream W) {o : Order} (es : List WriteEntry) {known : Option (List ℕ)}
+pub packed_stream : {W E : Type 0} (held : W → Option (List ℕ)) {refuses : W → ℕ → ErrorKind → W
+    → Type 0} (references : W → List Reference) {o : Order} (es : List WriteEntry) {known : Option (List ℕ)}
     {names : List Reference} (a : BitWriter W E) {m b : BitWriter W E}
-    → known ≡ Some [] → writer_state O a ≡ new_writer_state known names
-    → WritesAll (writer_sink O o) es a (Ok tt) m
-    → Writes {T = Unit {0}} (writer_sink O o) align m (Ok tt) b
-    → Packed (O.contents b.port.stream) (O.references b.port.stream) o (write_run (es ++ align ∷ []) 0) names
-packed_stream O {o = o} es {known = known} {names = names} a {m = m} {b =
+    → known ≡ Some [] → writer_state (output_told held references refuses) a ≡ new_writer_state known names
+    → WritesAll (writer_sink (output_told held references refuses) o) es a (Ok tt) m
+    → Writes {T = Unit {0}} (writer_sink (output_told held references refuses) o) align m (Ok tt) b
+    → Packed (held b.port.stream) (references b.port.stream) o (write_run (es ++ align ∷ []) 0) names
+packed_stream held {refuses = refuses} references {o = o} es {known = known} {names = names} a {m = m} {b =
     b} none fresh h k = record {
       whole = λ {xs} is. whole_bytes none (subst (AddsBits o known (write_run (es ++ align ∷ []) 0)) is
-          (bytes_added O o es known names a m b fresh h k));
-      reached_as = names_kept O o es known names a m b fresh h k;
+          (bytes_added held refuses references o es known names a m b fresh h k));
+      reached_as = names_kept held refuses references o es known names a m b fresh h k;
     }

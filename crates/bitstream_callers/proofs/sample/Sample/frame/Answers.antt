@@ -10,7 +10,7 @@ pub returns : goal.returns
 returns c =
     let fields = sample_writes High c.args.self.now in
     let all = all_append _ _ fields _ _ _ _ c.in_ok-write.ensures.writes c.in_ok-write-2.ensures in
-    let packed = packed_stream _ (unsigned High 8 8 c.in_ok-size.size ∷ fields) c.new-writer.result (cc)
+    let packed = packed_stream _ _ (unsigned High 8 8 c.in_ok-size.size ∷ fields) c.new-writer.result (cc)
     c.new-writer.ensures all c.in_ok-byte_align.ensures.writes in
     let whole = packed.whole refl in
     let name = first_name packed.reached_as in

@@ -6,7 +6,7 @@ use Rattle.bitstream_io.specs.Callers.{High}
 use Rattle.bitstream_callers.proofs.stream_info_block.StreamInfoBlock.pack_into.Goals as goal
 
 pub returns-clause-packed : goal.returns-clause-packed
-returns-clause-packed c = let whole = (packed_stream _ (stream_info_block_writes High c.args.self.now)
+returns-clause-packed c = let whole = (packed_stream _ _ (stream_info_block_writes High c.args.self.now)
     c.over-writer.result (cc) c.over-writer.ensures
     c.in_ok-write.ensures c.in_ok-byte_align.ensures.writes).whole refl ∙ told c.args.self.now in
     search rules

@@ -6,7 +6,7 @@ use Rattle.bitstream_io.specs.Callers.{High}
 use Rattle.bitstream_formats.proofs.adts_header.AdtsHeader.pack_into.Goals as goal
 
 pub returns-clause-packed : goal.returns-clause-packed
-returns-clause-packed c = let whole = (packed_stream _ (adts_header_writes High c.args.self.now) c.over-writer.result
+returns-clause-packed c = let whole = (packed_stream _ _ (adts_header_writes High c.args.self.now) c.over-writer.result
     (cc) c.over-writer.ensures
     c.in_ok-write.ensures c.in_ok-byte_align.ensures.writes).whole refl ∙ told c.args.self.now in
     search rules
