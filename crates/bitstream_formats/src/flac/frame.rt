@@ -1,4 +1,5 @@
 //! Frames (section 9).
+ghost use Rattle.std.specs.Prelude.{◌≤◌};
 
 use super::crc::{Crc16, crc8};
 use super::error::FlacError;
@@ -28,12 +29,23 @@ impl Frame {
     ///
     /// Memory was refused.
     pub fn append_pcm(&self, bytes: &mut Vec<u8>) -> Result<(), AllocError> {
-        let width = (self.bits_per_sample as usize).div_ceil(8).min(8);
+        match self.bits_per_sample {
+            0..=8 => self.append_low::<1>(bytes),
+            9..=16 => self.append_low::<2>(bytes),
+            17..=24 => self.append_low::<3>(bytes),
+            _ => self.append_low::<4>(bytes),
+        }
+    }
+
+    /// Appends the lowest N bytes of each sample.
+    fn append_low<const N: usize>(&self, bytes: &mut Vec<u8>) -> Result<(), AllocError>
+        requires { N ≤ 8 }
+    {
         for at in 0..self.header.block_size as usize {
             for channel in &self.channels {
                 let sample = channel.as_slice().get(at).copied().unwrap_or(0);
                 let whole = sample.to_le_bytes();
-                bytes.extend_from_slice(&whole[..width])?;
+                bytes.extend_from_slice(&whole[..N])?;
             }
         }
         Ok(())

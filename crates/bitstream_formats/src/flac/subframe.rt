@@ -57,9 +57,7 @@ fn read_constant<R: BitRead>(
     samples: &mut Vec<i64>,
 ) -> Result<(), FlacError> {
     let sample: i64 = reader.read_var(width)?;
-    for _ in 0..block {
-        samples.push(sample)?;
-    }
+    samples.resize(block as usize, sample)?;
     Ok(())
 }
 
