@@ -1,11 +1,11 @@
 -- The coded numbers of FLAC go back.
-use Rattle.std.proofs.Common.{◌*◌, ◌/◌, ◌%◌, ◌≤◌, ◌==◌, zero, suc, true, false, sym, pow-suc, Bool, ◌⊎◌}
-use Rattle.std.specs.Prelude.{nat_lt, nat_le, if◌then◌else◌, Result, Err}
+use Rattle.std.proofs.Common.{◌*◌, ◌/◌, ◌%◌, ◌≤◌, ◌==◌, zero, suc, false, sym, pow-suc}
+use Rattle.std.specs.Prelude.{if◌then◌else◌, Result, Err}
 use native.Mathlib.Nat.{div-div-eq-div-mul, mod-lt, mul-le-mul_right, mul-le-mul_left, mul_assoc, mul_comm, one-le-pow}
 use Rattle.std.proofs.lemmas.Bool.{cases_lt, le-ltb, lt-ltb, ne_eqb}
 use Rattle.bitstream_io.specs.Callers.{BitSource, ReadsOwn, chain, const_entry, gives, unsigned_entry}
 use Rattle.bitstream_io.specs.Entry.{ReadEntry, WriteEntry}
-use Rattle.bitstream_io.proofs.CallerLemmas.{◌≡◌, ◌∙◌, ℕ, ◌+◌, ◌-◌, ◌^◌, ◌<◌, List, [], Ok, Order, GoesBack, ap, arith, refl, inl, inr, at_most-back, computed-back, else-back, if-back, gives-back, literal-back, unary-back, unsigned-back, var-back}
+use Rattle.bitstream_io.proofs.CallerLemmas.{◌≡◌, ◌∙◌, ℕ, ◌+◌, ◌-◌, ◌^◌, ◌<◌, List, Ok, Order, GoesBack, ap, arith, refl, inl, inr, at_most-back, computed-back, else-back, gives-back, literal-back, unary-back, unsigned-back, var-back}
 use Rattle.bitstream_formats.specs.Coded.{becomes_flac, bytes_needed, bytes_writes, coded_entry, coded_writes, least_of, rest_entry, rest_writes, shortest}
 use Rattle.bitstream_formats.specs.declared.flac.error.FlacError.{FlacError}
 use Rattle.bitstream_formats.specs.declared.flac.error.FlacError.TheVariants.{NotCoded}

@@ -1,5 +1,5 @@
-use Rattle.std.proofs.Common.{◌*◌, ◌-◌, refl}
-use Rattle.bitstream_io.proofs.CallerLemmas.{◌+◌, ◌<◌, arith, next_own_read as next, next_own_const as next_const, exit_own_read as exit, exit_own_const as exit_const, rules}
+use Rattle.std.proofs.Common.{refl}
+use Rattle.bitstream_io.proofs.CallerLemmas.{arith, next_own_read as next, next_own_const as next_const, exit_own_read as exit, exit_own_const as exit_const, rules}
 use Rattle.bitstream_io.proofs.OwnSteps.{own_end}
 use Rattle.bitstream_formats.proofs.CodedLemmas.{more_room, rest_own, wide}
 use Rattle.bitstream_formats.proofs.flac.coded.+read_rest.Goals as goal

@@ -1,4 +1,3 @@
-use Rattle.std.proofs.Common.{refl}
 use Rattle.std.proofs.lemmas.Bool.{eq-eqb, le-leb, lt-leb, ne_eqb}
 use Rattle.bitstream_io.proofs.CallerLemmas.{arith, next_own_read as next, exit_own_read as exit}
 use Rattle.bitstream_io.proofs.OwnSteps.{own_end, if_own, else_own}
