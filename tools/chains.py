@@ -51,14 +51,17 @@ NEXT = {
         "signed": f"then_own_signed 4 FACT refl refl {READ_FITS}",
         "signed read of": f"next_own_signed_part 1 WIDE FACT {READ_FITS}",
         "part": "then_part 1 FACT refl refl",
+        "made part": "then_part 1 (own_made 1 (Ok 1) FACT (λ error is. absurd is)) refl refl",
     },
     "GrowsOwn": {
         "read": "go_grown 1 (grown FACT)",
         "growing": "go_grown 1 (by_reads FACT)",
+        "grown": "go_grown 1 FACT",
         "const": "next_grown_const 2 FACT",
         "signed": f"next_grown_signed 1 WIDE FACT {READ_FITS}",
         "signed read of": f"next_grown_signed 1 WIDE FACT {READ_FITS}",
         "part": "part_go 1 (if_grown false FACT)",
+        "made part": "part_go 1 (if_grown false (own_made 1 (Ok 1) FACT (λ error is. absurd is)))",
         "growing part": "part_go 1 FACT",
     },
     "WritesAll": {
@@ -83,14 +86,18 @@ STOP = {
         "read": "exit_own_read 1 RESIDUAL FACT",
         "const": "exit_own_const 2 RESIDUAL FACT refl",
         "part": "end_part 1 FACT refl refl RESIDUAL",
+        "made part": "end_part 1 (own_made 1 (Err 1) FACT (λ error is. rw is refl)) refl refl RESIDUAL",
         "signed read of": "exit_own_read 1 RESIDUAL FACT",
     },
     "GrowsOwn": {
         "read": "stop_grown 1 (grown FACT) RESIDUAL",
         "growing": "stop_grown 1 (by_reads FACT) RESIDUAL",
+        "grown": "stop_grown 1 FACT RESIDUAL",
         "const": "exit_grown_const 2 RESIDUAL FACT refl",
         "signed read of": "stop_grown 1 (grown FACT) RESIDUAL",
         "part": "part_stop 1 (if_grown false FACT) (is_error 2 RESIDUAL)",
+        "made part": "part_stop 1 (if_grown false (own_made 1 (Err 1) FACT (λ error is. rw is refl)))"
+        " (is_error 2 RESIDUAL)",
         "growing part": "part_stop 1 FACT (is_error 2 RESIDUAL)",
     },
     "WritesAll": {
@@ -121,7 +128,7 @@ TESTS = {
     "ReadsOwn": ("if_own 3", "else_own 3"),
     "GrowsOwn": ("if_growing 3", "else_growing 3"),
 }
-# Calls of an `Option` that may stand among the arguments; a `len` of a slice is known as it stands.
+# Calls of an `Option` that may stand among the arguments; a `len` of a slice is known as it stands, of a `Vec` it is not.
 PURE = ("is_some", "is_none", "number", "len")
 # And of an `Ok` behind the last call.
 END = {"Reads": "Reads-gives 2", "ReadsOwn": "own_end 2", "GrowsOwn": "grown_end 2", "WritesAll": "all_none 2"}
@@ -131,9 +138,9 @@ PLAINLY = {"Reads": "(read_plainly 5 FACT)", "WritesAll": "(written_plainly 5 FA
 CALLER = "Rattle.bitstream_io.proofs."
 LEMMAS = {
     "borrow.Author.Rules": "sfits_of",
-    "Rattle.std.proofs.Common": "refl false w8 w16 w32 w64",
+    "Rattle.std.proofs.Common": "◌∙◌ refl false Ok Err w8 w16 w32 w64",
     "Rattle.std.specs.Int": "w128",
-    CALLER + "CallerLemmas": "next_signed_part next_own_signed_part if_read else_read"
+    CALLER + "CallerLemmas": "next_signed_part next_own_signed_part if_read else_read own_made"
     " const_alone next_const exit_const next_own_read next_own_const exit_own_read"
     " exit_own_const next_grown_signed next_grown_const exit_grown_const if_growing else_growing",
     CALLER + "GrowsLemmas": "go_grown stop_grown grown if_grown part_go part_stop grown_end",
@@ -162,12 +169,14 @@ SHORT = {
 class Body:
     """Goes through a body, and gathers its calls in order."""
 
-    def __init__(self, function, kind, stream, functions, structs):
+    def __init__(self, function, kind, stream, functions, structs, modeled):
         self.function, self.kind, self.stream = function, kind, stream
+        self.fields = "c.self.inside" if modeled else "c.args.self.now"  # of `self`, as a proof has them
         self.functions, self.structs = functions, structs
         self.tokens, self.at = function.body, 0
         self.calls, self.labels, self.steps, self.let_types = [], Counter(), Counter(), {}
         self.pure, self.rewrites, self.tests = [], {}, Counter()
+        self.opened = None  # the first call that needs a field of `self`
 
     def peek(self, ahead=0):
         place = self.at + ahead
@@ -305,6 +314,8 @@ class Body:
             said = self.generics() or said
         if self.peek() == "{":
             return self.struct(parts[-1])
+        if parts == ["self"] and self.opened is None:
+            self.opened = len(self.calls)
         if self.peek() != "(":
             return parts[-1]
         if parts[-1][0].isupper():
@@ -341,9 +352,11 @@ class Body:
             return self.of_library(word, said, name, wanted, line)
         if word in PURE and isinstance(last, str):
             self.list_of_values()
-            self.steps[word] += 1
-            if word != "len":
-                self.pure.append(word + (f"-{self.steps[word]}" if self.steps[word] > 1 else ""))
+            step = self.step_of(word)
+            if self.is_vector(last.split(".")):
+                self.pure.append(f"(c.{step}.ensures ∙ {self.fields}.{last.split('.')[1]}.ok.0)")
+            elif word != "len":
+                self.pure.append(f"c.{step}.ensures")
             return f"{last}.{word}"
         owner = self.function.owner if last == "self" else ""
         return self.own(word, owner, name, line)
@@ -352,9 +365,7 @@ class Body:
         form = (WRITES if self.kind == "WritesAll" else READS).get(word)
         if not form:
             unknown(line, f"the call `{word}`")
-        before = len(self.pure)
-        args = self.list_of_values()
-        self.rewrites[len(self.calls)] = self.pure[before:]
+        args = self.arguments()
         typed = said or list(wanted) or self.type_of(args)
         if form == "part" and self.kind == "GrowsOwn" and self.grows(typed, line):
             form = "growing part"
@@ -381,6 +392,8 @@ class Body:
             unknown(line, f"the type of the value of `{word}`: write it at the call")
         signed = [it for it in typed if SIGNED.match(it)]
         known = OF_EITHER_SIGN.match(word) or GROUPS.match(word)
+        if signed and typed[0] == "[" and word in ("read", "write"):
+            return ""  # the clause has the items of an array as they are
         if signed and (not known or typed[0] != signed[0] or signed[0] == "isize"):
             unknown(line, f"a value of the type `{''.join(typed)}` in `{word}`")
         return f"w{signed[0][1:]}" if signed else ""
@@ -391,7 +404,7 @@ class Body:
             return ""
         if len(args) != 1 or args[0][:2] != ["self", "."] or len(args[0]) != 3:
             unknown(line, "a signed number in groups that is no field of `self`")
-        return f" c.args.self.now.{args[0][2]}"
+        return f" {self.fields}.{args[0][2]}"
 
     def type_of(self, args):
         """Gives the type of the last value that a call is handed, if it is a field of `self` or a name."""
@@ -402,9 +415,7 @@ class Body:
 
     def own(self, word, owner, name, line):
         """Goes through a call of a function of the crate's own."""
-        before = len(self.pure)
-        args = self.list_of_values()
-        self.rewrites[len(self.calls)] = self.pure[before:]
+        args = self.arguments()
         if [self.stream] not in args:
             unknown(line, f"the call `{word}`, which is not of `{self.stream}`")
         owner = self.function.owner if owner == "Self" else owner
@@ -413,12 +424,15 @@ class Body:
         if len(kinds) != 1:
             unknown(line, f"the contract of `{word}`")
         kind, label = kinds.pop()
+        becomes = {becomes_of(it) for it in [*found, self.function]} - {""}
         form = {("Reads", "Reads"): "read", ("ReadsOwn", "Reads"): "read", ("ReadsOwn", "ReadsOwn"): "part"}
         form |= {("GrowsOwn", "Reads"): "read", ("GrowsOwn", "ReadsOwn"): "part", ("GrowsOwn", "GrowsOwn"): "growing part"}
+        form |= {("GrowsOwn", "GrowingOutcome"): "grown"}
         form |= {("WritesAll", "WritesAll"): "list"}
         if (self.kind, kind) not in form:
             unknown(line, f"the contract of `{word}`")
         wide, form = self.signed_of(found[0], args), form[self.kind, kind]
+        form = f"made {form}" if len(becomes) > 1 and form == "part" else form
         if wide and form.endswith("part"):
             unknown(line, f"the signed number of `{word}`")
         return self.add(f"signed {form} of {wide}" if wide else form, label, word, name, "", line)
@@ -426,17 +440,36 @@ class Body:
     def signed_of(self, function, args):
         """Gives the width of a signed number that a function of the crate's own reads, or also which one it writes."""
         said = [it for it in function.result if SIGNED.match(it)]
-        if said:
+        if said and "Vec" not in function.result:
             return f"w{said[0][1:]}"
         for (_, typed), arg in zip(function.params.items(), args):
             if len(typed) == 1 and SIGNED.match(typed[0]) and len(arg) == 3:
-                return f"w{typed[0][1:]} c.args.self.now.{arg[2]}"
+                return f"w{typed[0][1:]} {self.fields}.{arg[2]}"
         return ""
 
-    def add(self, form, fact, word, name, wide, line):
+    def arguments(self):
+        """Goes through the arguments of a call, and notes what is known of them; gives their words."""
+        before = len(self.pure)
+        args = self.list_of_values()
+        for it in args:
+            if self.is_vector(it):
+                self.pure.append(f"c.{self.step_of('deref')}.ensures.value")
+        self.rewrites[len(self.calls)] = self.pure[before:]
+        return args
+
+    def is_vector(self, said):
+        """Tells whether these words name a field of `self` that is a `Vec`."""
+        said = [it for it in said if it not in (".", "&")]
+        fields = self.structs.get(self.function.owner, {})
+        return len(said) == 2 and said[0] == "self" and fields.get(said[1], [])[:1] == ["Vec"]
+
+    def step_of(self, word):
+        """Gives the name of the next step of a call."""
         self.steps[word] += 1
-        step = word + (f"-{self.steps[word]}" if self.steps[word] > 1 else "")
-        self.calls.append(Call(form, fact, name or word, step, "end", wide, line))
+        return word + (f"-{self.steps[word]}" if self.steps[word] > 1 else "")
+
+    def add(self, form, fact, word, name, wide, line):
+        self.calls.append(Call(form, fact, name or word, self.step_of(word), "end", wide, line))
         return len(self.calls) - 1
 
     def question(self, last, line):
@@ -456,8 +489,14 @@ def growing(function):
 def clause_of(function):
     """Gives the kind of a function's contract, and the clause's name, or None."""
     ensured = [(it[2][0], it[1]) for it in function.clauses if it[0] == "ensures" and it[2]]
-    known = [it for it in ensured if it[0] in NEXT]
+    known = [it for it in ensured if it[0] in NEXT or it[0] == "GrowingOutcome"]
     return known[0] if len(known) == 1 and (len(ensured) == 1 or known[0][1]) else None
+
+
+def becomes_of(function):
+    """Gives the name of what an error of the reader becomes in a function with errors of its own."""
+    said = next((it[2] for it in function.clauses if it[0] == "ensures" and it[2][:1] in (["ReadsOwn"], ["GrowsOwn"])), [])
+    return said[4] if said[1:4] == ["R", ".", "source"] else ""
 
 
 # ---- the contract
@@ -470,7 +509,7 @@ def contract(function):
         return contract_of_trait(function, trait[1] == "From")
     ensured = [it for it in function.clauses if it[0] == "ensures"]
     found = clause_of(function)
-    if not found or len(ensured) != 1:
+    if not found or len(ensured) != 1 or found[0] not in NEXT:
         unknown(function.line, "a contract that is not one clause, `Reads`, `ReadsOwn`, `GrowsOwn` or `WritesAll`")
     said = ensured[0][2]
     if said[-7:] != [said[-3], ".", "old", "result", said[-3], ".", "new"]:
@@ -510,6 +549,7 @@ class Answers:
     def __init__(self, kind, field, around, generic):
         self.kind, self.field, self.around, self.args = kind, field, around, "g c" if generic else "c"
         self.used, self.rewrites = set(), {}
+        self.opened = 0  # the first call at which `around` stands around the terms
 
     def term(self, said, **meant):
         """Gives a term that is said in the words of the tables."""
@@ -534,17 +574,18 @@ class Answers:
             where = "as the last call" if table is LAST else f"in `{self.kind}`"
             unknown(call.line, f"`{call.step}` {where}")
         fact = f"c.{arm}.ensures" + (f".{call.fact}" if call.fact else "")
-        for step in self.rewrites.get(id(call), []):
-            fact = f"(rw c.{step}.ensures at {fact})"
+        for known in self.rewrites.get(id(call), []):
+            fact = f"(rw {known} at {fact})"
+            self.used |= {"◌∙◌"} if "∙" in known else set()
         fact = self.term(PLAINLY[self.kind], FACT=fact) if part else fact
         wide = wide or call.wide
         if "WIDE" in table[self.kind][form]:
             self.word(wide.split(" ")[0], {})
         return self.term(table[self.kind][form], ARM=f"c.{arm}", FACT=fact, RESIDUAL=residual, WIDE=wide)
 
-    def answer(self, goal, terms):
+    def answer(self, goal, terms, around=True):
         """Gives one answer: each term but the last takes the next one."""
-        terms = [self.term(self.around), *terms] if self.around else terms
+        terms = [self.term(self.around), *terms] if self.around and around else terms
         *front, last = terms
         if front and " " not in last:
             front[-1], last = f"{front[-1]} {last}", ""
@@ -562,7 +603,7 @@ class Answers:
         found, front = [], []
         last = calls[-1] if calls and calls[-1].way == "end" else None
         stops = 0
-        for call in calls[: -1 if last else None]:
+        for k, call in enumerate(calls[: -1 if last else None]):
             if call.form == "if":
                 holds, fails = TESTS[self.kind][::-1] if call.wide else TESTS[self.kind]
                 at = f"c.if-{call.label}"
@@ -574,7 +615,8 @@ class Answers:
                 arm = f"in_err-{call.label}"
                 residual = f"c.from_residual{f'-{arm}' if stops else ''}.ensures.1"
                 stops += 1
-                found.append(self.answer(f"returns-{arm}", front + [self.of_call(call, STOP, arm, residual)]))
+                terms = front + [self.of_call(call, STOP, arm, residual)]
+                found.append(self.answer(f"returns-{arm}", terms, k >= self.opened))
             front = front + [self.of_call(call, NEXT, f"in_ok-{call.label}" if call.way else call.step)]
         end = self.of_call(last, LAST, last.step) if last else self.term(END[self.kind])
         return found + [self.answer("returns", front + [end])]
@@ -599,6 +641,12 @@ def chosen(functions, wanted):
     return found[0]
 
 
+def has_model(path, name):
+    """Tells whether contracts see a type of this file by a model."""
+    with open(path, encoding="utf-8") as file:
+        return bool(name) and f"impl Model for {name} " in file.read()
+
+
 def answers_of(folder, file, wanted):
     """Gives the answers of a function, as `rt check --only` names it."""
     path = os.path.join(folder, file)
@@ -608,13 +656,16 @@ def answers_of(folder, file, wanted):
     paths = sorted(glob.glob(f"{folder}/src/**/*.rt", recursive=True))
     all_functions = [one for it in paths for one in read_source(it)[0]]
     kind, stream, field, around = contract(function)
+    modeled = kind == "WritesAll" and not around and has_model(path, function.owner)
+    around = "rw (← c.self.view_is)" if modeled else around
     answers = Answers(kind, field, around, function.generic)
-    body = Body(function, kind, stream, all_functions, structs)
+    body = Body(function, kind, stream, all_functions, structs, modeled)
     calls = body.whole()
     entries = entries_of(folder, function)
     if entries and "const_entry" not in entries:
         calls = [it._replace(form="alone") if (kind, it.form) == ("Reads", "const") else it for it in calls]
     answers.rewrites = {id(it): body.rewrites.get(k, []) for k, it in enumerate(calls)}
+    answers.opened = (body.opened or 0) if modeled else 0
     parts = answers.all(calls)
     module = re.sub(r"^src/|\.rt$", "", os.path.normpath(file)).split("/")
     module = [] if module == ["lib"] else module

@@ -1,5 +1,5 @@
 """Reads a description: its lines, and what does not go together."""
-import varying  # noqa: F401
+import lists  # noqa: F401
 from enums import snake
 from lines import KINDS, WORDS
 from names import TAKEN
@@ -92,6 +92,9 @@ def place(said, lines, find):
 def check(said, lines):
     """Refuses what does not go together."""
     names = [it.name for it in lines if it.name]
+    for it in lines:
+        if it.names_later and it.names_later not in names:
+            raise Refused(f"line {it.line}: no `{it.leads} {it.names_later}` behind it")
     if RESERVED & set(names):
         raise Refused(f"`{min(RESERVED & set(names))}` is a word of the proofs: take another name")
     if len(set(names)) < len(names):

@@ -40,13 +40,16 @@ class Line:
     order = "High"
     more = ""  # said behind the field's documentation
     error = ""  # the case of the format's error, if other bits are refused
+    theirs = ""  # what that case holds
     clause = ""  # the name of the clause that says so
     many = False  # whether `word` is a list of writes, and not one
+    grows = False  # whether its read asks for memory
     kind = "ℕ"  # the type of its value in specs
     imports = ()  # paths that the code uses
     copies = ""  # the module of `bitstream_callers` that the crate needs a copy of
     unfolds = ()  # what a worked row computes through
     long = 3  # how many words such a line has at most
+    leads, names_later = "", ""  # the word of the line that must follow, and what that describes
     find = None  # gives what the description of a module says
     # of the proofs: `entry` is the read, `word` the write, `written` that it is accepted and how long it is
     entry = word = written = ""
@@ -54,6 +57,11 @@ class Line:
     @property
     def value(self):
         return f"value.{self.name}"
+
+    @property
+    def view(self):
+        """Gives what contracts see of the field."""
+        return self.value
 
     @property
     def size(self):
@@ -122,6 +130,9 @@ class Line:
     def answers(self, module):
         return {}
 
+    def invariants(self, module):
+        return {}
+
     def functions(self):
         """Gives the functions of its own whose calls stand one behind the other."""
         return []
@@ -154,12 +165,8 @@ class Number(Line):
         return f"writer.write::<Bits<{self.bits}>, {self.type}>(self.{self.name})"
 
 
-@kind("u8", "u16", "u32", "u64", "u128")
 class Unsigned(Number):
     unfolds = ("unsigned", "unsigned_entry")
-
-    def __new__(cls, name, words, doc):
-        return super().__new__(Items if words[2:3] == ["x"] else cls)
 
     more = property(lambda self: f"Below 2^{self.bits}." if self.bits < self.width else "")
     entry = property(lambda self: f"unsigned_entry o {self.width} {self.bits}")
@@ -183,7 +190,6 @@ class Unsigned(Number):
         return str(int(said, 0))
 
 
-@kind("i8", "i16", "i32", "i64", "i128")
 class Signed(Number):
     kind, unfolds = "ℤ", ("signed", "signed_entry")
 
@@ -251,6 +257,50 @@ class Items(Unsigned):
 
     def term(self, said):
         return "".join(f"{int(it, 0)} ∷ " for it in said.strip("[]").split()) + "[]"
+
+
+class SignedItems(Items):
+    """The same of signed numbers."""
+
+    kind, unfolds = "List ℤ", ("signed", "signed_entry", "items_entry")
+
+    @property
+    def more(self):
+        most = 2 ** (self.each - 1)
+        return f"Each from {-most} to {most - 1}." if self.each < self.width else ""
+
+    entry = property(lambda self: f"items_entry (signed_entry o {self.width} {self.each}) {self.count}")
+    word = property(lambda self: f"flat_map (λ x. signed o {self.width} {self.each} x ∷ []) {self.value}")
+    known = property(lambda self: f"refl refl fits.{self.name}_count fits.{self.name}")
+    written = property(lambda self: f"packs-signed_items {self.shape} {self.known}")
+
+    def fits(self):
+        return [super().fits()[0], (self.name, f"All (FitsSignedBits {self.each}) {self.value}")]
+
+    def place(self, bits):
+        return f"map (signed_number {self.order}) (words {self.each} {self.count} ({bits}))"
+
+    def back(self, behind):
+        return f"signed_items-back _ _ {self.shape} _ {self.known} ({behind})"
+
+    def found(self, left, behind):
+        shape = f"{self.each} {self.count} {self.order} {self.width}"
+        return f"signed_items-finds _ _ {left} _ {shape} _ refl refl refl ({behind})"
+
+    def term(self, said):
+        return "".join(f"{signed_term(int(it, 0))} ∷ " for it in said.strip("[]").split()) + "[]"
+
+
+@kind("u8", "u16", "u32", "u64", "u128")
+def unsigned(name, words, doc):
+    """A line NAME TYPE BITS [x COUNT]."""
+    return (Items if words[2:3] == ["x"] else Unsigned)(name, words, doc)
+
+
+@kind("i8", "i16", "i32", "i64", "i128")
+def signed(name, words, doc):
+    """The same of signed numbers."""
+    return (SignedItems if words[2:3] == ["x"] else Signed)(name, words, doc)
 
 
 @kind("bool")

@@ -11,9 +11,11 @@ class Module(Code, Specs, Proofs):
         self.type, self.doc, self.error, self.examples = said["name"], said["doc"], said["error"], said["examples"]
         self.made = f"Made by `./format` from {said['from']}: edit that file and make this one anew."
         self.order, self.o = said["order"], {"BE": "High", "LE": "Low"}[said["order"]]
-        self.own, self.sized, self.e = bool(self.error), self.total is not None, self.error or "Error"
+        self.grows = any(it.grows for it in lines)  # whether its read asks for memory
+        self.own, self.sized, self.e = bool(self.error) or self.grows, self.total is not None, self.error or "Error"
+        self.becomes_name = f"becomes_{module}" if self.error else "same_error"
         self.fields, self.tests = [it for it in lines if it.type], [it for it in lines if it.error]
-        self.result = f"(Result {self.type} {self.error})" if self.own else self.type
+        self.result = f"(Result {self.type} {self.e})" if self.own else self.type
         self.spec = spec_of(module)
         self.declared = f"Rattle.{crate}.specs.declared.{module}"
         self.goals = f"Rattle.{crate}.proofs.{module}"
@@ -29,6 +31,10 @@ class Module(Code, Specs, Proofs):
         }
         if self.examples:
             found[f"proofs/{self.spec}Rows.antt"] = self.rows()
+        if self.grows:
+            found[f"specs/{self.spec}Fields.antt"] = self.fields_specs()
+        for path, text in self.line_invariants().items():
+            found[f"proofs/{self.m}/{path}/Invariants.antt"] = text
         answers = self.law() | self.parse_answers() | self.pack_answers() | self.trait_answers() | self.line_answers()
         return found | {self.answers_path(path): text for path, text in answers.items()}
 
@@ -48,9 +54,10 @@ class Module(Code, Specs, Proofs):
         """Gives the lines that name the files, by the file that has them."""
         modules = [self.m, *self.copies()]
         specs = [spec_of(it) for it in modules]
+        fields = [f"pub mod {self.spec}Fields"] * self.grows
         return {
             "src/lib.rt": [f"pub mod {it};" for it in modules],
-            "specs/Lib.antt": [f"pub mod {it}" for it in specs],
+            "specs/Lib.antt": [f"pub mod {it}" for it in specs] + fields,
             "proofs/Lib.antt": [f"pub mod {it}Lemmas" for it in specs] + [f"mod {self.spec}Rows"] * bool(self.examples),
         }
 
@@ -60,7 +67,7 @@ class Module(Code, Specs, Proofs):
         """Gives where the types of this module, and of its parts, come from."""
         base = self.declared
         own = {f"{base}.{self.type}": self.type}
-        if self.own:
+        if self.error:
             own[f"{base}.{self.error}"] = self.error
             cases = dict.fromkeys(["Reader", *[it.error for it in self.tests]])
             own[f"{base}.{self.error}.TheVariants"] = " ".join(cases)

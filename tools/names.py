@@ -3,7 +3,7 @@ import re
 
 from source import COLUMNS, filled
 
-SYMBOLS = {it: f"◌{it}◌" for it in "≡ ≢ ∷ ++ ^ < ≤ + - * ∙ ==".split()}
+SYMBOLS = {it: f"◌{it}◌" for it in "≡ ≢ ∷ ++ ^ < ≤ + - * ∙ == ⊎".split()}
 SYMBOLS |= {"[]": "[]", "if": "if◌then◌else◌", "←": "◌>>=◌"}
 TOKEN = re.compile(r"\+\+|==|\[\]|[^\W\d][\w]*(?:-[^\W\d][\w]*)*(?:-\d+)?|\S")
 
@@ -27,7 +27,7 @@ def table(text):
 # In specs, and in the contracts of code.
 SPECS = table(
     """
-Rattle.std.specs.Prelude: ≡ ≢ ^ < ≤ + - * ++ ∷ [] == if ℕ ℤ Bool true false List Result Ok Err Option Some None
+Rattle.std.specs.Prelude: ≡ ≢ ^ < ≤ + - * ++ ∷ [] == ⊎ if ℕ ℤ Bool true false List Result Ok Err Option Some None
     is_some length take drop map IfOk IsOk unsigned_abs
 Rattle.std.specs.List: All flat_map
 Rattle.std.specs.Option: ForSome
@@ -37,10 +37,12 @@ Rattle.bitstream_io.specs.Callers: ← ReadEntry WriteEntry Takes gives Error En
     signed_number FitsSignedBits word first_bit bit_entry unsigned_entry signed_entry const_entry unary_entry
     bytes_entry bytes_of skip_entry vbr_entry any_vbr_entry signed_vbr_entry any_signed_vbr_entry items_entry
     option_entry plain bit unsigned signed unary_word buffer zeros align vbr signed_vbr non_zero write_run words
-    Reads ReadsOwn OwnAnswer WritesAll sure_answer
+    Reads ReadsOwn OwnAnswer WritesAll sure_answer GrowsOwn OutOfMemory seen
     same_error plain_reads part_then if_any number_or_zero optional optional_writes optional_size
     non_zero_u8 non_zero_u16 non_zero_u32 non_zero_u64 non_zero_u128
     non_zero_u8_entry non_zero_u16_entry non_zero_u32_entry non_zero_u64_entry non_zero_u128_entry
+Rattle.bitstream_io.specs.Grows: GrowingOutcome
+Rattle.bitstream_io.specs.Loop: parts_size ItemsRead ItemsWritten
 Rattle.bitstream_io.specs.SliceMut: written_bytes
 Rattle.bitstream_io.specs.ReadBack: IsReadAs
 Rattle.bitstream_io.specs.Unary: unary
@@ -53,9 +55,14 @@ SPECS |= {f"Rattle.std.specs.declared.num.NonZeroU{n}": f"NonZeroU{n}" for n in 
 # In proofs: of the first module that has a name.
 PROOFS = table(
     """
-Rattle.std.proofs.Common: ≡ ≢ ^ < ≤ + - * ++ ∷ [] == ∙ ℕ ℤ Bool true false List Result Ok Err Option Some None length
+Rattle.std.proofs.Common: w8 w16 w32 w64 ≡ ≢ ^ < ≤ + - * ++ ∷ [] == ⊎ ∙ ℕ ℤ Bool true false List Result Ok Err Option Some None length
     refl ap sym subst arith rules
 Rattle.std.specs.Prelude: is_some if take drop pos negsuc map
+Rattle.std.specs.Int: w128
+Rattle.std.proofs.lemmas.List.Elements: All-weaker
+Rattle.std.proofs.lemmas.Int: to_z-of_z
+borrow.Author.Rules: sfits_of
+Rattle.bitstream_io.proofs.WriteSteps: signed_value
 Rattle.std.proofs.lemmas.Bool: eq-eqb ne_eqb cases_lt
 Rattle.std.proofs.lemmas.Bool.Decides: eqb_tells
 Rattle.bitstream_io.proofs.CallerLemmas: GoesBack Finds Packs inl inr is_error own_answered own_fields_there own_fields_short
@@ -68,10 +75,13 @@ Rattle.bitstream_io.proofs.CallerLemmas: GoesBack Finds Packs inl inr is_error o
     gives-finds chain-finds items-finds made-finds part-finds part-misses
     bit-written signed-written unsigned-written bytes-written non_zero-written const-written zeros-written
     unary-written vbr-written packs-none packs-more packs-part packs-items packs-optional
-    packs-is packs-room packs-whole
+    packs-is packs-room packs-whole packs-parts packs-signed_items each-back signed_items-back signed_items-finds
+    own_grown_answered
+    items-begin items-push items-stop items-refused grown written-begin written-more written-stop
     non_zero_u8-again non_zero_u16-again non_zero_u32-again non_zero_u64-again non_zero_u128-again
     option_u8-again option_u16-again option_u32-again option_u64-again option_u128-again
 Rattle.bitstream_io.proofs.SliceLemmas: new_answer
+Rattle.bitstream_io.proofs.ReadsLemmas: seen_err
 Rattle.bitstream_io.proofs.CallsBack: signed_vbr-back any_signed_vbr-back mapped-read
 Rattle.bitstream_io.proofs.WriteParts: all_none
 """
@@ -94,7 +104,7 @@ BOUND = re.compile(
 def words_of(text):
     """Gives the words of a text that may name a definition."""
     lines = [it for it in text.split("\n") if not it.startswith(("use ", "--"))]
-    return set(TOKEN.findall(BOUND.sub(" ", "\n".join(lines))))
+    return set(TOKEN.findall(BOUND.sub(" ", "\n".join(lines).replace("(← ", "("))))
 
 
 def short(name):

@@ -10,6 +10,8 @@ class Part(Line):
 
     many, long = True, 4
     counts = True  # whether its bits are those of its lines
+    own_errors = True  # whether it may have errors of its own
+    theirs, cases = "", ()  # its error, and the cases of that
 
     def __init__(self, words, doc):
         if words[2:3] != ["of"]:
@@ -22,8 +24,14 @@ class Part(Line):
         said = self.find(self.module)
         if said["name"] != self.part:
             raise Refused(f"`{self.module}` describes `{said['name']}`, and not `{self.part}`")
+        if said["error"] and not self.own_errors:
+            raise Refused(f"`{self.part}` has errors of its own, so it stands neither in a list nor behind a condition")
+        if any(it.grows for it in said["lines"]):
+            raise Refused(f"`{self.part}` has a list: read it by hand")
         if said["error"]:
-            raise Refused(f"`{self.part}` has errors of its own: read it by hand")
+            tests = [it for it in said["lines"] if it.error]
+            self.theirs, self.error, self.counts = said["error"], f"In{self.part}", False
+            self.cases = list({it.error: it.theirs for it in tests}.items())
         if self.counts:
             self.inner, self.bits = said["lines"], said["total"]
             self.stand(self.at or 0, self.order)
@@ -34,8 +42,12 @@ class Part(Line):
         for it in self.inner if self.bits else []:
             it.stand(at + it.at, order)
 
-    imports = property(lambda self: (f"crate::{self.module}::{self.part}",))
-    entry = property(lambda self: f"{self.module}_entry o")
+    @property
+    def imports(self):
+        names = f"{{{self.part}, {self.theirs}}}" if self.theirs else self.part
+        return (f"crate::{self.module}::{names}",)
+
+    entry = property(lambda self: f"{self.module}_{'here' if self.theirs else 'entry'} o")
     word = property(lambda self: f"{self.module}_writes o {self.value}")
     size = property(lambda self: f"{self.module}_size o {self.value}")
     written = property(lambda self: f"{self.module}_packs o {self.value} fits.{self.name}")
@@ -49,12 +61,21 @@ class Part(Line):
     def write(self):
         return f"self.{self.name}.write(writer)"
 
+    def why(self):
+        return f"An error of a `{self.part}` that is not the reader's."
+
+    def binds(self, behind):
+        return f"  chain ({self.entry}) (part_then (λ {self.name}. {behind}))" if self.theirs else super().binds(behind)
+
     def fits(self):
         return [(self.name, f"{self.part}Fits {self.value}")]
 
     def back(self, behind):
-        goes = f"({self.module}_goes o {self.value} fits.{self.name}).back"
-        return f"part-back ({self.entry}) _ ({self.word}) _ {self.value} _ {goes} ({behind})"
+        value, goes = self.value, f"({self.module}_goes o {self.value} fits.{self.name}).back"
+        if self.theirs:
+            value = f"(Ok {value})"
+            goes = f"(mapped-read {self.module}_answer ({self.word}) ({self.module}_entry o) {value} {goes})"
+        return f"part-back ({self.entry}) _ ({self.word}) _ {value} _ {goes} ({behind})"
 
     def place_in(self, bits):
         return f"record {{ {'; '.join(f'{it.name} = {it.place_in(bits)}' for it in self.inner if it.type)} }}"
@@ -75,17 +96,77 @@ class Part(Line):
     def names(self, module):
         base = f"Rattle.{module.crate}.specs.declared.{self.module}"
         words = " ".join(f"{self.module}_{it}" for it in ("entry", "writes", "size"))
-        return {
+        found = {
             f"{base}.{self.part}": self.part,
-            f"Rattle.{module.crate}.specs.{spec_of(self.module)}": f"{words} Fits={self.part}Fits"}
+            f"Rattle.{module.crate}.specs.{spec_of(self.module)}": f"{words} Fits={self.part}Fits",
+        }
+        if self.theirs:
+            found[f"{base}.{self.theirs}"] = self.theirs
+            cases = ["Reader", *[case for case, _ in self.cases]]
+            found[f"{base}.{self.theirs}.TheVariants"] = " ".join(f"{it}={self.part}{it}" for it in cases)
+            found[module.specs_path] = " ".join(f"{self.module}_{it}" for it in ("error", "answer", "here"))
+        return found
 
     def lemma_names(self, module):
         path = f"Rattle.{module.crate}.proofs.{spec_of(self.module)}Lemmas"
         return {path: f"{self.module}_goes {self.module}_packs"}
 
 
+    # ---- of a part that has errors of its own: those of the reader are the reader's here too
+
+    def declares(self, module):
+        if not self.theirs or not self.is_first(module):
+            return []
+        arms = [f"            {self.theirs}::Reader(error) => {module.error}::Reader(error),"]
+        for case, held in self.cases:
+            said = f"{self.theirs}::{case}{'(error)' * bool(held)}"
+            arms.append(f"            {said} => {module.error}::{self.error}({said}),")
+        return [
+            f"impl From<{self.theirs}> for {module.error} {{",
+            f"    ghost from_gives = {{ λ error own. own ≡ {self.module}_error error }};",
+            "",
+            f"    fn from(error: {self.theirs}) -> {module.error} {{",
+            "        match error {",
+            *arms,
+            "        }",
+            "    }",
+            "}",
+            "",
+        ]
+
+    def specs(self, module):
+        if not self.theirs or not self.is_first(module):
+            return []
+        out = [f"-- an error of a `{self.part}`, as one of the type's"]
+        out += [f"abbrev pub {self.module}_error : {self.theirs} → {module.error}"]
+        out += [f"{self.module}_error ({self.part}Reader error) = Reader error"]
+        for case, held in self.cases:
+            said = f"({self.part}{case} error)" if held else f"{self.part}{case}"
+            out.append(f"{self.module}_error {said} = {self.error} {said}")
+        answers = f"Result {self.part} {self.theirs} → Result {self.part} {module.error}"
+        out += ["", "-- and an answer", f"abbrev pub {self.module}_answer : {answers}"]
+        out += [f"{self.module}_answer (Ok value) = Ok value"]
+        out += [f"{self.module}_answer (Err error) = Err ({self.module}_error error)"]
+        out += ["", f"-- the reads of a `{self.part}`, with the errors of the type"]
+        out += [f"abbrev pub {self.module}_here : Order → ReadEntry (Result {self.part} {module.error})"]
+        here = f"chain ({self.module}_entry o) (λ answer. gives ({self.module}_answer answer))"
+        return [*out, f"{self.module}_here o = {here}", ""]
+
+    def answers(self, module):
+        if not self.theirs or not self.is_first(module):
+            return {}
+        path = f"{module.error}From{self.theirs}"
+        out = [f"use {module.goals}.{path}.from.Goals as goal"]
+        for case in ("Reader", *[case for case, _ in self.cases]):
+            out += ["", f"pub returns-in-{case} : goal.returns-in-{case}"]
+            out += [f"returns-in-{case} c = rw c.in-{case}.is refl"]
+        return {f"{path}/from": out}
+
+
 class Optional(Part):
     """A part that is there or not: `there` says when, in code, `when` in specs, `known` of the value's own fields."""
+
+    own_errors = False
 
     def __init__(self, words, doc):
         super().__init__(words, doc)
@@ -170,10 +251,11 @@ class Optional(Part):
 class Flag(Line):
     """A line flag NAME: a bit that says whether the optional part of that name is there."""
 
-    bits, kind, entry, long = 1, "Bool", "bit_entry", 2
+    bits, kind, entry, long, leads = 1, "Bool", "bit_entry", 2, "option"
 
     def __init__(self, words, doc):
         self.part, self.name, self.doc = words[1], f"has_{words[1]}", doc
+        self.names_later = self.part
 
     word = property(lambda self: f"bit (is_some value.{self.part})")
     written = property(lambda self: f"bit-written (is_some value.{self.part})")
@@ -248,9 +330,3 @@ class If(Optional):
         read = f"IsReadAs ({self.word}) (optional there ({self.module}_entry o)) {self.value}"
         moved = f"subst (λ (there : Bool). {read}) fits.{self.name}_there ({self.goes()})"
         return [f"let {self.name} = {moved} in"]
-
-
-@starts("count", "list")
-def counted(words, doc):
-    """A line count NAME BITS, or list NAME TYPE of MODULE."""
-    raise Refused("a list whose number of items was read is not printed: write its loop by hand")

@@ -4,8 +4,8 @@ import re
 from names import SPECS, article, uses
 from picture import picture
 
-LIBRARY = """BE LE BitRead BitReadExt BitReader BitWrite BitWriteExt BitWriter Bits Error FromBitStream SliceMut
-    ToBitStream"""
+LIBRARY = """BE LE BitRead BitReadExt BitReader BitWrite BitWriteExt BitWriter Bits Error FromBitStream
+    FromBitStreamUsing SliceMut ToBitStream"""
 
 
 def clauses(code):
@@ -32,7 +32,7 @@ def clause(name, facts, says):
 class Code:
     def code(self):
         """Gives the text of the module."""
-        body = [*self.struct_code(), *self.error_code()]
+        body = [*self.struct_code(), *self.model_code(), *self.error_code()]
         body += [line for it in self.lines for line in it.declares(self)]
         calls = [*self.read_code(), *self.parse_code(), *self.write_code(), *self.pack_code()]
         body += [f"impl {self.type} {{", *calls, "}", ""]
@@ -47,25 +47,46 @@ class Code:
         traits = "BitReadExt " * ("reader.read" in text) + "BitWriteExt " * ("writer.write" in text)
         code = "\n".join(it for it in text.split("\n") if not it.strip().startswith("///"))
         words = set(re.findall(r"\w+", code + traits))
-        paths = sorted({path for it in self.lines for path in it.imports})
+        paths = {path for it in self.lines for path in it.imports}
+        paths = sorted(paths | {"std::alloc::Global", "std::marker::Model"} if self.grows else paths)
         library = f"use bitstream_io::{{{', '.join(it for it in LIBRARY.split() if it in words)}}};"
         mine = [f"use {it};" for it in paths if it.startswith("crate")]
         return [*ghosts, "", *mine, library, *(f"use {it};" for it in paths if it.startswith("std"))]
 
     def struct_code(self):
         drawn = [f"/// {it}".rstrip() for it in picture(self.lines)]
-        out = [f"/// {self.doc}", *drawn, "#[derive(Clone, Copy, Debug, PartialEq)]", f"pub struct {self.type} {{"]
+        derives = "Debug, Drop" if self.grows else "Clone, Copy, Debug, PartialEq"
+        out = [f"/// {self.doc}", *drawn, f"#[derive({derives})]", f"pub struct {self.type} {{"]
         for it in self.fields:
             out += [f"    /// {f'{it.doc} {it.more}'.strip()}", f"    pub {it.name}: {it.type},"]
         return [*out, "}", ""]
 
+    def model_code(self):
+        """Gives what contracts see of a format with lists: its fields, and the items of the lists."""
+        if not self.grows:
+            return []
+        fields = f"{self.type}Fields"
+        seen = [f"        {it.name} = {it.view};" for it in self.fields]
+        return [
+            f"impl Model for {self.type} {{",
+            f"    ghost use Rattle.{self.crate}.specs.{self.spec}Fields.{{{fields}}};",
+            "",
+            f"    ghost Value = {{ {fields} }};",
+            "",
+            "    ghost view = { λ value. record {",
+            *seen,
+            "    } };",
+            "}",
+            "",
+        ]
+
     def error_code(self):
-        if not self.own:
+        if not self.error:
             return []
         e = self.error
         whys = {it.error: it.why() for it in reversed(self.tests)}
-        errors = dict.fromkeys(it.error for it in self.tests)
-        cases = [line for it in errors for line in (f"    /// {whys[it]}", f"    {it},")]
+        errors = {it.error: f"({it.theirs})" if it.theirs else "" for it in self.tests}
+        cases = [line for it, held in errors.items() for line in (f"    /// {whys[it]}", f"    {it}{held},")]
         return [
             f"/// Why {article(self.type)} is not read.",
             "#[derive(Debug, Drop)]",
@@ -89,9 +110,25 @@ class Code:
         """Gives what is said of the errors of its own."""
         return "".join(f"`{it}`, " for it in dict.fromkeys(it.error for it in self.tests))
 
+    def memory(self):
+        """Gives the parameter for the memory of the lists."""
+        return ", alloc: Global" * self.grows
+
+    def of_reader(self, error):
+        """Gives an error of the reader as the format's own, as code has it."""
+        return f"Reader({error})" if self.error else error
+
+    def or_refused(self, fact):
+        """Gives what a clause says of a read: this, or that memory was refused."""
+        refused = f"({self.error}.Reader OutOfMemory)" if self.error else "OutOfMemory"
+        return f"({fact})\n            ⊎ (result ≡ Err {refused})" if self.grows else fact
+
     def read_code(self):
-        reads = f"ReadsOwn R.source becomes_{self.m}" if self.own else "Reads R.source"
-        own = [f"    /// {self.refusals()}behind the bits that say so."] * self.own
+        reads = f"ReadsOwn R.source {self.becomes_name}" if self.own else "Reads R.source"
+        if self.grows:
+            reads = f"GrowsOwn R.source {self.becomes_name}"
+        own = [f"    /// {self.refusals()}behind the bits that say so."] * bool(self.error)
+        own += [f"    /// `{self.of_reader('OutOfMemory')}` if memory for a list is refused, behind the items before."] * self.grows
         return [
             "    /// Reads the fields in order.",
             "    ///",
@@ -99,7 +136,7 @@ class Code:
             "    ///",
             *own,
             f"    /// {'Else those' if self.own else 'Those'} of the reader: after each of them it has failed.",
-            f"    pub fn read<R: BitRead>(reader: &mut R) -> Result<{self.type}, {self.e}>",
+            f"    pub fn read<R: BitRead>(reader: &mut R{self.memory()}) -> Result<{self.type}, {self.e}>",
             f"        ensures {{ {reads} ({self.m}_entry R.source.order) reader.old result reader.new }}",
             "    {",
             *[f"        {it.let(self.e)}" for it in self.lines],
@@ -111,25 +148,27 @@ class Code:
     def parse_code(self):
         m, t, o = self.m, self.type, self.o
         answer = f"(sure_answer (({m}_entry {o}).reads 0 (bits {o} packet.now)))"
-        told = f"OwnAnswer becomes_{m} (λ answer. answer)\n            {answer} result"
+        told = self.or_refused(f"OwnAnswer {self.becomes_name} (λ answer. answer)\n            {answer} result")
         bits, few = f"write_run ({m}_writes {o} value) 0", "if the bytes end before the fields do"
+        more = [f"    /// `{self.of_reader('OutOfMemory')}` if memory for a list is refused."] * self.grows
         if self.sized:
             bits, few = f"{m}_bits value", f"for fewer than {self.total // 8} bytes"
-        end = "`Reader(EndOfInput)`" if self.own else "`EndOfInput`"
+        end, behind = f"`{self.of_reader('EndOfInput')}`", "\n            " if self.grows else " "
         return [
             "    /// Returns what bytes begin with.",
             "    ///",
             "    /// # Errors",
             "    ///",
             f"    /// {self.refusals()}{end} {few}.",
-            f"    pub fn parse(packet: &[u8]) -> Result<{t}, {self.e}>",
+            *more,
+            f"    pub fn parse(packet: &[u8]{self.memory()}) -> Result<{t}, {self.e}>",
             f"        ensures answer {{ {told if self.own else f'result ≡ {answer[1:-1]}'} }}",
             *(self.places_code() if self.sized else []),
             f"        ensures back {{ (value : {t}) (more : List Bool) → Fits value",
-            f"            → bits {o} packet.now ≡ {bits} ++ more → result ≡ Ok value }}",
+            f"            → bits {o} packet.now ≡ {bits} ++ more{behind}→ {self.or_refused('result ≡ Ok value')} }}",
             "    {",
             f"        {m}_goes_back();",
-            f"        {t}::read(&mut BitReader::<_, {self.order}>::over(packet))",
+            f"        {t}::read(&mut BitReader::<_, {self.order}>::over(packet){', alloc' * self.grows})",
             "    }",
             "",
         ]
@@ -208,19 +247,23 @@ class Code:
 
     def from_code(self):
         m, t, e = self.m, self.type, self.e
-        becomes, reads = "same_error", f"λ o. plain_reads ({m}_entry o)"
-        if self.own:
-            becomes, reads = f"becomes_{m}", f"{m}_entry"
+        reads = f"{m}_entry" if self.own else f"λ o. plain_reads ({m}_entry o)"
+        context, grows = [], []
+        if self.grows:
+            context, grows = ["    type Context = Global;", ""], ["    ghost grows = { true };", ""]
+            reads = f"λ o _. {m}_entry o"
         return [
-            f"impl FromBitStream for {t} {{",
+            f"impl FromBitStream{'Using' * self.grows} for {t} {{",
+            *context,
             f"    type Error = {e};",
             "",
-            f"    ghost becomes = {{ {becomes} }};",
+            *grows,
+            f"    ghost becomes = {{ {self.becomes_name} }};",
             "",
             f"    ghost reads = {{ {reads} }};",
             "",
-            f"    fn from_reader<R: BitRead>(reader: &mut R) -> Result<{t}, {e}> {{",
-            f"        {t}::read(reader)",
+            f"    fn from_reader<R: BitRead>(reader: &mut R{self.memory()}) -> Result<{t}, {e}> {{",
+            f"        {t}::read(reader{', alloc' * self.grows})",
             "    }",
             "}",
             "",

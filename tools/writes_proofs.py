@@ -74,21 +74,31 @@ class Proofs:
         return self.answer(f"{self.m}_goes_back", *clauses)
 
     def parse_answers(self):
-        m, o, own = self.m, self.o, "own_" * self.own
+        m, o = self.m, self.o
         over = "slice_ends c.over.ensures.state refl c.read.ensures"
         path = f"{self.type}/parse"
         out = [f"use {self.goals}.{self.type}.parse.Goals as goal", ""] + (self.finds() if self.sized else [])
         answer = f"own_answered {over}" if self.own else "new_answer slice_ends _ _ c.over.ensures.state c.read.ensures"
+        if self.grows:
+            answer = self.or_refused_term(over, "found")
         answers = [("answer", "c", answer)]
         answers += self.there(over) if self.sized else []
         back, is_ = f"c.{m}_goes_back.ensures.back {o} value 0 0 more fits", "is"
         if self.sized:
             is_ = f"(is ∙ ap (λ w. w ++ more) (sym (told value) ∙ packs-whole ({m}_packs {o} value fits) refl))"
-        term = f"λ value more fits is.\n    {own}front_answered {over} (ap (({m}_entry {o}).reads 0) {is_} ∙ {back})"
+        front = f"(ap (({m}_entry {o}).reads 0) {is_} ∙ {back})"
+        term = f"λ value more fits is.\n    {'own_' * self.own}front_answered {over} {front}"
+        if self.grows:
+            motive = f"(λ front. OwnAnswer {self.becomes_name} (λ answer. answer) (sure_answer front) c.read.result)"
+            term = f"λ value more fits is.\n    {self.or_refused_term(over, f'subst {motive} {front} found')}"
         for clause, given, term in [*answers, ("back", "c", term)]:
             goal = f"returns-clause-{clause}"
             out += [f"pub {goal} : goal.{goal}", f"{goal} {given} = {term}", ""]
         return {path: self.answer_text(out)}
+
+    def or_refused_term(self, over, term):
+        """Gives the term that bytes answer what they say, of one for `found`, or that memory was refused."""
+        return f"elim (own_grown_answered {over}) [ | inl found ↦ inl ({term}) | inr lack ↦ inr (is_error _ _ lack) ]"
 
     def finds(self):
         """Gives what the reads find, if nothing is refused, and at each line that may be."""
@@ -153,7 +163,7 @@ class Proofs:
         around = "" if self.own else "plainly_read "
         read = f"record {{ reads = {around}c.read.ensures }}"
         write = "record { writes = plainly_written _ _ _ _ _ c.write.ensures }"
-        found = self.answer(f"{self.type}FromBitStream/from_reader", ("returns", "g c", read))
+        found = self.answer(f"{self.type}FromBitStream{'Using' * self.grows}/from_reader", ("returns", "g c", read))
         return found | self.answer(f"{self.type}ToBitStream/to_writer", ("returns", "g c", write))
 
     def pack_answers(self):
@@ -177,6 +187,12 @@ class Proofs:
             ("returns-in_err-write-clause-room", "c", written),
             ("returns-in_err-byte_align-clause-room", "c", aligned),
         )
+
+    def line_invariants(self):
+        found = {}
+        for it in self.lines:
+            found |= {path: self.answer_text(lines) for path, lines in it.invariants(self).items()}
+        return found
 
     def line_answers(self):
         found = {}

@@ -1,7 +1,7 @@
 """The definitions that a format's contracts cite."""
 import re
 
-from names import SPECS, uses, wrapped
+from names import SPECS, article, uses, wrapped
 
 
 class Specs:
@@ -17,7 +17,7 @@ class Specs:
         return wrapped("\n".join([f"-- {self.doc}", *imports, "", f"-- {self.made}", "", text.rstrip()])) + "\n"
 
     def becomes(self):
-        if not self.own:
+        if not self.error:
             return []
         return [
             "-- an error of the reader is one of the type's",
@@ -48,7 +48,7 @@ class Specs:
             name, more = (f"{self.m}_entry_{k}", f", behind {k} that may be refused") if k else (f"{self.m}_entry", "")
             block = [it.binds(behind) for it in part] + ([self.gives()] if k == len(parts) - 1 else [])
             says = f"{name} o{args} = do"
-            if len(block) == 1 and block[0].startswith("  chain"):
+            if len(block) == 1 and block[0].startswith(("  chain", "  gives")):
                 says, block = f"{name} o{args} ={block[0][1:]}", []
             head = [f"-- the reads, in order{more}", f"abbrev pub {name} : Order →{kinds} ReadEntry {self.result}"]
             out = [*head, says, *block, "", *out]
@@ -73,6 +73,14 @@ class Specs:
             f"    {join}[]{')' * len(opened)}",
             "",
         ]
+
+    def fields_specs(self):
+        """Gives the text of the file that says what contracts see of a format with lists."""
+        name, fields = f"{self.type}Fields", [f"  pub {it.name} : {it.kind}" for it in self.fields]
+        out = ["-- its fields, and the items of its lists", f"pub record {name} : Type 0 where", *fields]
+        imports = uses("\n".join(out), self.types(), self.parts_specs(), SPECS)
+        head = f"-- What contracts see of {article(self.type)}."
+        return "\n".join([head, *imports, "", f"-- {self.made}", "", *out]) + "\n"
 
     def fits(self):
         fields = [f"  pub {name} : {what}" for it in self.lines for name, what in it.fits()]

@@ -11,6 +11,8 @@ pub mod PrimaryHeader
 pub mod ParameterSet
 pub mod Parameters
 pub mod Reading
+pub mod RtpHeader
+pub mod RtpHeaderFields
 pub mod Sample
 pub mod Samples
 pub mod Sensor

@@ -42,6 +42,7 @@ pub mod picture;
 pub mod plain;
 pub mod primary_header;
 pub mod reading;
+pub mod rtp_header;
 pub mod sample;
 pub mod samples;
 pub mod sensor;

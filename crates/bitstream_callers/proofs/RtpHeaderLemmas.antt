@@ -1,0 +1,35 @@
+-- What was written of a `RtpHeader` is read back, and how many bits it takes.
+-- Made by `./format` from formats/rtp_header.fields: edit that file and make this one anew.
+use Rattle.bitstream_callers.specs.RtpHeader.{rtp_header_entry, rtp_header_writes, rtp_header_size, rtp_header_bits, Fits}
+use Rattle.bitstream_callers.specs.declared.rtp_header.RtpHeader.{RtpHeader}
+use Rattle.std.proofs.Common.{◌≡◌, ◌++◌, ◌∷◌, [], Ok, length, refl, arith}
+use Rattle.bitstream_io.proofs.CallerLemmas.{GoesBack, Packs, bit-back, unsigned-back, gives-back, items-back, literal-back, bit-written, unsigned-written, const-written, packs-none, packs-more, packs-part, packs-items, packs-is}
+use Rattle.bitstream_io.specs.Callers.{Order, High, align, write_run}
+
+-- what was written is read back
+pub rtp_header_goes : (o : Order) (value : RtpHeader) → Fits value
+    → GoesBack (rtp_header_entry o) (rtp_header_writes o value) (Ok value)
+rtp_header_goes o value fits =
+    literal-back _ _ o 2 2 _ refl (bit-back value.padding _ _ _ (bit-back value.extension _ _ _ (unsigned-back o 4 _ _
+    64 (length value.csrc) _ refl fits.csrc_count (bit-back value.marker _ _ _ (unsigned-back o 7 _ _ 8
+    value.payload_type _ refl fits.payload_type (unsigned-back o 16 _ _ 16 value.sequence _ refl fits.sequence
+    (unsigned-back o 32 _ _ 32 value.timestamp _ refl fits.timestamp (unsigned-back o 32 _ _ 32 value.ssrc _ refl
+    fits.ssrc (items-back _ _ o 32 32 (length value.csrc) value.csrc _ refl refl fits.csrc (gives-back _))))))))))
+
+-- each write is accepted, and so many bits are written
+pub rtp_header_packs : (o : Order) (value : RtpHeader) → Fits value
+    → Packs (rtp_header_writes o value) (rtp_header_size o value)
+rtp_header_packs o value fits =
+    packs-is (packs-more (const-written o 2 2) (packs-more (bit-written value.padding) (packs-more (bit-written
+    value.extension) (packs-more (unsigned-written o 64 4 (length value.csrc) refl fits.csrc_count) (packs-more
+    (bit-written value.marker) (packs-more (unsigned-written o 8 7 value.payload_type refl fits.payload_type)
+    (packs-more (unsigned-written o 16 16 value.sequence refl fits.sequence) (packs-more (unsigned-written o 32 32
+    value.timestamp refl fits.timestamp) (packs-more (unsigned-written o 32 32 value.ssrc refl fits.ssrc)
+    (packs-part (packs-items o 32 32 (length value.csrc) value.csrc refl refl fits.csrc) (packs-none)))))))))))
+    (omega arith)
+
+-- the bits, of which a search is to see no part
+pub told : (value : RtpHeader)
+    → write_run (rtp_header_writes High value ++ align ∷ []) 0 ≡ rtp_header_bits value
+unfolding rtp_header_bits
+told value = refl

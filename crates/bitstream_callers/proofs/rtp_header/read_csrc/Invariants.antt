@@ -1,0 +1,9 @@
+use Rattle.bitstream_io.specs.Callers.{unsigned_entry}
+use Rattle.bitstream_io.specs.Loop.{ItemsRead}
+use Rattle.bitstream_callers.proofs.rtp_header.read_csrc.Given as goal
+
+-- the items so far were read
+abbrev pub invariant-loop : goal.invariant-loop
+invariant-loop g l =
+    let K = g.R.BitRead.source in
+    ItemsRead K (unsigned_entry K.order 32 32) l.counter l.initial.reader l.found.items l.reader

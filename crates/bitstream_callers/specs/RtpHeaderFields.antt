@@ -1,0 +1,15 @@
+-- What contracts see of a `RtpHeader`.
+use Rattle.std.specs.Prelude.{ℕ, Bool, List}
+
+-- Made by `./format` from formats/rtp_header.fields: edit that file and make this one anew.
+
+-- its fields, and the items of its lists
+pub record RtpHeaderFields : Type 0 where
+  pub padding : Bool
+  pub extension : Bool
+  pub marker : Bool
+  pub payload_type : ℕ
+  pub sequence : ℕ
+  pub timestamp : ℕ
+  pub ssrc : ℕ
+  pub csrc : List ℕ

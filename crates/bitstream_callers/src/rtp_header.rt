@@ -1,0 +1,241 @@
+//! The fixed header of an RTP packet, and the sources that contributed to it.
+//!
+//! Made by `./format` from formats/rtp_header.fields: edit that file and make this one anew.
+ghost use Rattle.bitstream_callers.specs.RtpHeader.{rtp_header_entry, rtp_header_writes, rtp_header_size, rtp_header_bits, Fits, becomes_rtp_header};
+ghost use Rattle.bitstream_callers.specs.declared.rtp_header.RtpHeader.{RtpHeader};
+ghost use Rattle.bitstream_callers.specs.declared.rtp_header.RtpError.{RtpError};
+ghost use Rattle.bitstream_callers.specs.declared.rtp_header.RtpError.TheVariants.{Reader};
+ghost use Rattle.std.specs.Prelude.{◌≡◌, ◌≤◌, ◌*◌, ◌++◌, ◌∷◌, [], ◌⊎◌, ℕ, Bool, true, List, Ok, Err, length, IfOk, IsOk};
+ghost use Rattle.std.specs.List.{flat_map};
+ghost use Rattle.bitstream_io.specs.Callers.{Takes, Order, High, bits, unsigned_entry, items_entry, unsigned, write_run, OwnAnswer, WritesAll, sure_answer, GrowsOwn, OutOfMemory, seen, same_error};
+ghost use Rattle.bitstream_io.specs.Grows.{GrowingOutcome};
+ghost use Rattle.bitstream_io.specs.SliceMut.{written_bytes};
+
+use bitstream_io::{
+    BE, BitRead, BitReadExt, BitReader, BitWrite, BitWriteExt, BitWriter, Bits, Error,
+    FromBitStreamUsing, SliceMut, ToBitStream,
+};
+use std::alloc::Global;
+use std::marker::Model;
+
+/// The fixed header of an RTP packet, and the sources that contributed to it.
+///
+/// ```text
+///  0                   1                   2                   3
+///  0 1 2 3 4 5 6 7 8 9 0 1 2 3 4 5 6 7 8 9 0 1 2 3 4 5 6 7 8 9 0 1
+/// +-+-+-+-+-+-+-+-+-+-+-+-+-+-+-+-+-+-+-+-+-+-+-+-+-+-+-+-+-+-+-+-+
+/// | =2|p|e|csrc_co|m| payload_type|            sequence           |
+/// +-+-+-+-+-+-+-+-+-+-+-+-+-+-+-+-+-+-+-+-+-+-+-+-+-+-+-+-+-+-+-+-+
+/// |                           timestamp                           |
+/// +-+-+-+-+-+-+-+-+-+-+-+-+-+-+-+-+-+-+-+-+-+-+-+-+-+-+-+-+-+-+-+-+
+/// |                              ssrc                             |
+/// +-+-+-+-+-+-+-+-+-+-+-+-+-+-+-+-+-+-+-+-+-+-+-+-+-+-+-+-+-+-+-+-+
+/// /                    csrc (csrc_count of u32)                   /
+/// +-+-+-+-+-+-+-+-+-+-+-+-+-+-+-+-+-+-+-+-+-+-+-+-+-+-+-+-+-+-+-+-+
+/// ```
+#[derive(Debug, Drop)]
+pub struct RtpHeader {
+    /// Whether padding stands at the end of the packet.
+    pub padding: bool,
+    /// Whether one extension of the header follows.
+    pub extension: bool,
+    /// A mark of the profile's own, as the end of a frame.
+    pub marker: bool,
+    /// What the payload is. Below 2^7.
+    pub payload_type: u8,
+    /// The number of the packet in its stream.
+    pub sequence: u16,
+    /// When the first byte of the payload was sampled.
+    pub timestamp: u32,
+    /// The source that the packet is synchronized to.
+    pub ssrc: u32,
+    /// The sources that a mixer made the payload of. Fewer than 2^4.
+    pub csrc: Vec<u32>,
+}
+
+impl Model for RtpHeader {
+    ghost use Rattle.bitstream_callers.specs.RtpHeaderFields.{RtpHeaderFields};
+
+    ghost Value = { RtpHeaderFields };
+
+    ghost view = { λ value. record {
+      padding = value.padding;
+      extension = value.extension;
+      marker = value.marker;
+      payload_type = value.payload_type;
+      sequence = value.sequence;
+      timestamp = value.timestamp;
+      ssrc = value.ssrc;
+      csrc = value.csrc.items;
+    } };
+}
+
+/// Why a `RtpHeader` is not read.
+#[derive(Debug, Drop)]
+pub enum RtpError {
+    /// An error of the reader.
+    Reader(Error),
+    /// The version is not 2.
+    WrongVersion,
+}
+
+impl From<Error> for RtpError {
+    ghost from_gives = { becomes_rtp_header };
+
+    fn from(error: Error) -> RtpError {
+        RtpError::Reader(error)
+    }
+}
+
+/// Reads so many items of `csrc`. If memory for one is refused, that one is read, and no more.
+fn read_csrc<R: BitRead>(reader: &mut R, alloc: Global, count: u64) -> Result<Vec<u32>, Error>
+    ensures { GrowingOutcome R.source (items_entry (unsigned_entry R.source.order 32 32) count)
+        reader.old (seen (λ found. found.items) result) reader.new }
+{
+    let mut found = Vec::new(alloc);
+    for _ in 0..count {
+        found.push(reader.read::<Bits<32>, u32>()?)?;
+    }
+    Ok(found)
+}
+
+/// Writes the items of `csrc`.
+fn write_csrc<W: BitWrite>(writer: &mut W, items: &[u32]) -> Result<(), Error>
+    ensures { WritesAll W.sink (flat_map (λ x. unsigned W.sink.order 32 32 x ∷ []) items.now)
+        writer.old result writer.new }
+{
+    for item in items {
+        writer.write::<Bits<32>, u32>(*item)?;
+    }
+    Ok(())
+}
+
+impl RtpHeader {
+    /// Reads the fields in order.
+    ///
+    /// # Errors
+    ///
+    /// `WrongVersion`, behind the bits that say so.
+    /// `Reader(OutOfMemory)` if memory for a list is refused, behind the items before.
+    /// Else those of the reader: after each of them it has failed.
+    pub fn read<R: BitRead>(reader: &mut R, alloc: Global) -> Result<RtpHeader, RtpError>
+        ensures { GrowsOwn R.source becomes_rtp_header (rtp_header_entry R.source.order) reader.old result reader.new }
+    {
+        reader.read_const::<Bits<2>, Bits<2>, RtpError>(RtpError::WrongVersion)?;
+        let padding = reader.read_bit()?;
+        let extension = reader.read_bit()?;
+        let csrc_count = reader.read::<Bits<4>, u64>()?;
+        let marker = reader.read_bit()?;
+        let payload_type = reader.read::<Bits<7>, u8>()?;
+        let sequence = reader.read::<Bits<16>, u16>()?;
+        let timestamp = reader.read::<Bits<32>, u32>()?;
+        let ssrc = reader.read::<Bits<32>, u32>()?;
+        let csrc = read_csrc(reader, alloc, csrc_count)?;
+        Ok(RtpHeader {
+            padding,
+            extension,
+            marker,
+            payload_type,
+            sequence,
+            timestamp,
+            ssrc,
+            csrc,
+        })
+    }
+
+    /// Returns what bytes begin with.
+    ///
+    /// # Errors
+    ///
+    /// `WrongVersion`, `Reader(EndOfInput)` if the bytes end before the fields do.
+    /// `Reader(OutOfMemory)` if memory for a list is refused.
+    pub fn parse(packet: &[u8], alloc: Global) -> Result<RtpHeader, RtpError>
+        ensures answer { (OwnAnswer becomes_rtp_header (λ answer. answer)
+            (sure_answer ((rtp_header_entry High).reads 0 (bits High packet.now))) result)
+            ⊎ (result ≡ Err (RtpError.Reader OutOfMemory)) }
+        ensures back { (value : RtpHeader) (more : List Bool) → Fits value
+            → bits High packet.now ≡ write_run (rtp_header_writes High value) 0 ++ more
+            → (result ≡ Ok value)
+            ⊎ (result ≡ Err (RtpError.Reader OutOfMemory)) }
+    {
+        rtp_header_goes_back();
+        RtpHeader::read(&mut BitReader::<_, BE>::over(packet), alloc)
+    }
+
+    /// Writes the fields in order.
+    ///
+    /// # Errors
+    ///
+    /// `Checked` for a field that does not fit its bits. The fields before it are written then.
+    /// Else those of the sink.
+    pub fn write<W: BitWrite>(&self, writer: &mut W) -> Result<(), Error>
+        ensures { WritesAll W.sink (rtp_header_writes W.sink.order self.now) writer.old result writer.new }
+    {
+        writer.write_const::<Bits<2>, Bits<2>>()?;
+        writer.write_bit(self.padding)?;
+        writer.write_bit(self.extension)?;
+        writer.write::<Bits<4>, u64>(self.csrc.len() as u64)?;
+        writer.write_bit(self.marker)?;
+        writer.write::<Bits<7>, u8>(self.payload_type)?;
+        writer.write::<Bits<16>, u16>(self.sequence)?;
+        writer.write::<Bits<32>, u32>(self.timestamp)?;
+        writer.write::<Bits<32>, u32>(self.ssrc)?;
+        write_csrc(writer, &self.csrc)?;
+        Ok(())
+    }
+
+    /// Writes the fields to the first bytes of a buffer, and returns what was written. No write
+    /// fails if each field fits its bits and the buffer has room for their bits. No memory is asked for.
+    ///
+    /// # Errors
+    ///
+    /// `Checked` for a field that does not fit its bits, or `Stream(WriteZero)` if the buffer is too
+    /// short.
+    pub fn pack_into<'a>(&self, buffer: &'a mut [u8]) -> Result<SliceMut<'a>, Error>
+        ensures packed { IfOk result (λ packed. bits High (written_bytes packed) ≡ rtp_header_bits self.now) }
+        ensures room { Fits self.now → rtp_header_size High self.now ≤ 8 * length buffer.old → IsOk result }
+    {
+        let mut writer = BitWriter::<_, BE>::over(buffer);
+        self.write(&mut writer)?;
+        writer.byte_align()?;
+        Ok(writer.into_writer())
+    }
+}
+
+impl FromBitStreamUsing for RtpHeader {
+    type Context = Global;
+
+    type Error = RtpError;
+
+    ghost grows = { true };
+
+    ghost becomes = { becomes_rtp_header };
+
+    ghost reads = { λ o _. rtp_header_entry o };
+
+    fn from_reader<R: BitRead>(reader: &mut R, alloc: Global) -> Result<RtpHeader, RtpError> {
+        RtpHeader::read(reader, alloc)
+    }
+}
+
+impl ToBitStream for RtpHeader {
+    type Error = Error;
+
+    ghost becomes = { same_error };
+
+    ghost writes = { rtp_header_writes };
+
+    fn to_writer<W: BitWrite>(&self, writer: &mut W) -> Result<(), Error> {
+        self.write(writer)
+    }
+}
+
+/// What fits its bits is read back as it was written, in either order of bits, wherever it stands.
+/// The read takes the bits that were written, and no more: as many as `rtp_header_size` says.
+pub fn rtp_header_goes_back()
+    ensures back { (o : Order) (value : RtpHeader) (at from : ℕ) (more : List Bool) → Fits value
+        → let written = write_run (rtp_header_writes o value) at in
+        (rtp_header_entry o).reads from (written ++ more) ≡ Takes (length written) (Ok (Ok value)) }
+    ensures size { (o : Order) (value : RtpHeader) (at : ℕ) → Fits value
+        → length (write_run (rtp_header_writes o value) at) ≡ rtp_header_size o value }
+{}

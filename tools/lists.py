@@ -1,0 +1,336 @@
+"""Lists, whose number of items is read before them: each is a `Vec` of the format's own."""
+from lines import Line, signed_term, starts
+from parts import Part
+from source import Refused, number
+from varying import WHOLE
+
+
+@starts("count")
+class Count(Line):
+    """A line count LIST BITS: how many items the list of that name has."""
+
+    unfolds, leads = ("unsigned", "unsigned_entry"), "list"
+
+    def __init__(self, words, doc):
+        self.list, self.name, self.doc = words[1], f"{words[1]}_count", doc
+        self.bits, self.names_later = number(words[2], 1, 32, "the width of a count"), self.list
+
+    length = property(lambda self: f"length value.{self.list}")
+    entry = property(lambda self: f"unsigned_entry o 64 {self.bits}")
+    word = property(lambda self: f"unsigned o 64 {self.bits} ({self.length})")
+    written = property(lambda self: f"unsigned-written o 64 {self.bits} ({self.length}) refl fits.{self.name}")
+
+    def read(self, error):
+        return f"reader.read::<Bits<{self.bits}>, u64>()"
+
+    def write(self):
+        return f"writer.write::<Bits<{self.bits}>, u64>(self.{self.list}.len() as u64)"
+
+    def fits(self):
+        return [(self.name, f"{self.length} < 2 ^ {self.bits}")]
+
+    def back(self, behind):
+        return f"unsigned-back o {self.bits} _ _ 64 ({self.length}) _ refl fits.{self.name} ({behind})"
+
+
+class Listed(Line):
+    """A line list NAME ..: as many items as were counted before."""
+
+    many = grows = True
+    reads = "c.in_{}-read.ensures.reads"  # the clause of the read of an item
+    writes = "c.in_{}-write.ensures.writes"  # and of its write
+    each = ""  # what is said of each item
+
+    def check(self, before):
+        counts = [it for it in before if isinstance(it, Count) and it.list == self.name]
+        if not counts:
+            raise Refused(f"no `count {self.name} BITS` before it")
+        self.bits_of_count = counts[0].bits
+
+    more = property(lambda self: f"Fewer than 2^{self.bits_of_count}{self.each}.")
+    view = property(lambda self: f"value.{self.name}.items")
+    count = property(lambda self: f"length {self.value}")
+    entry = property(lambda self: f"items_entry ({self.item_entry}) {self.name}_count")
+    word = property(lambda self: f"flat_map ({self.item_writes}) {self.value}")
+
+    def said(self):
+        return f"{self.name}_count of {self.item}"
+
+    def read(self, error):
+        return f"read_{self.name}(reader, alloc, {self.name}_count)"
+
+    def write(self):
+        return f"write_{self.name}(writer, &self.{self.name})"
+
+    def placed(self, text, order):
+        """Gives a term of specs for an order that is no variable `o`."""
+        return " ".join(order if it == "o" else it for it in text.split(" "))
+
+    def declares(self, module):
+        entry = self.placed(self.item_entry, "R.source.order")
+        writes = self.placed(self.item_writes, "W.sink.order")
+        return [
+            f"/// Reads so many items of `{self.name}`. If memory for one is refused, that one is read, and no more.",
+            f"fn read_{self.name}<R: BitRead>(reader: &mut R, alloc: Global, count: u64) -> Result<{self.type}, Error>",
+            f"    ensures {{ GrowingOutcome R.source (items_entry ({entry}) count)",
+            "        reader.old (seen (λ found. found.items) result) reader.new }",
+            "{",
+            "    let mut found = Vec::new(alloc);",
+            "    for _ in 0..count {",
+            f"        found.push({self.read_item()}?)?;",
+            "    }",
+            "    Ok(found)",
+            "}",
+            "",
+            f"/// Writes the items of `{self.name}`.",
+            f"fn write_{self.name}<W: BitWrite>(writer: &mut W, items: &[{self.item}]) -> Result<(), Error>",
+            f"    ensures {{ WritesAll W.sink (flat_map ({writes}) items.now)",
+            "        writer.old result writer.new }",
+            "{",
+            "    for item in items {",
+            f"        {self.write_item()}?;",
+            "    }",
+            "    Ok(())",
+            "}",
+            "",
+        ]
+
+    def invariants(self, module):
+        """Gives the loops' invariants, by the function."""
+        read, write = f"read_{self.name}", f"write_{self.name}"
+        return {
+            read: [
+                f"use {module.goals}.{read}.Given as goal",
+                "-- the items so far were read",
+                "abbrev pub invariant-loop : goal.invariant-loop",
+                "invariant-loop g l =",
+                "    let K = g.R.BitRead.source in",
+                f"    ItemsRead K ({self.placed(self.item_entry, 'K.order')}) l.counter l.initial.reader l.found.items"
+                " l.reader",
+            ],
+            write: [
+                f"use {module.goals}.{write}.Given as goal",
+                "-- the items so far were written",
+                "abbrev pub invariant-loop-item : goal.invariant-loop-item",
+                "invariant-loop-item g l =",
+                "    let K = g.W.BitWrite.sink in",
+                f"    ItemsWritten K ({self.placed(self.item_writes, 'K.order')}) l.items l.item-index"
+                " l.initial.writer l.writer",
+            ],
+        }
+
+    def pushed(self):
+        """Gives what is known of the list with one item more."""
+        return "c.in_ok-push.ensures.items"
+
+    def wrote(self, arm):
+        """Gives what is known of the write of an item."""
+        return self.writes.format(arm)
+
+    def answers(self, module):
+        return {f"read_{self.name}": self.read_answers(module), f"write_{self.name}": self.write_answers(module)}
+
+    def read_answers(self, module):
+        pushed = "items-push _ _ {} c.loop.invariant " + self.reads.format("ok")
+        residual = "c.from_residual-in_err-push"
+        return [
+            f"use {module.goals}.read_{self.name}.Goals as goal",
+            "",
+            "pub loop-init : goal.loop-init",
+            "loop-init g c = items-begin _ c.new-found.ensures.items",
+            "",
+            "pub returns-in_err-read : goal.returns-in_err-read",
+            "returns-in_err-read g c =",
+            "    grown (items-stop _ _ _ _ c.from_residual.result c.loop-test.true c.loop.invariant"
+            f" {self.reads.format('err')} c.from_residual.ensures.1)",
+            "",
+            "pub returns-in_err-push : goal.returns-in_err-push",
+            "returns-in_err-push g c =",
+            f"    rw (seen_err _ {residual}.result {residual}.ensures.1)",
+            "    (items-refused _ (c.loop.counter + 1) c.args.count (omega (arith, c.loop-test.true))",
+            f"    ({pushed.format('refl')}))",
+            "",
+            "pub loop-preserved : goal.loop-preserved",
+            f"loop-preserved g c = {pushed.format(self.pushed())}",
+            "",
+            "pub returns : goal.returns",
+            "returns g c =",
+            "    let all : c.loop.counter ≡ c.args.count = omega (arith, c.loop-test.false, c.loop.auto.counter-end) in",
+            "    grown (rw (← all) c.loop.invariant)",
+        ]
+
+    def write_answers(self, module):
+        sink = "g.W.BitWrite.sink"
+        calls = f"({self.placed(self.item_writes, 'K.order')})"
+        lines = [f"use {module.goals}.write_{self.name}.Goals as goal", ""]
+        lines += ["pub loop-item-init : goal.loop-item-init", f"loop-item-init g c = let K = {sink} in"]
+        lines += [f"    written-begin K {calls} c.args.items.now _", ""]
+        lines += ["pub returns-in_err-write : goal.returns-in_err-write", "returns-in_err-write g c ="]
+        lines += [f"    let K = {sink} in", f"    written-stop K {calls} c.args.items.now _ _ _ _ _ _ _ _"]
+        lines += [f"    c.loop-item-test.true refl c.loop-item.invariant {self.wrote('err')} c.from_residual.ensures.1"]
+        lines += ["", "pub loop-item-preserved : goal.loop-item-preserved", "loop-item-preserved g c ="]
+        lines += [f"    let K = {sink} in", f"    written-more K {calls} c.args.items.now _ _ _ _ _ _"]
+        return lines + [f"    c.loop-item-test.true refl c.loop-item.invariant {self.wrote('ok')}"]
+
+
+class Numbers(Listed):
+    """A line list NAME TYPE BITS: unsigned numbers."""
+
+    kind, unfolds = "List ℕ", ("unsigned", "unsigned_entry", "items_entry")
+
+    def __init__(self, words, doc):
+        self.name, self.item, self.doc, self.long = words[1], words[2], doc, 4
+        self.type = f"Vec<{self.item}>"
+        self.width = int(self.item[1:])
+        self.wide = number(words[3], 1, self.width, f"the width of a {self.item}")
+
+    each = property(lambda self: f", each below 2^{self.wide}" if self.wide < self.width else "")
+    size = property(lambda self: f"{self.count} * {self.wide}")
+    item_entry = property(lambda self: f"unsigned_entry o {self.width} {self.wide}")
+    item_writes = property(lambda self: f"λ x. unsigned o {self.width} {self.wide} x ∷ []")
+    shape = property(lambda self: f"o {self.width} {self.wide} ({self.count}) {self.value}")
+    written = property(lambda self: f"packs-items {self.shape} refl refl fits.{self.name}")
+
+    def read_item(self):
+        return f"reader.read::<Bits<{self.wide}>, {self.item}>()"
+
+    def write_item(self):
+        return f"writer.write::<Bits<{self.wide}>, {self.item}>(*item)"
+
+    def fits(self):
+        return [(self.name, f"All (λ x. x < 2 ^ {self.wide}) {self.value}")]
+
+    def back(self, behind):
+        return f"items-back _ _ {self.shape} _ refl refl fits.{self.name} ({behind})"
+
+    def term(self, said):
+        return "".join(f"{int(it, 0)} ∷ " for it in said.strip("[]").split()) + "[]"
+
+
+class SignedNumbers(Numbers):
+    """The same of signed numbers."""
+
+    kind, unfolds = "List ℤ", ("signed", "signed_entry", "items_entry")
+
+    @property
+    def each(self):
+        most = 2 ** (self.wide - 1)
+        return f", each from {-most} to {most - 1}" if self.wide < self.width else ""
+
+    def pushed(self):
+        value = f"to_z-of_z w{self.width} c.in_ok-read.field-0 (search (sfits_of, c.in_ok-read))"
+        return f"(rw ({value}) at {super().pushed()})"
+
+    def wrote(self, arm):
+        return f"(signed_value _ _ _ _ w{self.width} _ _ _ _ {super().wrote(arm)} (search sfits_of))"
+
+    item_entry = property(lambda self: f"signed_entry o {self.width} {self.wide}")
+    item_writes = property(lambda self: f"λ x. signed o {self.width} {self.wide} x ∷ []")
+    written = property(lambda self: f"packs-signed_items {self.shape} refl refl refl fits.{self.name}")
+
+    def fits(self):
+        return [(self.name, f"All (FitsSignedBits {self.wide}) {self.value}")]
+
+    def back(self, behind):
+        return f"signed_items-back _ _ {self.shape} _ refl refl refl fits.{self.name} ({behind})"
+
+    def term(self, said):
+        return "".join(f"{signed_term(int(it, 0))} ∷ " for it in said.strip("[]").split()) + "[]"
+
+
+class Bytes(Listed):
+    """A line list NAME bytes."""
+
+    kind, type, item, unfolds, long = "List ℕ", "Vec<u8>", "u8", ("bytes_entry", "bytes_of"), 3
+    many = False
+
+    def __init__(self, words, doc):
+        self.name, self.doc = words[1], doc
+
+    size = property(lambda self: f"8 * {self.count}")
+    entry = property(lambda self: f"bytes_entry o {self.name}_count")
+    word = property(lambda self: f"buffer o {self.value}")
+    written = property(lambda self: f"bytes-written o ({self.count}) {self.value} refl")
+
+    def said(self):
+        return f"{self.name}_count bytes"
+
+    def read(self, error):
+        return f"reader.read_to_vec(alloc, {self.name}_count as usize)"
+
+    def write(self):
+        return f"writer.write_bytes(&self.{self.name})"
+
+    def fits(self):
+        return [(self.name, f"All (λ b. b < 256) {self.value}")]
+
+    def back(self, behind):
+        return f"bytes-back _ _ o ({self.count}) {self.value} _ refl fits.{self.name} ({behind})"
+
+    def term(self, said):
+        return "".join(f"{it} ∷ " for it in bytes.fromhex(said.strip("[]"))) + "[]"
+
+    def declares(self, module):
+        return []
+
+    def invariants(self, module):
+        return {}
+
+    def answers(self, module):
+        return {}
+
+
+class Parts(Listed, Part):
+    """A line list NAME TYPE of MODULE: parts that have a description of their own."""
+
+    reads, writes, counts, long = "c.in_{}-read.ensures", "c.in_{}-write.ensures", False, 5
+    own_errors = False
+
+    def __init__(self, words, doc):
+        Part.__init__(self, words[1:], doc)
+        self.item, self.type, self.kind = self.part, f"Vec<{self.part}>", f"List {self.part}"
+
+    size = property(lambda self: f"parts_size ({self.module}_size o) {self.value}")
+    item_entry = property(lambda self: f"{self.module}_entry o")
+    item_writes = property(lambda self: f"{self.module}_writes o")
+
+    def each_is(self, says, term):
+        """Gives the term that each item is something, of one that it is if it fits its bits."""
+        return f"(All-weaker {self.part}Fits (λ x. {says}) ({term}) {self.value} fits.{self.name})"
+
+    @property
+    def written(self):
+        packs = self.each_is(f"Packs ({self.module}_writes o x) ({self.module}_size o x)", f"{self.module}_packs o")
+        return f"packs-parts ({self.module}_writes o) ({self.module}_size o) {self.value} {packs}"
+
+    def read_item(self):
+        return f"{self.part}::read(reader)"
+
+    def write_item(self):
+        return "item.write(writer)"
+
+    def fits(self):
+        return [(self.name, f"All {self.part}Fits {self.value}")]
+
+    def back(self, behind):
+        read = f"IsReadAs ({self.module}_writes o x) ({self.module}_entry o) x"
+        all_back = self.each_is(read, f"λ x is. ({self.module}_goes o x is).back")
+        shape = f"({self.module}_entry o) ({self.module}_writes o) ({self.count}) {self.value}"
+        return f"each-back _ _ {shape} _ refl {all_back} ({behind})"
+
+    def term(self, said):
+        if said != "[]":
+            raise Refused("of a list of parts an example says []")
+        return said
+
+
+@starts("list")
+def listed(words, doc):
+    """A line list NAME TYPE BITS, list NAME bytes, or list NAME TYPE of MODULE."""
+    if words[3:4] == ["of"]:
+        return Parts(words, doc)
+    if words[2] == "bytes":
+        return Bytes(words, doc)
+    if words[2] not in WHOLE:
+        raise Refused(f"`{words[2]}` in a list: take u8 to u128, i8 to i128, bytes, or a part")
+    return (Numbers if words[2][0] == "u" else SignedNumbers)(words, doc)
