@@ -113,8 +113,8 @@ STOP = {
 # Of a last one, whose answer the function returns.
 LAST = {
     "Reads": {"read": "FACT"},
-    "ReadsOwn": {},
-    "GrowsOwn": {},
+    "ReadsOwn": {"part": "FACT"},
+    "GrowsOwn": {"growing part": "FACT"},
     "WritesAll": {
         "call": "all_one 5 FACT",
         "value": "FACT",
@@ -171,6 +171,7 @@ class Body:
 
     def __init__(self, function, kind, stream, functions, structs, modeled):
         self.function, self.kind, self.stream = function, kind, stream
+        self.modeled = modeled
         self.fields = "c.self.inside" if modeled else "c.args.self.now"  # of `self`, as a proof has them
         self.functions, self.structs = functions, structs
         self.tokens, self.at = function.body, 0
@@ -359,7 +360,10 @@ class Body:
                 self.pure.append(f"c.{step}.ensures")
             return f"{last}.{word}"
         owner = self.function.owner if last == "self" else ""
-        return self.own(word, owner, name, line)
+        found = self.own(word, owner, name, line)
+        if owner and self.modeled:
+            self.rewrites[found] = [*self.rewrites[found], "(← c.self.view_is)"]
+        return found
 
     def of_library(self, word, said, name, wanted, line):
         form = (WRITES if self.kind == "WritesAll" else READS).get(word)
@@ -550,6 +554,7 @@ class Answers:
         self.kind, self.field, self.around, self.args = kind, field, around, "g c" if generic else "c"
         self.used, self.rewrites = set(), {}
         self.opened = 0  # the first call at which `around` stands around the terms
+        self.signed = {}  # the signed numbers that a reading function is handed, and their widths
 
     def term(self, said, **meant):
         """Gives a term that is said in the words of the tables."""
@@ -577,6 +582,8 @@ class Answers:
         for known in self.rewrites.get(id(call), []):
             fact = f"(rw {known} at {fact})"
             self.used |= {"◌∙◌"} if "∙" in known else set()
+        if table is LAST and self.signed:
+            fact = f"(rw ({self.known_signed()}) at {fact})"
         fact = self.term(PLAINLY[self.kind], FACT=fact) if part else fact
         wide = wide or call.wide
         if "WIDE" in table[self.kind][form]:
@@ -618,8 +625,16 @@ class Answers:
                 terms = front + [self.of_call(call, STOP, arm, residual)]
                 found.append(self.answer(f"returns-{arm}", terms, k >= self.opened))
             front = front + [self.of_call(call, NEXT, f"in_ok-{call.label}" if call.way else call.step)]
+        if not last and self.signed:
+            front = front + [f"rw ({self.known_signed()})"]
         end = self.of_call(last, LAST, last.step) if last else self.term(END[self.kind])
         return found + [self.answer("returns", front + [end])]
+
+    def known_signed(self):
+        """Gives that the signed numbers which a reading function was handed are what their bits say."""
+        for it, wide in self.signed.items():
+            self.used |= {"to_z-of_z", "sfits_of", wide}
+        return ", ".join(f"to_z-of_z {wide} c.args.{it} (search sfits_of)" for it, wide in self.signed.items())
 
     def uses(self, goals):
         """Gives the imports."""
@@ -666,6 +681,9 @@ def answers_of(folder, file, wanted):
         calls = [it._replace(form="alone") if (kind, it.form) == ("Reads", "const") else it for it in calls]
     answers.rewrites = {id(it): body.rewrites.get(k, []) for k, it in enumerate(calls)}
     answers.opened = (body.opened or 0) if modeled else 0
+    if kind != "WritesAll":
+        params = {it: "".join(typed) for it, typed in function.params.items()}
+        answers.signed = {it: f"w{typed[1:]}" for it, typed in params.items() if SIGNED.match(typed)}
     parts = answers.all(calls)
     module = re.sub(r"^src/|\.rt$", "", os.path.normpath(file)).split("/")
     module = [] if module == ["lib"] else module

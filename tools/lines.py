@@ -49,6 +49,7 @@ class Line:
     copies = ""  # the module of `bitstream_callers` that the crate needs a copy of
     unfolds = ()  # what a worked row computes through
     long = 3  # how many words such a line has at most
+    held = ""  # the type of its value in code, if it is no field
     leads, names_later = "", ""  # the word of the line that must follow, and what that describes
     find = None  # gives what the description of a module says
     # of the proofs: `entry` is the read, `word` the write, `written` that it is accepted and how long it is

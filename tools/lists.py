@@ -9,7 +9,7 @@ from varying import WHOLE
 class Count(Line):
     """A line count LIST BITS: how many items the list of that name has."""
 
-    unfolds, leads = ("unsigned", "unsigned_entry"), "list"
+    unfolds, leads, held = ("unsigned", "unsigned_entry"), "list", "u64"
 
     def __init__(self, words, doc):
         self.list, self.name, self.doc = words[1], f"{words[1]}_count", doc

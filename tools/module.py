@@ -5,6 +5,11 @@ from writes_proofs import Proofs
 from writes_specs import Specs
 
 
+# Of more lines than this the reads and writes stand in functions of so many each: a proof that goes through a function
+# takes about the cube of the time for twice the calls.
+LONG, EACH = 16, 8
+
+
 class Module(Code, Specs, Proofs):
     def __init__(self, crate, module, said, lines):
         self.crate, self.m, self.lines, self.total = crate, module, lines, said["total"]
@@ -44,7 +49,28 @@ class Module(Code, Specs, Proofs):
     def functions(self):
         """Gives the functions whose answers the other script prints."""
         own = [name for it in self.lines for name in it.functions()]
-        return list(dict.fromkeys([f"{self.type}::read", f"{self.type}::write", *own]))
+        later = [f"{self.type}::{what}_{k + 1}" for what in ("read", "write") for k in range(1, len(self.pieces()))]
+        return list(dict.fromkeys([f"{self.type}::read", f"{self.type}::write", *later, *own]))
+
+    def pieces(self):
+        """Gives the lines that each function reads and writes."""
+        each = EACH if len(self.lines) > LONG else len(self.lines)
+        return [self.lines[k : k + each] for k in range(0, len(self.lines), each)]
+
+    def entry_parts(self):
+        """Gives the lines of each definition of the reads: one ends behind what may be refused, or with a piece."""
+        parts, ends = [[]], [it[-1] for it in self.pieces()[:-1]]
+        for it in self.lines:
+            parts[-1].append(it)
+            if it.error or it in ends:
+                parts.append([])
+        return parts
+
+    def entry_at(self, line):
+        """Gives the definition of the reads that begins with a line, and the lines before it whose values it takes."""
+        k = next(k for k, part in enumerate(self.entry_parts()) if part[:1] == [line])
+        seen = [it for it in self.lines[: self.lines.index(line)] if it.name]
+        return (f"{self.m}_entry_{k}" if k else f"{self.m}_entry"), seen
 
     def copies(self):
         """Gives the modules that the crate needs a copy of."""
@@ -82,7 +108,8 @@ class Module(Code, Specs, Proofs):
         """Gives where the definitions of this module, and of its parts, come from."""
         m = self.m
         names = [f"{m}_{it}" for it in ("entry", "writes", "size", "bits", "at")] + ["Fits", f"becomes_{m}", "bits_at"]
-        names += [f"{m}_entry_{k}" for k in range(1, len(self.tests) + 1)] + [f"const_at_{it.at}" for it in self.tests]
+        names += [f"{m}_entry_{k}" for k in range(1, len(self.entry_parts()))] + [f"const_at_{it.at}" for it in self.tests]
+        names += [f"{m}_writes_{k + 1}" for k in range(1, len(self.pieces()))]
         lines = merged(*[it.names(self) for it in self.lines])
         return merged({self.specs_path: " ".join(names)}, {it: lines[it] for it in lines if ".declared." not in it})
 

@@ -252,6 +252,7 @@ class Flag(Line):
     """A line flag NAME: a bit that says whether the optional part of that name is there."""
 
     bits, kind, entry, long, leads = 1, "Bool", "bit_entry", 2, "option"
+    held = "bool"
 
     def __init__(self, words, doc):
         self.part, self.name, self.doc = words[1], f"has_{words[1]}", doc

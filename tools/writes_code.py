@@ -29,6 +29,11 @@ def clause(name, facts, says):
     return lines
 
 
+def first_of(piece):
+    """Gives the name of the first field of some lines."""
+    return next((it.name for it in piece if it.type), piece[0].label())
+
+
 class Code:
     def code(self):
         """Gives the text of the module."""
@@ -138,12 +143,35 @@ class Code:
             f"    /// {'Else those' if self.own else 'Those'} of the reader: after each of them it has failed.",
             f"    pub fn read<R: BitRead>(reader: &mut R{self.memory()}) -> Result<{self.type}, {self.e}>",
             f"        ensures {{ {reads} ({self.m}_entry R.source.order) reader.old result reader.new }}",
-            "    {",
-            *[f"        {it.let(self.e)}" for it in self.lines],
-            f"        Ok({self.type} {{ {', '.join(it.name for it in self.fields)} }})",
-            "    }",
-            "",
+            *self.read_body(0),
+            *self.later_reads(reads),
         ]
+
+    def read_body(self, k):
+        """Gives the body that reads the lines of a piece, and calls the function of the next one."""
+        pieces = self.pieces()
+        end = f"Ok({self.type} {{ {', '.join(it.name for it in self.fields)} }})"
+        if k + 1 < len(pieces):
+            seen = ["reader", *["alloc"] * self.grows, *(it.name for it in self.entry_at(pieces[k + 1][0])[1])]
+            end = f"{self.type}::read_{k + 2}({', '.join(seen)})"
+        return ["    {", *[f"        {it.let(self.e)}" for it in pieces[k]], f"        {end}", "    }", ""]
+
+    def later_reads(self, reads):
+        """Gives the functions that read the other pieces, of the values that were read before."""
+        out = []
+        for k, piece in list(enumerate(self.pieces()))[1:]:
+            entry, seen = self.entry_at(piece[0])
+            given = "".join(f", {it.name}: {it.held or it.type}" for it in seen)
+            values = "".join(f" {it.name}{'.items' * it.grows}" for it in seen)
+            out += [
+                f"    /// Reads the fields from `{first_of(piece)}` on.",
+                f"    fn read_{k + 1}<R: BitRead>(reader: &mut R{self.memory()}{given}) -> Result<{self.type}, {self.e}>",
+                f"        ensures {{ {reads}",
+                f"            ({entry} R.source.order{values})",
+                "            reader.old result reader.new }",
+                *self.read_body(k),
+            ]
+        return out
 
     def parse_code(self):
         m, t, o = self.m, self.type, self.o
@@ -214,12 +242,27 @@ class Code:
             "    /// Else those of the sink.",
             "    pub fn write<W: BitWrite>(&self, writer: &mut W) -> Result<(), Error>",
             f"        ensures {{ WritesAll W.sink ({writes}) writer.old result writer.new }}",
-            "    {",
-            *[f"        {it.write()}?;" for it in self.lines],
-            "        Ok(())",
-            "    }",
-            "",
+            *self.write_body(0),
+            *self.later_writes(),
         ]
+
+    def write_body(self, k):
+        """Gives the body that writes the lines of a piece, and calls the function of the next one."""
+        pieces = self.pieces()
+        end = f"self.write_{k + 2}(writer)" if k + 1 < len(pieces) else "Ok(())"
+        return ["    {", *[f"        {it.write()}?;" for it in pieces[k]], f"        {end}", "    }", ""]
+
+    def later_writes(self):
+        out = []
+        for k, piece in list(enumerate(self.pieces()))[1:]:
+            out += [
+                f"    /// Writes the fields from `{first_of(piece)}` on.",
+                f"    fn write_{k + 1}<W: BitWrite>(&self, writer: &mut W) -> Result<(), Error>",
+                f"        ensures {{ WritesAll W.sink ({self.m}_writes_{k + 1} W.sink.order self.now)",
+                "            writer.old result writer.new }",
+                *self.write_body(k),
+            ]
+        return out
 
     def pack_code(self):
         m, o = self.m, self.o

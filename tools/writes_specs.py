@@ -36,17 +36,20 @@ class Specs:
 
     def entries(self):
         """Gives the reads, a definition for each part that ends in what may be refused, the last one first."""
-        parts, seen, out = [[]], [], []
-        for it in self.lines:
-            parts[-1].append(it)
-            if it.error:
-                parts.append([])
+        parts, seen, out, refused = self.entry_parts(), [], [], 0
         for k, part in enumerate(parts):
             args, kinds = "".join(f" {it.name}" for it in seen), "".join(f" {it.kind} →" for it in seen)
             seen = seen + [it for it in part if it.name]
             behind = f"{self.m}_entry_{k + 1} o" + "".join(f" {it.name}" for it in seen)
-            name, more = (f"{self.m}_entry_{k}", f", behind {k} that may be refused") if k else (f"{self.m}_entry", "")
-            block = [it.binds(behind) for it in part] + ([self.gives()] if k == len(parts) - 1 else [])
+            name, more = (f"{self.m}_entry_{k}" if k else f"{self.m}_entry"), ""
+            if k:
+                more = f", behind {refused} that may be refused" if parts[k - 1][-1].error else ", the next of them"
+            block = [it.binds(behind) for it in part]
+            if k == len(parts) - 1:
+                block.append(self.gives())
+            elif not part[-1].error:
+                block.append(f"  {behind}")
+            refused += bool(part and part[-1].error)
             says = f"{name} o{args} = do"
             if len(block) == 1 and block[0].startswith(("  chain", "  gives")):
                 says, block = f"{name} o{args} ={block[0][1:]}", []
@@ -59,20 +62,22 @@ class Specs:
         return f"  gives (Ok ({record}))" if self.own else f"  gives ({record})"
 
     def writes(self):
+        out, pieces = [], self.pieces()
+        for k, piece in enumerate(pieces):
+            behind = f"{self.m}_writes_{k + 2} o value" if k + 1 < len(pieces) else "[]"
+            name, more = (f"{self.m}_writes_{k + 1}", ", the next of them") if k else (f"{self.m}_writes", "")
+            head = [f"-- the writes, in order{more}", f"abbrev pub {name} : Order → {self.type} → List WriteEntry"]
+            out = [*head, f"{name} o value =", *self.written_list(piece, behind), "", *out]
+        return out
+
+    def written_list(self, lines, behind):
+        """Gives the writes of some lines, and of what follows them."""
         # `++` goes to the left: what stands behind one that others follow is in brackets
-        manys = [k for k, it in enumerate(self.lines) if it.many]
-        opened, out, join = manys[:-1], [], ""
-        for k, it in enumerate(self.lines):
+        opened, out, join = [k for k, it in enumerate(lines) if it.many][:-1], [], ""
+        for k, it in enumerate(lines):
             out.append(f"    {join}{it.word}")
             join = f"++ {'(' * (k in opened)}" if it.many else "∷ "
-        return [
-            "-- the writes, in order",
-            f"abbrev pub {self.m}_writes : Order → {self.type} → List WriteEntry",
-            f"{self.m}_writes o value =",
-            *out,
-            f"    {join}[]{')' * len(opened)}",
-            "",
-        ]
+        return [*out, f"    {join}{behind}{')' * len(opened)}"]
 
     def fields_specs(self):
         """Gives the text of the file that says what contracts see of a format with lists."""
