@@ -1,6 +1,6 @@
 -- What the lemmas of reads and those of writes both use.
 use Rattle.std.specs.Result.{IsErrAnd}
-use Rattle.std.proofs.Common.{◌≡◌, ℕ, ◌+◌, Bool, List, [], ◌∷◌, ◌++◌, replicate, Result, Ok, Err, sym, ap}
+use Rattle.std.proofs.Common.{◌≡◌, ℕ, ◌+◌, Bool, [], ◌∷◌, ◌++◌, replicate, Result, Ok, Err, sym, ap}
 use Rattle.std.proofs.lemmas.List.{replicate-append-replicate}
 use Rattle.bitstream_count.specs.declared.error.Error.{Error}
 

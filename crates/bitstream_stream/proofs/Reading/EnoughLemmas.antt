@@ -68,11 +68,12 @@ left_behind : {A : Type 0} (o : Order) (e : ReadEntry A) (a : A) (s t : ReaderSt
     → (t.failed ≡ false) × (bits_left o t ≡ Some (drop (length h.word) left))
 left_behind o e a s t left (Ok b) is h known =
     let all = told s.queue o s.bytes left known in
-    let rest = Took-left o h.word s t (took o e b s t h) all.0 all.1 in
-    (h.failed,
-    ap (option_map (λ xs. t.queue ++ bits o xs)) rest.1
-    ∙ ap Some (sym (ap (drop (length h.word)) (sym all.2 ∙ rest.2)
-    ∙ drop-append_seam h.word (t.queue ++ bits o rest.0))))
+    let rest = Took-left o h.word s t (took o e b s t h) all.0 all.1 in (
+      h.failed,
+      ap (option_map (λ xs. t.queue ++ bits o xs)) rest.1
+          ∙ ap Some (sym (ap (drop (length h.word)) (sym all.2 ∙ rest.2)
+          ∙ drop-append_seam h.word (t.queue ++ bits o rest.0))),
+    )
 left_behind o e a s t left (Err x) is h known = cc
 
 pub Reads-enough : {R A : Type 0} {K : BitSource R} {e : ReadEntry A} {r : Result A Error} {s t : R} (n : ℕ)

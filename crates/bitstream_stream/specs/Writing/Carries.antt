@@ -1,5 +1,5 @@
 -- What a writer has sent, and the bits queued behind it.
-use Rattle.std.specs.Prelude.{◌≡◌, ℕ, ◌+◌, ◌*◌, ◌<◌, Bool, true, Option, List, [], ◌++◌, length}
+use Rattle.std.specs.Prelude.{◌≡◌, ℕ, ◌+◌, ◌<◌, Bool, true, Option, List, ◌++◌, length}
 use Rattle.std.specs.Io.KnownBytes.{Appends}
 use Rattle.bitstream_number.specs.Word.{Order, word, bits}
 use Rattle.bitstream_order.specs.Port.{PortState}
