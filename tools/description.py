@@ -1,7 +1,8 @@
 """Reads a description: its lines, and what does not go together."""
+import examples
 import lists  # noqa: F401
 from enums import snake
-from lines import KINDS, WORDS
+from lines import FORMS, KINDS, WORDS
 from names import TAKEN
 from parts import Part
 from source import Refused
@@ -15,6 +16,8 @@ RESERVED = set(
     reader writer fits result packet""".split()
 )
 ORDERS = {"BE": "High", "LE": "Low"}
+# What is said of the whole, and how.
+HEADS = {"struct": "`struct NAME: DOC`", "order": "`order BE` or `order LE`", "error": "`error NAME`"}
 
 
 def kind_of(words, doc):
@@ -23,6 +26,8 @@ def kind_of(words, doc):
         return WORDS[words[0]](words, doc)
     if words[2:3] == ["of"]:
         return Part(words, doc)
+    if len(words) < 2:
+        raise Refused(f"`{words[0]}` is no kind of a line, and names no type behind it")
     if words[1] not in KINDS:
         raise Refused(f"`{words[1]}` is no kind of a field")
     return KINDS[words[1]](words[0], words[1:], doc)
@@ -37,21 +42,29 @@ def line_of(words, doc, count):
     return found
 
 
+def form_of(words):
+    """Gives how a line is spelled that begins so."""
+    if words[2:3] == ["of"]:
+        return "`NAME TYPE of MODULE`"
+    first = words[0] in WORDS and "".join(words[1:2]) not in KINDS
+    return HEADS.get(words[0]) or FORMS[words[0] if first else words[1]]
+
+
 def take(said, lines, words, doc, count):
     """Takes a line of a description."""
-    if words[0] == "struct":
-        said["name"], said["doc"] = words[1], doc.strip() or f"A {words[1]}."
-    elif words[0] in ("order", "error") and len(words) == 2:
-        said[words[0]] = words[1]
+    if words[0] in HEADS and len(words) < 3:
+        said[words[0]], said["at"][words[0]] = words[1], count
+        if words[0] == "struct":
+            said["name"], said["doc"] = words[1], doc.strip() or f"A {words[1]}."
     elif words[0] == "example":
-        said["examples"].append((words[1:], doc))
+        said["examples"].append((count, " ".join(words[1:]), doc.strip()))
     else:
         lines.append(line_of(words, doc.strip(), count))
 
 
 def described(text, path, find):
     """Gives what a description says of the whole, and its lines; `find` gives what that of a part's module says."""
-    said, lines = {"order": "BE", "error": "", "examples": [], "from": path}, []
+    said, lines = {"order": "BE", "error": "", "examples": [], "from": path, "at": {}}, []
     for count, line in enumerate(text.split("\n"), 1):
         head, _, doc = line.strip().partition(":")
         words = head.split()
@@ -61,11 +74,30 @@ def described(text, path, find):
             take(said, lines, words, doc, count)
         except Refused as it:
             raise Refused(f"line {count}: {it}") from None
-        except (IndexError, ValueError, KeyError, StopIteration):
-            raise Refused(f"line {count}: not understood: {line.strip()}") from None
+        except IndexError:
+            raise Refused(f"line {count}: `{line.strip()}` ends too early: it is {form_of(words)}") from None
+        except (ValueError, StopIteration):
+            raise Refused(f"line {count}: `{line.strip()}` is not understood: it is {form_of(words)}") from None
     place(said, lines, find)
     check(said, lines)
+    said["examples"] = [example(said, lines, *it) for it in said["examples"]]
     return said, lines
+
+
+def example(said, lines, count, digits, answer):
+    """Gives the bytes of an example, and the values of its fields or the error that it names."""
+    try:
+        if "=" in answer:
+            answer = examples.fields(lines, answer)
+        elif any(it.error == answer and it.theirs for it in lines):
+            raise Refused(f"`{answer}` holds an error of the part: give the example in its description")
+        elif answer not in ["EndOfInput", *[it.error for it in lines if it.error]]:
+            raise Refused(f"an example answers `{answer}`, which is no case of the error")
+        data = examples.bytes_of(digits)
+        examples.check(lines, said["order"], data, answer)
+    except Refused as it:
+        raise Refused(f"line {count}: {it}") from None
+    return data, answer
 
 
 def place(said, lines, find):
@@ -73,7 +105,7 @@ def place(said, lines, find):
     if "name" not in said:
         raise Refused("no line `struct NAME`")
     if said["order"] not in ORDERS:
-        raise Refused("the order is BE or LE")
+        refuse(said["at"]["order"], "the order is BE or LE")
     at = 0
     for index, it in enumerate(lines):
         it.at, it.index, it.order, it.find = at, index, ORDERS[said["order"]], find
@@ -89,26 +121,32 @@ def place(said, lines, find):
     said["total"], said["lines"] = at, lines
 
 
+def refuse(count, why):
+    raise Refused(f"line {count}: {why}")
+
+
 def check(said, lines):
     """Refuses what does not go together."""
-    names = [it.name for it in lines if it.name]
-    for it in lines:
+    names, at = [it.name for it in lines if it.name], said["at"]
+    for k, it in enumerate(lines):
         if it.names_later and it.names_later not in names:
-            raise Refused(f"line {it.line}: no `{it.leads} {it.names_later}` behind it")
-    if RESERVED & set(names):
-        raise Refused(f"`{min(RESERVED & set(names))}` is a word of the proofs: take another name")
-    if len(set(names)) < len(names):
-        raise Refused("two fields have one name")
-    cases = {said["name"], said["error"], *[it.error for it in lines]}
-    cases |= {case for it in lines if hasattr(it, "case_names") for case in it.case_names()}
-    if TAKEN & cases:
-        raise Refused(f"`{min(TAKEN & cases)}` is a name of the specs: take another one")
-    if {"there", "short", "answer", "back"} & {it.clause for it in lines}:
-        raise Refused("`There`, `Short`, `Answer` and `Back` are names of the contract: take other ones")
-    if any(it.error for it in lines) != bool(said["error"]):
-        raise Refused("what refuses bits needs a line `error NAME`, and only that")
-    at = said["total"]
-    if at is not None and at % 8:
-        raise Refused(f"the fields have {at} bits, which are no whole bytes: end with `any {-at % 8}`")
+            refuse(it.line, f"no `{it.leads} {it.names_later}` behind it")
+        if it.name in RESERVED:
+            refuse(it.line, f"`{it.name}` is a word of the proofs: take another name")
+        if it.name and it.name in [one.name for one in lines[:k]]:
+            refuse(it.line, f"two fields have one name, `{it.name}`")
+        if it.error and not said["error"]:
+            refuse(it.line, "this line refuses bits, and the description has no line `error NAME`")
+        if it.clause in ("there", "short", "answer", "back"):
+            refuse(it.line, "`There`, `Short`, `Answer` and `Back` are names of the contract: take other ones")
+    cases = [(it.line, [it.error, *(it.case_names() if hasattr(it, "case_names") else [])]) for it in lines]
+    for count, found in [(at["struct"], [said["name"]]), (at.get("error"), [said["error"]]), *cases]:
+        if TAKEN & set(found):
+            refuse(count, f"`{min(TAKEN & set(found))}` is a name of the specs: take another one")
+    if said["error"] and not any(it.error for it in lines):
+        refuse(at["error"], f"no line refuses bits, so there is no `{said['error']}`: leave this line out")
+    total = said["total"]
+    if total is not None and total % 8:
+        raise Refused(f"the fields have {total} bits, which are no whole bytes: end with `any {-total % 8}`")
     if not any(it.type for it in lines):
         raise Refused("no field")

@@ -1,6 +1,7 @@
 """Enums: a field whose number names a case."""
 import re
 
+from examples import Answer, whole
 from lines import Line, kind
 from source import Refused, number
 
@@ -9,11 +10,12 @@ def snake(name):
     return re.sub(r"(?<!^)(?=[A-Z])", "_", name).lower()
 
 
-@kind("enum")
+@kind("enum", form="`NAME enum TYPE BITS: NUMBER CASE, ..; DOC`")
 class Enum(Line):
     """A line NAME enum TYPE BITS: NUMBER CASE, .. [, .. CASE]; DOC. The case behind `..` has all other numbers."""
 
     unfolds, long = ("unsigned", "unsigned_entry"), 4
+    within = ""  # the part that it is of: its cases are called so in the rows
 
     def __init__(self, name, words, said):
         cases, _, self.doc = said.partition(";")
@@ -46,8 +48,23 @@ class Enum(Line):
     def why(self):
         return f"The number of {self.name} is that of no `{self.type}`."
 
-    def term(self, said):
-        return said.replace("(", " ").rstrip(")")
+    def given(self, said):
+        case, opened, held = said.partition("(")
+        if opened and self.other == case and held[-1:] == ")":
+            return f"{case}({whole(self.name, held[:-1])})"
+        if opened or case not in [it for _, it in self.cases]:
+            other = f"; `{case}` is `{case}(NUMBER)`" * (case == self.other)
+            raise Refused(f"`{self.type}` has no case `{said}`{other}")
+        return case
+
+    def term(self, value):
+        return self.within + value.replace("(", " ").rstrip(")")
+
+    def taken(self, row, before):
+        number = row.number(self.bits)
+        if number not in dict(self.cases) and self.error:
+            raise Answer(self.error)
+        return dict(self.cases).get(number, f"{self.other}({number})")
 
     def fits(self):
         if not self.other:

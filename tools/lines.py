@@ -1,24 +1,27 @@
 """The kinds of lines of a description that have a constant number of bits: a class each."""
+from examples import Answer, Unsure, hexed, numbers, spelled, whole
 from source import Refused, number
 
 KINDS, WORDS = {}, {}
+FORMS = {}  # how a line is spelled, by the word
 
 
-def kind(*words):
+def kind(*words, form):
     """Lists a class under the words that name its type, behind the name of a field."""
 
     def listed(made):
         KINDS.update((word, made) for word in words)
+        FORMS.update((word, form) for word in words)
         return made
 
     return listed
 
 
-def starts(*words):
-    """Lists a class under the words that such a line begins with."""
+def starts(word, form):
+    """Lists a class under the word that such a line begins with."""
 
     def listed(made):
-        WORDS.update((word, made) for word in words)
+        WORDS[word], FORMS[word] = made, form
         return made
 
     return listed
@@ -27,6 +30,11 @@ def starts(*words):
 def signed_term(found):
     """Gives a signed number, as specs have it."""
     return f"pos {found}" if found >= 0 else f"negsuc {-found - 1}"
+
+
+def list_term(items, term=str):
+    """Gives a list, as specs have it."""
+    return "".join(f"{term(it)} ∷ " for it in items) + "[]"
 
 
 class Line:
@@ -118,6 +126,16 @@ class Line:
         """Gives what stands for it in the picture."""
         return self.name or "0"
 
+    # in an example: what is said of it, that value in terms of specs, and what the bytes say
+    def given(self, said):
+        return whole(self.name, said)
+
+    def term(self, value):
+        return str(value)
+
+    def taken(self, row, before):
+        raise Unsure
+
     # what the module has for it, by what it is: each gives lines of text, or names by the modules that have them
     def declares(self, module):
         return []
@@ -186,9 +204,8 @@ class Unsigned(Number):
     def found(self, left, behind):
         return f"unsigned-finds _ _ {self.bits} {left} _ {self.order} {self.width} _ refl refl ({behind})"
 
-    def term(self, said):
-        """Gives the value of an example, as specs have it."""
-        return str(int(said, 0))
+    def taken(self, row, before):
+        return row.number(self.bits)
 
 
 class Signed(Number):
@@ -216,8 +233,11 @@ class Signed(Number):
     def found(self, left, behind):
         return f"signed-finds _ _ {self.bits} {left} _ {self.order} {self.width} _ refl refl refl ({behind})"
 
-    def term(self, said):
-        return signed_term(int(said, 0))
+    def term(self, value):
+        return signed_term(value)
+
+    def taken(self, row, before):
+        return row.signed(self.bits)
 
 
 class Items(Unsigned):
@@ -256,8 +276,14 @@ class Items(Unsigned):
     def found(self, left, behind):
         return f"items-finds _ _ {left} _ {self.each} {self.count} {self.order} {self.width} _ refl refl ({behind})"
 
-    def term(self, said):
-        return "".join(f"{int(it, 0)} ∷ " for it in said.strip("[]").split()) + "[]"
+    def given(self, said):
+        return numbers(self.name, said, self.count)
+
+    def term(self, value):
+        return list_term(value)
+
+    def taken(self, row, before):
+        return [row.number(self.each) for _ in range(self.count)]
 
 
 class SignedItems(Items):
@@ -288,23 +314,26 @@ class SignedItems(Items):
         shape = f"{self.each} {self.count} {self.order} {self.width}"
         return f"signed_items-finds _ _ {left} _ {shape} _ refl refl refl ({behind})"
 
-    def term(self, said):
-        return "".join(f"{signed_term(int(it, 0))} ∷ " for it in said.strip("[]").split()) + "[]"
+    def term(self, value):
+        return list_term(value, signed_term)
+
+    def taken(self, row, before):
+        return [row.signed(self.each) for _ in range(self.count)]
 
 
-@kind("u8", "u16", "u32", "u64", "u128")
+@kind("u8", "u16", "u32", "u64", "u128", form="`NAME TYPE BITS` or `NAME TYPE BITS x COUNT`")
 def unsigned(name, words, doc):
     """A line NAME TYPE BITS [x COUNT]."""
     return (Items if words[2:3] == ["x"] else Unsigned)(name, words, doc)
 
 
-@kind("i8", "i16", "i32", "i64", "i128")
+@kind("i8", "i16", "i32", "i64", "i128", form="`NAME TYPE BITS` or `NAME TYPE BITS x COUNT`")
 def signed(name, words, doc):
     """The same of signed numbers."""
     return (SignedItems if words[2:3] == ["x"] else Signed)(name, words, doc)
 
 
-@kind("bool")
+@kind("bool", form="`NAME bool`")
 class Bit(Line):
     """A line NAME bool."""
 
@@ -331,11 +360,19 @@ class Bit(Line):
     def found(self, left, behind):
         return f"bit-finds _ _ {left} _ _ refl ({behind})"
 
-    def term(self, said):
-        return {"true": "true", "false": "false"}[said]
+    def given(self, said):
+        if said not in ("true", "false"):
+            raise Refused(f"`{self.name} = {said}`: a bit is `true` or `false`")
+        return said == "true"
+
+    def term(self, value):
+        return spelled(value)
+
+    def taken(self, row, before):
+        return row.number(1) == 1
 
 
-@kind("bytes")
+@kind("bytes", form="`NAME bytes COUNT`")
 class Bytes(Line):
     """A line NAME bytes COUNT."""
 
@@ -369,8 +406,21 @@ class Bytes(Line):
     def found(self, left, behind):
         return f"bytes-finds _ _ {left} _ {self.count} {self.order} _ refl ({behind})"
 
-    def term(self, said):
-        return "".join(f"{it} ∷ " for it in bytes.fromhex(said.strip("[]"))) + "[]"
+    def given(self, said):
+        return hexed(self.name, said, self.count)
+
+    def term(self, value):
+        return list_term(value)
+
+    def taken(self, row, before):
+        return bytes(row.number(8) for _ in range(self.count))
+
+
+def not_zero(name, said):
+    """Gives the number that an example says of a `NonZero`."""
+    if whole(name, said) < 1:
+        raise Refused(f"`{name} = {said}`: it is a number from 1 on")
+    return whole(name, said)
 
 
 class Named(Number):
@@ -393,7 +443,7 @@ class Named(Number):
         return f"{self.lemma}-finds _ _ {self.bits} {left} _ {made} _ refl refl ({behind})"
 
 
-@kind("nonzero")
+@kind("nonzero", form="`NAME nonzero TYPE BITS`")
 class NonZero(Named):
     """A line NAME nonzero TYPE BITS: the number is that of the value, less 1."""
 
@@ -417,11 +467,17 @@ class NonZero(Named):
     def place(self, bits):
         return f"non_zero_{self.base} (number {self.order} ({bits}))"
 
-    def term(self, said):
-        return f"non_zero_{self.base} {int(said, 0) - 1}"
+    def given(self, said):
+        return not_zero(self.name, said)
+
+    def term(self, value):
+        return f"non_zero_{self.base} {value - 1}"
+
+    def taken(self, row, before):
+        return row.number(self.bits) + 1
 
 
-@kind("option")
+@kind("option", form="`NAME option TYPE BITS`")
 class OptionNonZero(Named):
     """A line NAME option TYPE BITS: 0 stands for no value."""
 
@@ -444,11 +500,17 @@ class OptionNonZero(Named):
     def place(self, bits):
         return f"if_any non_zero_{self.base} (number {self.order} ({bits}))"
 
-    def term(self, said):
-        return said if said == "None" else f"Some (non_zero_{self.base} {int(said, 0) - 1})"
+    def given(self, said):
+        return None if said == "None" else not_zero(self.name, said)
+
+    def term(self, value):
+        return "None" if value is None else f"Some (non_zero_{self.base} {value - 1})"
+
+    def taken(self, row, before):
+        return row.number(self.bits) or None
 
 
-@starts("const")
+@starts("const", "`const BITS VALUE ERROR`")
 class Const(Line):
     """A line const BITS VALUE ERROR."""
 
@@ -506,8 +568,12 @@ class Const(Line):
         shape = f"_ _ {self.bits} {self.bits} _ {self.order} {self.number} _ refl"
         return f"const-misses {shape} differs (gives-finds _ _ _)"
 
+    def taken(self, row, before):
+        if row.number(self.bits) != self.number:
+            raise Answer(self.error)
 
-@starts("any")
+
+@starts("any", "`any BITS`")
 class Any(Line):
     """A line any BITS: written as zeros, and read as any bits."""
 
@@ -534,8 +600,12 @@ class Any(Line):
     def found(self, left, behind):
         return f"skip-finds _ _ {self.bits} {left} _ _ refl ({behind})"
 
+    def taken(self, row, before):
+        if "1" in row.take(self.bits):
+            row.padded = f"the bits of `{'align' if isinstance(self, Align) else 'any'}`"
 
-@starts("align")
+
+@starts("align", "`align`")
 class Align(Any):
     """A line align: up to a whole byte, as counted from the first bit of the format."""
 
@@ -552,7 +622,7 @@ class Align(Any):
         self.bits = -self.at % 8
 
 
-@starts("zeros")
+@starts("zeros", "`zeros BITS ERROR`")
 def zeros(words, doc):
     """A line zeros BITS ERROR: other bits are refused."""
     if len(words) != 3:

@@ -1,11 +1,12 @@
 """Lists, whose number of items is read before them: each is a `Vec` of the format's own."""
-from lines import Line, signed_term, starts
+import examples
+from lines import Line, list_term, signed_term, starts
 from parts import Part
 from source import Refused, number
 from varying import WHOLE
 
 
-@starts("count")
+@starts("count", "`count LIST BITS`")
 class Count(Line):
     """A line count LIST BITS: how many items the list of that name has."""
 
@@ -31,6 +32,9 @@ class Count(Line):
 
     def back(self, behind):
         return f"unsigned-back o {self.bits} _ _ 64 ({self.length}) _ refl fits.{self.name} ({behind})"
+
+    def taken(self, row, before):
+        return row.number(self.bits)
 
 
 class Listed(Line):
@@ -123,6 +127,9 @@ class Listed(Line):
         """Gives what is known of the list with one item more."""
         return "c.in_ok-push.ensures.items"
 
+    def taken(self, row, before):
+        return [self.taken_item(row) for _ in range(before[f"{self.name}_count"])]
+
     def wrote(self, arm):
         """Gives what is known of the write of an item."""
         return self.writes.format(arm)
@@ -203,8 +210,14 @@ class Numbers(Listed):
     def back(self, behind):
         return f"items-back _ _ {self.shape} _ refl refl fits.{self.name} ({behind})"
 
-    def term(self, said):
-        return "".join(f"{int(it, 0)} ∷ " for it in said.strip("[]").split()) + "[]"
+    def given(self, said):
+        return examples.numbers(self.name, said)
+
+    def term(self, value):
+        return list_term(value)
+
+    def taken_item(self, row):
+        return row.number(self.wide)
 
 
 class SignedNumbers(Numbers):
@@ -234,8 +247,11 @@ class SignedNumbers(Numbers):
     def back(self, behind):
         return f"signed_items-back _ _ {self.shape} _ refl refl refl fits.{self.name} ({behind})"
 
-    def term(self, said):
-        return "".join(f"{signed_term(int(it, 0))} ∷ " for it in said.strip("[]").split()) + "[]"
+    def term(self, value):
+        return list_term(value, signed_term)
+
+    def taken_item(self, row):
+        return row.signed(self.wide)
 
 
 class Bytes(Listed):
@@ -267,8 +283,14 @@ class Bytes(Listed):
     def back(self, behind):
         return f"bytes-back _ _ o ({self.count}) {self.value} _ refl fits.{self.name} ({behind})"
 
-    def term(self, said):
-        return "".join(f"{it} ∷ " for it in bytes.fromhex(said.strip("[]"))) + "[]"
+    def given(self, said):
+        return examples.hexed(self.name, said)
+
+    def term(self, value):
+        return list_term(value)
+
+    def taken(self, row, before):
+        return bytes(row.number(8) for _ in range(before[f"{self.name}_count"]))
 
     def declares(self, module):
         return []
@@ -289,6 +311,10 @@ class Parts(Listed, Part):
     def __init__(self, words, doc):
         Part.__init__(self, words[1:], doc)
         self.item, self.type, self.kind = self.part, f"Vec<{self.part}>", f"List {self.part}"
+
+    @property
+    def unfolds(self):
+        return ["items_entry", *super().unfolds]
 
     size = property(lambda self: f"parts_size ({self.module}_size o) {self.value}")
     item_entry = property(lambda self: f"{self.module}_entry o")
@@ -318,13 +344,17 @@ class Parts(Listed, Part):
         shape = f"({self.module}_entry o) ({self.module}_writes o) ({self.count}) {self.value}"
         return f"each-back _ _ {shape} _ refl {all_back} ({behind})"
 
-    def term(self, said):
-        if said != "[]":
-            raise Refused("of a list of parts an example says []")
-        return said
+    def given(self, said):
+        return [Part.given(self, it) for it in examples.listed(self.name, said, "[(FIELD = VALUE, ..) ..]")]
+
+    def term(self, value):
+        return list_term(value, lambda it: f"({Part.term(self, it)})")
+
+    def taken_item(self, row):
+        return Part.taken(self, row, {})
 
 
-@starts("list")
+@starts("list", "`list NAME TYPE BITS`, `list NAME bytes` or `list NAME TYPE of MODULE`")
 def listed(words, doc):
     """A line list NAME TYPE BITS, list NAME bytes, or list NAME TYPE of MODULE."""
     if words[3:4] == ["of"]:

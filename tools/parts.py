@@ -1,7 +1,8 @@
 """Parts that have a description of their own, which may be there or not."""
 from enums import Enum, snake
+from examples import Answer, Some, fields, taken
 from lines import Line, starts
-from names import spec_of
+from names import merged, spec_of
 from source import Refused, number
 
 
@@ -12,6 +13,8 @@ class Part(Line):
     counts = True  # whether its bits are those of its lines
     own_errors = True  # whether it may have errors of its own
     theirs, cases = "", ()  # its error, and the cases of that
+    some = ""  # what an example says before the fields
+    described = ()  # its lines
 
     def __init__(self, words, doc):
         if words[2:3] != ["of"]:
@@ -26,8 +29,11 @@ class Part(Line):
             raise Refused(f"`{self.module}` describes `{said['name']}`, and not `{self.part}`")
         if said["error"] and not self.own_errors:
             raise Refused(f"`{self.part}` has errors of its own, so it stands neither in a list nor behind a condition")
-        if any(it.grows for it in said["lines"]):
+        self.described = said["lines"]
+        if any(it.grows for it in self.described):
             raise Refused(f"`{self.part}` has a list: read it by hand")
+        for it in self.described:
+            it.within = self.part
         if said["error"]:
             tests = [it for it in said["lines"] if it.error]
             self.theirs, self.error, self.counts = said["error"], f"In{self.part}", False
@@ -86,8 +92,35 @@ class Part(Line):
             term = it.found(self.at + self.bits - it.at, term)
         return f"chain-finds _ _ {self.bits} {left - self.bits} _ _ _ _ ({term}) ({behind})"
 
-    def term(self, said):
-        raise Refused("an example has no value for a part")
+    @property
+    def unfolds(self):
+        return [word for it in self.described for word in it.unfolds]
+
+    def given(self, said):
+        if not said.startswith(f"{self.some}(") or said[-1] != ")":
+            raise Refused(f"`{self.name} = {said}`: a part is `{self.some}(FIELD = VALUE, ..)`")
+        return fields(self.described, said[len(self.some) + 1 : -1])
+
+    def term(self, value):
+        return f"record {{ {'; '.join(f'{it.name} = {it.term(value[it.name])}' for it in self.described if it.type)} }}"
+
+    def taken(self, row, before):
+        try:
+            found = taken(self.described, row)
+        except Answer as it:
+            raise Answer(self.error if self.theirs and str(it) != "EndOfInput" else it) from None
+        return {it.name: found[it.name] for it in self.described if it.type}
+
+    def row_names(self, module):
+        """Gives where the cases of its enums come from, as the rows call them."""
+        found = {}
+        for it in self.described:
+            if isinstance(it, Enum):
+                path = f"Rattle.{module.crate}.specs.declared.{self.module}.{it.type}.TheVariants"
+                found[path] = " ".join(f"{case}={self.part}{case}" for case in it.case_names()[1:])
+            if isinstance(it, Part):
+                found = merged(found, it.row_names(module))
+        return found
 
     def is_first(self, module):
         """Whether no line before it is read by the same function."""
@@ -166,7 +199,7 @@ class Part(Line):
 class Optional(Part):
     """A part that is there or not: `there` says when, in code, `when` in specs, `known` of the value's own fields."""
 
-    own_errors = False
+    own_errors, some = False, "Some"
 
     def __init__(self, words, doc):
         super().__init__(words, doc)
@@ -203,10 +236,14 @@ class Optional(Part):
         entry = f"optional {self.known} ({self.module}_entry o)"
         return f"part-back ({entry}) _ ({self.word}) _ {self.value} _ {self.name} ({behind})"
 
-    def term(self, said):
-        if said != "None":
-            raise Refused("of an optional part an example says None")
-        return said
+    def given(self, said):
+        return None if said == "None" else Some(super().given(said))
+
+    def term(self, value):
+        return "None" if value is None else f"Some ({super().term(value)})"
+
+    def taken(self, row, before):
+        return Some(super().taken(row, before)) if self.asks(before) else None
 
     def declares(self, module):
         if not self.is_first(module):
@@ -247,7 +284,7 @@ class Optional(Part):
         return [f"read_{self.function}"]
 
 
-@starts("flag")
+@starts("flag", "`flag NAME`")
 class Flag(Line):
     """A line flag NAME: a bit that says whether the optional part of that name is there."""
 
@@ -270,8 +307,11 @@ class Flag(Line):
     def back(self, behind):
         return f"bit-back (is_some value.{self.part}) _ _ _ ({behind})"
 
+    def taken(self, row, before):
+        return row.number(1) == 1
 
-@starts("option")
+
+@starts("option", "`option NAME TYPE of MODULE`")
 class Option(Optional):
     """A line option NAME TYPE of MODULE: a part that is there if its flag is set."""
 
@@ -289,8 +329,12 @@ class Option(Optional):
     def lets(self):
         return [f"let {self.name} = {self.goes()} in"]
 
+    def asks(self, before):
+        """Tells whether it is there, by what was taken."""
+        return before[self.there]
 
-@starts("if")
+
+@starts("if", "`if FIELD == VALUE NAME TYPE of MODULE`")
 class If(Optional):
     """A line if FIELD == VALUE NAME TYPE of MODULE: a part that is there if a field before it has that value.
 
@@ -323,6 +367,10 @@ class If(Optional):
 
     def test(self, value):
         return f"({f'{self.enum}_number ' if self.enum else ''}{value} == {self.number})"
+
+    def asks(self, before):
+        """Tells whether it is there, by what was taken."""
+        return before[self.field] == (self.asked if self.enum else self.number)
 
     def fits(self):
         return [*super().fits(), (f"{self.name}_there", f"is_some {self.value} ≡ {self.known}")]

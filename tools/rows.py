@@ -1,6 +1,7 @@
 """The rows of a description's examples, which the prover computes."""
-from source import Refused
-
+from lines import list_term
+from names import merged
+from parts import Part
 UNFOLDS = {
     "chain": "Entry",
     "digits digits_number bytes_of": "Word",
@@ -15,40 +16,27 @@ UNFOLDS = {
 
 def values_of(lines, said):
     """Gives the fields of an example, in the terms of specs."""
-    given = {name.strip(): value.strip() for name, _, value in (it.partition("=") for it in said.split(","))}
-    out = []
-    for it in lines:
-        if it.type:
-            if it.name not in given:
-                raise Refused(f"an example has no `{it.name}`")
-            out.append(f"  {it.name} = {it.term(given.pop(it.name))};")
-    if given:
-        raise Refused(f"an example has a `{min(given)}`, which is no field")
-    return out
+    return [f"  {it.name} = {it.term(said[it.name])};" for it in lines if it.type]
 
 
-def refused(module, said):
+def refused(said):
     """Gives what bytes answer of which an example names the error."""
-    if said == "EndOfInput":
-        return "Err EndOfInput"
-    if said not in [it.error for it in module.tests]:
-        raise Refused(f"an example answers `{said}`, which is no case of the error")
-    return f"Ok (Err {said})"
+    return "Err EndOfInput" if said == "EndOfInput" else f"Ok (Err {said})"
 
 
-def row(module, k, digits, said, unfolds):
+def row(module, k, data, said, unfolds):
     """Gives the bytes of an example, its fields, and that each says the other; or the error that they answer."""
     m, o = module.m, module.o
     ok = f"(Ok (Ok value_{k}))" if module.own else f"(Ok value_{k})"
     known = [
         f"row_{k} : List ℕ",
-        f"row_{k} = {''.join(f'{it} ∷ ' for it in bytes.fromhex(''.join(digits)))}[]",
+        f"row_{k} = {list_term(data)}",
         "",
     ]
-    if "=" not in said:
+    if isinstance(said, str):
         return [
             *known,
-            f"refused_{k} : sure_answer (({m}_entry {o}).reads 0 (bits {o} row_{k})) ≡ {refused(module, said.strip())}",
+            f"refused_{k} : sure_answer (({m}_entry {o}).reads 0 (bits {o} row_{k})) ≡ {refused(said)}",
             f"unfolding row_{k} {' '.join(unfolds)}",
             f"refused_{k} = refl",
             "",
@@ -70,7 +58,7 @@ def row(module, k, digits, said, unfolds):
 
 
 def rows(module):
-    """Gives the rows, and where the names come from through which they compute."""
+    """Gives the rows, and where the names come from through which they compute, and those of what parts hold."""
     wanted = {"chain", "digits", "digits_number"} | {it for line in module.lines for it in line.unfolds}
     found = {}
     for names, place in UNFOLDS.items():
@@ -79,4 +67,4 @@ def rows(module):
             found[f"Rattle.bitstream_io.specs.{place}"] = " ".join(named)
     unfolds = [it for names in found.values() for it in names.split()] + sorted(it for it in wanted if it[:4] == "lib.")
     out = [line for k, it in enumerate(module.examples) for line in row(module, k, *it, unfolds)]
-    return out, found
+    return out, merged(found, *[it.row_names(module) for it in module.lines if isinstance(it, Part)])

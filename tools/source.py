@@ -19,7 +19,10 @@ class Refused(Exception):
 
 def number(text, least, most, what):
     """Gives the number that a word of a description is, if it is in this range."""
-    found = int(text, 0)
+    try:
+        found = int(text, 0)
+    except ValueError:
+        raise Refused(f"{what} is `{text}`, which is no number") from None
     if not least <= found <= most:
         raise Refused(f"{what} is {found}, and not in {least}..={most}")
     return found

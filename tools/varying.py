@@ -1,11 +1,12 @@
 """Numbers of no constant width: unary, in groups of bits, and Exp-Golomb."""
+from examples import Unsure
 from lines import Line, kind, signed_term
 from source import Refused, number
 
 WHOLE = [f"{sign}{width}" for sign in "ui" for width in (8, 16, 32, 64, 128)]
 
 
-@kind("unary")
+@kind("unary", form="`NAME unary STOP`")
 class Unary(Line):
     """A line NAME unary STOP: how many bits stand in front of the first STOP."""
 
@@ -36,11 +37,11 @@ class Unary(Line):
     def back(self, behind):
         return f"unary-back _ _ {self.stop} {self.value} _ fits.{self.name} ({behind})"
 
-    def term(self, said):
-        return str(int(said, 0))
+    def taken(self, row, before):
+        return row.unary(self.bit)
 
 
-@kind("vbr")
+@kind("vbr", form="`NAME vbr BITS TYPE` or `NAME vbr BITS TYPE any`, and TYPE is u8 to u128, or i8 to i128")
 class Vbr(Line):
     """A line NAME vbr FIELD TYPE [any]: groups of FIELD bits; with `any` also such as end in a group of 0."""
 
@@ -83,11 +84,23 @@ class Vbr(Line):
         shape = f"_ _ o {self.field} {self.width} {self.value}"
         return f"{self.call}-back {shape} _ refl refl fits.{self.name} ({behind})"
 
-    def term(self, said):
-        return (signed_term if self.signed else str)(int(said, 0))
+    def term(self, value):
+        return signed_term(value) if self.signed else str(value)
+
+    def taken(self, row, before):
+        found, place, digits = 0, 0, self.field - 1
+        while (group := row.number(self.field)) >> digits:
+            found, place = found + (group % 2**digits << place), place + digits
+            if place >= self.width:
+                raise Unsure
+        found += group << place
+        if found >> self.width or (place and not group and not self.any):
+            raise Unsure
+        row.padded = row.padded or (f"the last group of `{self.name}`" if place and not group else "")
+        return found if not self.signed else -(found // 2) - 1 if found % 2 else found // 2
 
 
-@kind("leb128")
+@kind("leb128", form="`NAME leb128 TYPE`, and TYPE is u16 to u128, or i16 to i128")
 class Leb128(Vbr):
     """A line NAME leb128 TYPE: groups of 8 bits, also such as end in a group of 0."""
 
@@ -97,7 +110,7 @@ class Leb128(Vbr):
         super().__init__(name, ["vbr", "8", words[1], "any"], doc)
 
 
-@kind("ue")
+@kind("ue", form="`NAME ue`")
 class Golomb(Line):
     """A line NAME ue: an Exp-Golomb number. The module `golomb` of `bitstream_callers` is copied for it."""
 
@@ -130,8 +143,11 @@ class Golomb(Line):
         goes = f"({self.short}-back o {self.value} fits.{self.name}).back"
         return f"part-back ({self.entry}) _ ({self.word}) _ {self.value} _ {goes} ({behind})"
 
-    def term(self, said):
-        return str(int(said, 0))
+    def taken(self, row, before):
+        zeros = row.unary(1)
+        if zeros > 31:
+            raise Unsure
+        return 2**zeros - 1 + row.number(zeros)
 
     def names(self, module):
         words = " ".join(f"{self.short}_{it}" for it in ("entry", "writes", "size"))
@@ -141,7 +157,7 @@ class Golomb(Line):
         return {f"Rattle.{module.crate}.proofs.GolombLemmas": f"{self.short}-back {self.short}-packs"}
 
 
-@kind("se")
+@kind("se", form="`NAME se`")
 class SignedGolomb(Golomb):
     """A line NAME se: a signed one."""
 
@@ -150,5 +166,9 @@ class SignedGolomb(Golomb):
     def fits(self):
         return [(self.name, f"unsigned_abs {self.value} < 2 ^ 31")]
 
-    def term(self, said):
-        return signed_term(int(said, 0))
+    def term(self, value):
+        return signed_term(value)
+
+    def taken(self, row, before):
+        place = super().taken(row, before)
+        return place // 2 + 1 if place % 2 else -(place // 2)
