@@ -1,4 +1,6 @@
 """Reads a description: its lines, and what does not go together."""
+import re
+
 import examples
 import lists  # noqa: F401
 from enums import snake
@@ -121,6 +123,17 @@ def place(said, lines, find):
     said["total"], said["lines"] = at, lines
 
 
+def shadowed(lines):
+    """Refuses a field of whose name `Fits` says something else of a field behind it, such as `length`."""
+    said = {}
+    for it in lines:
+        for name, what in it.fits():
+            for word in re.findall(r"(?<![.\w])[a-z]\w*", what):
+                if word in said and f"λ {word}." not in what:
+                    refuse(said[word], f"`{word}` is a word of what is said of `{name}` behind it: take another name")
+            said[name] = it.line
+
+
 def refuse(count, why):
     raise Refused(f"line {count}: {why}")
 
@@ -139,6 +152,7 @@ def check(said, lines):
             refuse(it.line, "this line refuses bits, and the description has no line `error NAME`")
         if it.clause in ("there", "short", "answer", "back"):
             refuse(it.line, "`There`, `Short`, `Answer` and `Back` are names of the contract: take other ones")
+    shadowed(lines)
     cases = [(it.line, [it.error, *(it.case_names() if hasattr(it, "case_names") else [])]) for it in lines]
     for count, found in [(at["struct"], [said["name"]]), (at.get("error"), [said["error"]]), *cases]:
         if TAKEN & set(found):

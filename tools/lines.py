@@ -56,6 +56,7 @@ class Line:
     imports = ()  # paths that the code uses
     copies = ""  # the module of `bitstream_callers` that the crate needs a copy of
     unfolds = ()  # what a worked row computes through
+    reader_errors = ()  # the reader's errors that its bits answer, but for `EndOfInput`, and when
     long = 3  # how many words such a line has at most
     held = ""  # the type of its value in code, if it is no field
     leads, names_later = "", ""  # the word of the line that must follow, and what that describes

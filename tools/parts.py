@@ -93,6 +93,10 @@ class Part(Line):
         return f"chain-finds _ _ {self.bits} {left - self.bits} _ _ _ _ ({term}) ({behind})"
 
     @property
+    def reader_errors(self):
+        return [it for line in self.described for it in line.reader_errors]
+
+    @property
     def unfolds(self):
         return [word for it in self.described for word in it.unfolds]
 

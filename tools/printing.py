@@ -9,6 +9,7 @@ from chains import answers_of
 from description import described
 from module import Module
 from names import TAKEN, spec_of
+from parts import Part
 from source import Refused, Unknown
 
 CALLERS = os.path.join(os.path.dirname(os.path.dirname(os.path.abspath(__file__))), "crates", "bitstream_callers")
@@ -69,6 +70,9 @@ def lay_out(crate):
 
 def print_into(crate, made):
     """Puts the files of a format, and of what it needs a copy of, into a crate; gives their places."""
+    for it in made.lines:
+        if isinstance(it, Part) and not os.path.exists(os.path.join(crate, "src", f"{it.module}.rt")):
+            raise Refused(f"line {it.line}: `{it.module}` is not printed: run `./format` on `{it.module}.fields` first")
     files = made.files()
     for name in made.copies():
         files |= copied(name, made.crate)

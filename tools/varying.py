@@ -3,6 +3,8 @@ from examples import Unsure
 from lines import Line, kind, signed_term
 from source import Refused, number
 
+OVERFLOW = ("VariableWidthOverflow", "if a number of variable width has more bits than its type")
+REDUNDANT = ("RedundantGroup", "if a number ends in a group of 0 behind others")
 WHOLE = [f"{sign}{width}" for sign in "ui" for width in (8, 16, 32, 64, 128)]
 
 
@@ -56,6 +58,7 @@ class Vbr(Line):
         self.signed, self.width = self.type[0] == "i", int(self.type[1:])
         self.field = number(words[1], 2, self.width - 1, "the bits of a group")
 
+    reader_errors = property(lambda self: [OVERFLOW] if self.any else [OVERFLOW, REDUNDANT])
     kind = property(lambda self: "ℤ" if self.signed else "ℕ")
     call = property(lambda self: f"{'any_' * self.any}{'signed_' * self.signed}vbr")
     limit = property(lambda self: "" if self.signed else f" (2 ^ {self.width})")
@@ -114,7 +117,7 @@ class Leb128(Vbr):
 class Golomb(Line):
     """A line NAME ue: an Exp-Golomb number. The module `golomb` of `bitstream_callers` is copied for it."""
 
-    many, type, long, short, copies = True, "u32", 2, "ue", "golomb"
+    many, type, long, short, copies, reader_errors = True, "u32", 2, "ue", "golomb", [OVERFLOW]
     more = "Below 2^32 - 1."
     unfolds = ("unary_entry", "unsigned", "unsigned_entry", "lib.Count.count_leading_zeros")
 

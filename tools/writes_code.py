@@ -178,7 +178,9 @@ class Code:
         answer = f"(sure_answer (({m}_entry {o}).reads 0 (bits {o} packet.now)))"
         told = self.or_refused(f"OwnAnswer {self.becomes_name} (λ answer. answer)\n            {answer} result")
         bits, few = f"write_run ({m}_writes {o} value) 0", "if the bytes end before the fields do"
-        more = [f"    /// `{self.of_reader('OutOfMemory')}` if memory for a list is refused."] * self.grows
+        errors = dict.fromkeys(it for line in self.lines for it in line.reader_errors)
+        more = [f"    /// `{self.of_reader(error)}` {when}." for error, when in errors]
+        more += [f"    /// `{self.of_reader('OutOfMemory')}` if memory for a list is refused."] * self.grows
         if self.sized:
             bits, few = f"{m}_bits value", f"for fewer than {self.total // 8} bytes"
         end, behind = f"`{self.of_reader('EndOfInput')}`", "\n            " if self.grows else " "
