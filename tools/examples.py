@@ -3,11 +3,7 @@ from source import Refused
 
 
 class Answer(Exception):
-    """What bytes answer that are refused: the error's case, or `EndOfInput`."""
-
-
-class Unsure(Exception):
-    """What only the prover computes."""
+    """What bytes answer that are refused: the error's case, or the reader's error."""
 
 
 class Some(dict):
@@ -100,7 +96,7 @@ class Row:
     def __init__(self, data, order):
         self.step = 1 if order == "BE" else -1
         self.bits = "".join(f"{it:08b}"[:: self.step] for it in data)
-        self.padded = ""  # what is no zeros, but written as zeros
+        self.other = ""  # why other bits are written
 
     def take(self, count):
         if count > len(self.bits):
@@ -131,12 +127,10 @@ def taken(lines, row):
 
 
 def check(lines, order, data, said):
-    """Refuses an example whose bytes say something else, if that is seen without the prover."""
+    """Refuses an example whose bytes say something else, or are not those that are written."""
     row = Row(data, order)
     try:
         found = taken(lines, row)
-    except Unsure:
-        return
     except Answer as it:
         found = str(it)
     if isinstance(found, str) or isinstance(said, str):
@@ -147,9 +141,9 @@ def check(lines, order, data, said):
     for it in differing(said, found):
         raise Refused(f"example: the bytes say {it}")
     if len(row.bits) > 7:
-        raise Refused(f"example: behind the fields stand bytes, {len(row.bits) // 8}")
-    if row.padded or "1" in row.bits:
-        raise Refused(f"example: not what is written: {row.padded or 'the bits behind the fields'} would be zeros")
+        raise Refused("example: more bytes than the fields have")
+    if row.other or "1" in row.bits:
+        raise Refused(f"example: other bytes are written: {row.other or 'the last one is filled with zeros'}")
 
 
 def spelled(value):
@@ -167,7 +161,7 @@ def spelled(value):
 
 
 def differing(said, found, within=""):
-    """Gives the first field whose value is not said, with both; names without a value in `said` are no fields."""
+    """Gives each field whose value is not the one that is said, with both."""
     for name, value in said.items():
         if isinstance(value, dict) and isinstance(found[name], dict):
             yield from differing(value, found[name], f"{within}{name}.")

@@ -1,5 +1,5 @@
 """The kinds of lines of a description that have a constant number of bits: a class each."""
-from examples import Answer, Unsure, hexed, numbers, spelled, whole
+from examples import Answer, hexed, numbers, spelled, whole
 from source import Refused, number
 
 KINDS, WORDS = {}, {}
@@ -135,7 +135,7 @@ class Line:
         return str(value)
 
     def taken(self, row, before):
-        raise Unsure
+        raise NotImplementedError
 
     # what the module has for it, by what it is: each gives lines of text, or names by the modules that have them
     def declares(self, module):
@@ -603,7 +603,7 @@ class Any(Line):
 
     def taken(self, row, before):
         if "1" in row.take(self.bits):
-            row.padded = f"the bits of `{'align' if isinstance(self, Align) else 'any'}`"
+            row.other = f"`{'align' if isinstance(self, Align) else 'any'}` is written as zeros"
 
 
 @starts("align", "`align`")

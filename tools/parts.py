@@ -112,7 +112,7 @@ class Part(Line):
         try:
             found = taken(self.described, row)
         except Answer as it:
-            raise Answer(self.error if self.theirs and str(it) != "EndOfInput" else it) from None
+            raise Answer(self.error if str(it) in dict(self.cases) else it) from None
         return {it.name: found[it.name] for it in self.described if it.type}
 
     def row_names(self, module):

@@ -1,5 +1,5 @@
 """Numbers of no constant width: unary, in groups of bits, and Exp-Golomb."""
-from examples import Unsure
+from examples import Answer
 from lines import Line, kind, signed_term
 from source import Refused, number
 
@@ -95,11 +95,14 @@ class Vbr(Line):
         while (group := row.number(self.field)) >> digits:
             found, place = found + (group % 2**digits << place), place + digits
             if place >= self.width:
-                raise Unsure
+                raise Answer("VariableWidthOverflow")
         found += group << place
-        if found >> self.width or (place and not group and not self.any):
-            raise Unsure
-        row.padded = row.padded or (f"the last group of `{self.name}`" if place and not group else "")
+        if place and not group and not self.any:
+            raise Answer("RedundantGroup")
+        if found >> self.width:
+            raise Answer("VariableWidthOverflow")
+        if place and not group:
+            row.other = f"`{self.name}` ends in a group of zeros"
         return found if not self.signed else -(found // 2) - 1 if found % 2 else found // 2
 
 
@@ -149,7 +152,7 @@ class Golomb(Line):
     def taken(self, row, before):
         zeros = row.unary(1)
         if zeros > 31:
-            raise Unsure
+            raise Answer("VariableWidthOverflow")
         return 2**zeros - 1 + row.number(zeros)
 
     def names(self, module):
