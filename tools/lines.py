@@ -135,7 +135,7 @@ class Line:
         return str(value)
 
     def taken(self, row, before):
-        raise NotImplementedError
+        return row.number(self.bits)
 
     # what the module has for it, by what it is: each gives lines of text, or names by the modules that have them
     def declares(self, module):
@@ -204,9 +204,6 @@ class Unsigned(Number):
 
     def found(self, left, behind):
         return f"unsigned-finds _ _ {self.bits} {left} _ {self.order} {self.width} _ refl refl ({behind})"
-
-    def taken(self, row, before):
-        return row.number(self.bits)
 
 
 class Signed(Number):

@@ -33,9 +33,6 @@ class Count(Line):
     def back(self, behind):
         return f"unsigned-back o {self.bits} _ _ 64 ({self.length}) _ refl fits.{self.name} ({behind})"
 
-    def taken(self, row, before):
-        return row.number(self.bits)
-
 
 class Listed(Line):
     """A line list NAME ..: as many items as were counted before."""

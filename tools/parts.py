@@ -311,9 +311,6 @@ class Flag(Line):
     def back(self, behind):
         return f"bit-back (is_some value.{self.part}) _ _ _ ({behind})"
 
-    def taken(self, row, before):
-        return row.number(1) == 1
-
 
 @starts("option", "`option NAME TYPE of MODULE`")
 class Option(Optional):
