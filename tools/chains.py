@@ -63,6 +63,7 @@ NEXT = {
         "part": "part_go 1 (if_grown false FACT)",
         "made part": "part_go 1 (if_grown false (own_made 1 (Ok 1) FACT (λ error is. absurd is)))",
         "growing part": "part_go 1 FACT",
+        "made growing part": "part_go 1 (grown_made 1 (Ok 1) FACT (λ error is. absurd is))",
     },
     "WritesAll": {
         "call": "next_call 7 FACT",
@@ -99,6 +100,7 @@ STOP = {
         "made part": "part_stop 1 (if_grown false (own_made 1 (Err 1) FACT (λ error is. rw is refl)))"
         " (is_error 2 RESIDUAL)",
         "growing part": "part_stop 1 FACT (is_error 2 RESIDUAL)",
+        "made growing part": "part_stop 1 (grown_made 1 (Err 1) FACT (λ error is. rw is refl)) (is_error 2 RESIDUAL)",
     },
     "WritesAll": {
         "call": "stop_call 7 RESIDUAL FACT",
@@ -143,6 +145,7 @@ LEMMAS = {
     CALLER + "CallerLemmas": "next_signed_part next_own_signed_part if_read else_read own_made"
     " const_alone next_const exit_const next_own_read next_own_const exit_own_read"
     " exit_own_const next_grown_signed next_grown_const exit_grown_const if_growing else_growing",
+    CALLER + "EachLemmas": "grown_made",
     CALLER + "GrowsLemmas": "go_grown stop_grown grown if_grown part_go part_stop grown_end",
     "Rattle.bitstream_io.specs.Grows": "by_reads",
     CALLER + "OwnLemmas": "is_error plainly_read plainly_written read_plainly written_plainly",
@@ -167,7 +170,10 @@ SHORT = {
 
 
 class Body:
-    """Goes through a body, and gathers its calls in order."""
+    """Goes through a body, and gathers its calls in order.
+
+    `functions` are those of the crate: those of the file, those of the modules that it imports from, and all.
+    """
 
     def __init__(self, function, kind, stream, functions, structs, modeled):
         self.function, self.kind, self.stream = function, kind, stream
@@ -382,8 +388,7 @@ class Body:
 
     def grows(self, typed, line):
         """Tells whether a part of a type of the crate's own asks for memory."""
-        found = [it for it in self.functions if it.name == "from_reader" and [it.owner] == list(typed)]
-        said = {growing(it) for it in found}
+        said = {growing(it) for it in self.named("from_reader", "".join(typed))}
         if len(said) != 1:
             unknown(line, f"whether `{''.join(typed)}` asks for memory")
         return said.pop()
@@ -422,8 +427,7 @@ class Body:
         args = self.arguments()
         if [self.stream] not in args:
             unknown(line, f"the call `{word}`, which is not of `{self.stream}`")
-        owner = self.function.owner if owner == "Self" else owner
-        found = [it for it in self.functions if it.name == word and (not owner or it.owner in (owner, ""))]
+        found = self.named(word, self.function.owner if owner == "Self" else owner)
         kinds = {clause_of(it) for it in found if clause_of(it)}
         if len(kinds) != 1:
             unknown(line, f"the contract of `{word}`")
@@ -436,10 +440,19 @@ class Body:
         if (self.kind, kind) not in form:
             unknown(line, f"the contract of `{word}`")
         wide, form = self.signed_of(found[0], args), form[self.kind, kind]
-        form = f"made {form}" if len(becomes) > 1 and form == "part" else form
+        form = f"made {form}" if len(becomes) > 1 and form.endswith("part") else form
         if wide and form.endswith("part"):
             unknown(line, f"the signed number of `{word}`")
         return self.add(f"signed {form} of {wide}" if wide else form, label, word, name, "", line)
+
+    def named(self, word, owner):
+        """Gives the functions of this name, of a type, of a module, or of whatever owner: the nearest ones."""
+        alike = (lambda it: it.owner == ("" if owner.islower() else owner)) if owner else (lambda it: True)
+        for functions in self.functions:
+            found = [it for it in functions if it.name == word and alike(it)]
+            if found:
+                return found
+        return []
 
     def signed_of(self, function, args):
         """Gives the width of a signed number that a function of the crate's own reads, or also which one it writes."""
@@ -662,19 +675,28 @@ def has_model(path, name):
         return bool(name) and f"impl Model for {name} " in file.read()
 
 
+def functions_near(folder, path):
+    """Gives the functions of the modules that a file imports from, and those of the whole crate."""
+    with open(path, encoding="utf-8") as file:
+        modules = set(re.findall(r"^use crate::(\w+)", file.read(), re.MULTILINE))
+    found = {it: read_source(it)[0] for it in sorted(glob.glob(f"{folder}/src/**/*.rt", recursive=True))}
+    names = {it: os.path.relpath(it, f"{folder}/src").removesuffix(".rt").split(os.sep)[0] for it in found}
+    imported = [one for it, functions in found.items() if names[it] in modules for one in functions]
+    return imported, [one for functions in found.values() for one in functions]
+
+
 def answers_of(folder, file, wanted):
     """Gives the answers of a function, as `rt check --only` names it."""
     path = os.path.join(folder, file)
     functions, structs = read_source(path)
     function = chosen(functions, wanted)
     crate = os.path.basename(os.path.abspath(folder))
-    paths = sorted(glob.glob(f"{folder}/src/**/*.rt", recursive=True))
-    all_functions = [one for it in paths for one in read_source(it)[0]]
+    near = [functions, *functions_near(folder, path)]
     kind, stream, field, around = contract(function)
     modeled = kind == "WritesAll" and not around and has_model(path, function.owner)
     around = "rw (← c.self.view_is)" if modeled else around
     answers = Answers(kind, field, around, function.generic)
-    body = Body(function, kind, stream, all_functions, structs, modeled)
+    body = Body(function, kind, stream, near, structs, modeled)
     calls = body.whole()
     entries = entries_of(folder, function)
     if entries and "const_entry" not in entries:

@@ -110,7 +110,7 @@ def place(said, lines, find):
         refuse(said["at"]["order"], "the order is BE or LE")
     at = 0
     for index, it in enumerate(lines):
-        it.at, it.index, it.order, it.find = at, index, ORDERS[said["order"]], find
+        it.at, it.index, it.order, it.find, it.outer = at, index, ORDERS[said["order"]], find, said["error"]
         if it.type and not it.doc:
             it.doc = f"The field `{it.name}`."
         try:

@@ -1,8 +1,9 @@
 """Enums: a field whose number names a case."""
 import re
 
-from examples import Answer, whole
-from lines import Line, kind
+from examples import Answer, listed, of_size, whole
+from lines import Line, kind, list_term
+from loops import WrittenInLoop
 from source import Refused, number
 
 
@@ -10,7 +11,6 @@ def snake(name):
     return re.sub(r"(?<!^)(?=[A-Z])", "_", name).lower()
 
 
-@kind("enum", form="`NAME enum TYPE BITS: NUMBER CASE, ..; DOC`")
 class Enum(Line):
     """A line NAME enum TYPE BITS: NUMBER CASE, .. [, .. CASE]; DOC. The case behind `..` has all other numbers."""
 
@@ -19,49 +19,58 @@ class Enum(Line):
 
     def __init__(self, name, words, said):
         cases, _, self.doc = said.partition(";")
-        self.name, self.type, self.kind, self.other, self.cases = name, words[1], words[1], "", []
-        self.bits, self.doc = number(words[2], 1, 32, "the width of an enum"), self.doc.strip()
-        self.s = snake(self.type)
-        self.width = next(it for it in (8, 16, 32) if it >= self.bits)
+        self.name, self.enum, self.other, self.cases = name, words[1], "", []
+        self.type = self.kind = self.enum
+        self.wide, self.doc = number(words[2], 1, 32, "the width of an enum"), self.doc.strip()
+        self.s = snake(self.enum)
+        self.width = next(it for it in (8, 16, 32) if it >= self.wide)
         for it in cases.split(","):
             value, case = it.split()
             if value == "..":
                 self.other = case
             else:
-                self.cases.append((number(value, 0, 2**self.bits - 1, "the number of a case"), case))
+                self.cases.append((number(value, 0, 2**self.wide - 1, "the number of a case"), case))
         if len(dict(self.cases)) < len(self.cases):
             raise Refused("two cases have one number")
-        if len(self.cases) == 2**self.bits and self.other:
+        if len(self.cases) == 2**self.wide and self.other:
             raise Refused("no number is left for the other case")
-        self.error = "" if self.other else f"No{self.type}"
+        self.error = "" if self.other else f"No{self.enum}"
 
+    bits = property(lambda self: self.wide)
     entry = property(lambda self: f"{self.s}_read o")
     number = property(lambda self: f"{self.s}_number {self.value}")
-    word = property(lambda self: f"unsigned o {self.width} {self.bits} ({self.number})")
+    word = property(lambda self: f"unsigned o {self.width} {self.wide} ({self.number})")
     small = property(lambda self: f"fits.{self.name}" if self.other else f"({self.s}_small {self.value})")
     again = property(lambda self: f"fits.{self.name}_again" if self.other else f"({self.s}_again {self.value})")
-    written = property(lambda self: f"unsigned-written o {self.width} {self.bits} ({self.number}) refl {self.small}")
+    written = property(lambda self: f"unsigned-written o {self.width} {self.wide} ({self.number}) refl {self.small}")
 
     def case_names(self):
-        return [self.type, *[case for _, case in self.cases], *([self.other] if self.other else [])]
+        return [self.enum, *[case for _, case in self.cases], *([self.other] if self.other else [])]
 
     def why(self):
-        return f"The number of {self.name} is that of no `{self.type}`."
+        return f"The number of {self.name} is that of no `{self.enum}`."
 
     def given(self, said):
+        return self.case_of(said)
+
+    def case_of(self, said):
+        """Gives the case that an example says."""
         case, opened, held = said.partition("(")
         if opened and self.other == case and held[-1:] == ")":
             return f"{case}({whole(self.name, held[:-1])})"
         if opened or case not in [it for _, it in self.cases]:
             other = f"; `{case}` is `{case}(NUMBER)`" * (case == self.other)
-            raise Refused(f"`{self.type}` has no case `{said}`{other}")
+            raise Refused(f"`{self.enum}` has no case `{said}`{other}")
         return case
 
     def term(self, value):
         return self.within + value.replace("(", " ").rstrip(")")
 
     def taken(self, row, before):
-        number = row.number(self.bits)
+        return self.case_with(row.number(self.wide))
+
+    def case_with(self, number):
+        """Gives the case that a number says."""
         if number not in dict(self.cases) and self.error:
             raise Answer(self.error)
         return dict(self.cases).get(number, f"{self.other}({number})")
@@ -70,13 +79,13 @@ class Enum(Line):
         if not self.other:
             return []
         again = (f"{self.name}_again", f"{self.s}_of ({self.number}) ≡ {self.value}")
-        return [(self.name, f"{self.number} < 2 ^ {self.bits}"), again]
+        return [(self.name, f"{self.number} < 2 ^ {self.wide}"), again]
 
     def read(self, error):
-        return f"{self.type}::read(reader)"
+        return f"{self.enum}::read(reader)"
 
     def write(self):
-        return f"writer.write::<Bits<{self.bits}>, u{self.width}>(self.{self.name}.number())"
+        return f"writer.write::<Bits<{self.wide}>, u{self.width}>(self.{self.name}.number())"
 
     def binds(self, behind):
         return f"  chain ({self.entry}) (part_then (λ {self.name}. {behind}))" if self.error else super().binds(behind)
@@ -96,34 +105,35 @@ class Enum(Line):
 
     def back(self, behind):
         value = f"(Ok {self.value})" if self.error else self.value
-        shape = f"o {self.width} {self.bits} ({self.number}) {self.s}_of {value}"
+        shape = f"o {self.width} {self.wide} ({self.number}) {self.s}_of {value}"
         return f"made-back _ _ {shape} _ refl {self.small} {self.again} ({behind})"
 
     def found(self, left, behind):
         if not self.error:
-            return f"made-finds _ _ {left} _ {self.bits} {self.order} {self.width} {self.s}_of _ refl refl ({behind})"
-        shape = f"_ _ {left} {self.bits} {self.order} {self.width} {self.s}_of _"
+            return f"made-finds _ _ {left} _ {self.wide} {self.order} {self.width} {self.s}_of _ refl refl ({behind})"
+        shape = f"_ _ {left} {self.wide} {self.order} {self.width} {self.s}_of _"
         return f"part-finds {shape} {self.name} _ refl refl is_{self.index} ({behind})"
 
     def missed(self):
-        shape = f"_ _ {self.bits} {self.bits} {self.order} {self.width} {self.s}_of _"
+        shape = f"_ _ {self.wide} {self.wide} {self.order} {self.width} {self.s}_of _"
         return f"part-misses {shape} {self.error} refl refl differs refl"
 
     # ---- what the module has for it
 
-    def answer(self, module):
-        """Gives what a number answers, in code and in specs."""
+    def answer(self, module, code="", specs=""):
+        """Gives what a number answers, or numbers that answer such values, in code and in specs."""
+        code, specs = code or self.enum, specs or self.enum
         if not self.error:
-            return self.type, self.type
-        return f"Result<{self.type}, {module.error}>", f"(Result {self.type} {module.error})"
+            return code, specs
+        return f"Result<{code}, {module.error}>", f"(Result {specs} {module.error})"
 
     def declares(self, module):
-        out = [f"/// {self.doc or f'A {self.type}.'}", "#[derive(Clone, Copy, Debug, PartialEq)]"]
-        out += [f"pub enum {self.type} {{"]
+        out = [f"/// {self.doc or f'A {self.enum}.'}", "#[derive(Clone, Copy, Debug, PartialEq)]"]
+        out += [f"pub enum {self.enum} {{"]
         for value, case in self.cases:
             out += [f"    /// {value}.", f"    {case},"]
         out += ["    /// Another number.", f"    {self.other}(u{self.width}),"] if self.other else []
-        out += ["}", "", f"impl {self.type} {{", *self.of_code(module), *self.number_code(), *self.read_code(module)]
+        out += ["}", "", f"impl {self.enum} {{", *self.of_code(module), *self.number_code(), *self.read_code(module)]
         return [*out, "}", ""]
 
     def of_code(self, module):
@@ -134,14 +144,14 @@ class Enum(Line):
             "    {",
         ]
         for value, case in self.cases:
-            made = f"Ok({self.type}::{case})" if self.error else f"{self.type}::{case}"
+            made = f"Ok({self.enum}::{case})" if self.error else f"{self.enum}::{case}"
             out += [f"        if number == {value} {{", f"            return {made};", "        }"]
-        last = f"Err({module.error}::{self.error})" if self.error else f"{self.type}::{self.other}(number)"
+        last = f"Err({module.error}::{self.error})" if self.error else f"{self.enum}::{self.other}(number)"
         return [*out, f"        {last}", "    }", ""]
 
     def number_code(self):
-        arms = [f"            {self.type}::{case} => {value}," for value, case in self.cases]
-        arms += [f"            {self.type}::{self.other}(number) => number,"] if self.other else []
+        arms = [f"            {self.enum}::{case} => {value}," for value, case in self.cases]
+        arms += [f"            {self.enum}::{self.other}(number) => number,"] if self.other else []
         return [
             "    /// Returns its number.",
             f"    pub fn number(self) -> u{self.width}",
@@ -159,37 +169,45 @@ class Enum(Line):
         error = module.error if self.error else "Error"
         return [
             "    /// Reads its number.",
-            f"    pub fn read<R: BitRead>(reader: &mut R) -> Result<{self.type}, {error}>",
+            f"    pub fn read<R: BitRead>(reader: &mut R) -> Result<{self.enum}, {error}>",
             f"        ensures {{ {reads} ({self.s}_read R.source.order) reader.old result reader.new }}",
             "    {",
-            f"        let number = reader.read::<Bits<{self.bits}>, u{self.width}>()?;",
-            f"        {self.type}::of(number)" if self.error else f"        Ok({self.type}::of(number))",
+            f"        let number = reader.read::<Bits<{self.wide}>, u{self.width}>()?;",
+            f"        {self.enum}::of(number)" if self.error else f"        Ok({self.enum}::of(number))",
             "    }",
         ]
 
     def specs(self, module):
+        return [*self.case_specs(module), *self.read_specs(module)]
+
+    def case_specs(self, module):
+        """Gives the definitions of what a number says, and back."""
         answer = self.answer(module)[1]
         tests = "".join(f"if n == {it} then {f'Ok {case}' if self.error else case} else " for it, case in self.cases)
         out = ["-- what a number says", f"abbrev pub {self.s}_of : ℕ → {answer}"]
         out += [f"{self.s}_of n = {tests}{f'Err {self.error}' if self.error else f'{self.other} n'}", ""]
-        out += ["-- and back", f"abbrev pub {self.s}_number : {self.type} → ℕ"]
+        out += ["-- and back", f"abbrev pub {self.s}_number : {self.enum} → ℕ"]
         out += [f"{self.s}_number {case} = {value}" for value, case in self.cases]
         out += [f"{self.s}_number ({self.other} n) = n"] if self.other else []
-        out += ["", "-- the read of its number", f"abbrev pub {self.s}_read : Order → ReadEntry {answer}"]
-        read = f"chain (unsigned_entry o {self.width} {self.bits}) (λ v. gives ({self.s}_of v))"
-        return [*out, f"{self.s}_read o = {read}", ""]
+        return [*out, ""]
+
+    def read_specs(self, module):
+        """Gives the definition of the read."""
+        head = f"abbrev pub {self.s}_read : Order → ReadEntry {self.answer(module)[1]}"
+        read = f"chain (unsigned_entry o {self.width} {self.wide}) (λ v. gives ({self.s}_of v))"
+        return ["-- the read of its number", head, f"{self.s}_read o = {read}", ""]
 
     def lemmas(self, module):
         if self.other:
             return []
         out = ["-- the number of each case fits its bits, and says that case"]
-        out += [f"{self.s}_small : (it : {self.type}) → {self.s}_number it < 2 ^ {self.bits}"]
+        out += [f"{self.s}_small : (it : {self.enum}) → {self.s}_number it < 2 ^ {self.wide}"]
         out += [f"{self.s}_small {case} = omega arith" for _, case in self.cases]
-        out += ["", f"{self.s}_again : (it : {self.type}) → {self.s}_of ({self.s}_number it) ≡ Ok it"]
+        out += ["", f"{self.s}_again : (it : {self.enum}) → {self.s}_of ({self.s}_number it) ≡ Ok it"]
         return out + [f"{self.s}_again {case} = refl" for _, case in self.cases] + [""]
 
     def answers(self, module):
-        goals = f"use {module.goals}.{self.type}"
+        goals = f"use {module.goals}.{self.enum}"
         tests = [(f"if-number-eq{value}", value) for value, _ in self.cases]
         misses = [f"ne_eqb _ {value} c.{label}.false" for label, value in tests]
         of = [f"{goals}.of.Goals as goal", ""]
@@ -202,25 +220,198 @@ class Enum(Line):
         for case in self.case_names()[1:]:
             goal = f"returns-in-{case}"
             numbers += [f"pub {goal} : goal.{goal}", f"{goal} c = rw c.in-{case}.is refl", ""]
-        return {f"{self.type}/of": of, f"{self.type}/number": numbers, f"{self.type}/read": self.read_answers(goals)}
+        return {f"{self.enum}/of": of, f"{self.enum}/number": numbers} | self.reads_answers(goals)
 
-    def read_answers(self, goals):
+    def reads_answers(self, goals):
+        """Gives the answers of the reads, by the function."""
+        return {f"{self.enum}/read": self.read_answers(goals, "read", "number", "of")}
+
+    def read_answers(self, goals, read, name, made):
+        """Gives those of a function that reads what NAME is, and returns what is MADE of it."""
         steps = ("next_own_read _", "own_end _ _", "exit_own_read _")
         first, end, stop = steps if self.error else ("Reads-chain-ok _ _", "Reads-gives _ _", "exit _ _")
         return [
-            f"{goals}.read.Goals as goal",
+            f"{goals}.{read}.Goals as goal",
             "",
-            "pub returns-in_err-number : goal.returns-in_err-number",
-            f"returns-in_err-number g c = {stop} c.from_residual.ensures.1 c.in_err-number.ensures.reads",
+            f"pub returns-in_err-{name} : goal.returns-in_err-{name}",
+            f"returns-in_err-{name} g c = {stop} c.from_residual.ensures.1 c.in_err-{name}.ensures.reads",
             "",
             "pub returns : goal.returns",
-            f"returns g c = {first} c.in_ok-number.ensures.reads (rw c.of.ensures ({end}))",
+            f"returns g c = {first} c.in_ok-{name}.ensures.reads (rw c.{made}.ensures ({end}))",
         ]
 
     def names(self, module):
-        base = f"{module.declared}.{self.type}"
+        base = f"{module.declared}.{self.enum}"
         own = {module.specs_path: " ".join(f"{self.s}_{it}" for it in ("of", "number", "read"))}
-        return {base: self.type, f"{base}.TheVariants": " ".join(self.case_names()[1:])} | own
+        return {base: self.enum, f"{base}.TheVariants": " ".join(self.case_names()[1:])} | own
 
     def lemma_names(self, module):
         return {module.lemmas_path: f"{self.s}_small {self.s}_again"}
+
+
+class EachOfEnum(WrittenInLoop, Enum):
+    """Values of an enum, one behind the other: of an array or a list."""
+
+    many = True
+
+    ok = property(lambda self: "(λ x. Ok x)" if self.error else "(λ x. x)")
+    item_writes = property(lambda self: f"λ x. unsigned o {self.width} {self.wide} ({self.s}_number x) ∷ []")
+    word = property(lambda self: f"flat_map ({self.item_writes}) {self.value}")
+
+    @property
+    def shape(self):
+        known = f"(all-made {self.wide} {self.s}_of {self.s}_small {self.s}_again {self.value})"
+        known = f"fits.{self.name}" if self.other else known
+        return f"o {self.width} {self.wide} {self.s}_number {self.s}_of {self.ok} {self.value} refl {known}"
+
+    def write_item(self):
+        return f"writer.write::<Bits<{self.wide}>, u{self.width}>(item.number())"
+
+    def wrote(self, arm):
+        return f"(rw c.number.ensures at {super().wrote(arm)})"
+
+    def fits(self):
+        again = f"{self.s}_of ({self.s}_number x) ≡ x"
+        fits = f"All (λ x. ({self.s}_number x < 2 ^ {self.wide}) × ({again})) {self.value}"
+        return [(self.name, fits)] if self.other else []
+
+    def given(self, said):
+        return [self.case_of(it) for it in listed(self.name, said, "[CASE CASE]")]
+
+    def term(self, value):
+        return list_term(value, lambda it: f"({Enum.term(self, it)})")
+
+
+class EnumItems(EachOfEnum):
+    """A line NAME enum TYPE BITS x COUNT: NUMBER CASE, .. [, .. CASE]; DOC. Each says a case once all numbers are read."""
+
+    unfolds, long = ("unsigned", "unsigned_entry", "items_entry"), 6
+
+    def __init__(self, name, words, said):
+        super().__init__(name, words, said)
+        self.item, self.count = self.enum, number(words[4], 1, 4096, "the number of items")
+        self.type, self.kind = f"[{self.enum}; {self.count}]", f"List {self.enum}"
+
+    bits = property(lambda self: self.wide * self.count)
+    entry = property(lambda self: f"{self.s}_read_each o")
+    written = property(lambda self: f"packs-made {self.shape} {self.count} fits.{self.name}_count")
+
+    def read(self, error):
+        return f"{self.enum}::read_each(reader)"
+
+    def fits(self):
+        return [(f"{self.name}_count", f"length {self.value} ≡ {self.count}"), *super().fits()]
+
+    def made(self, bits):
+        return f"{self.s}_each (map (number {self.order}) (words {self.wide} {self.count} ({bits})))"
+
+    def back(self, behind):
+        whole, answer, said = f"(λ (x : List {self.enum}). x)", self.value, f"(map-id {self.value})"
+        if self.error:
+            whole, answer, said = "all_ok", f"(Ok {self.value})", f"(all_ok-items {self.value})"
+        whole = f"{self.count} {whole} {answer} _ fits.{self.name}_count {said}"
+        return f"made_items-back {self.shape} _ _ {whole} ({behind})"
+
+    def found(self, left, behind):
+        shape = f"_ _ {left} {self.wide} {self.count} {self.order} {self.width} {self.s}_each _"
+        if not self.error:
+            return f"made_items-finds {shape} _ refl refl ({behind})"
+        return f"part_items-finds {shape} {self.name} _ refl refl is_{self.index} ({behind})"
+
+    def missed(self):
+        shape = f"_ _ {self.bits} {self.wide} {self.count} {self.order} {self.width} {self.s}_each _"
+        return f"part_items-misses {shape} {self.error} refl refl differs refl"
+
+    def given(self, said):
+        return of_size(self.name, super().given(said), self.count, "items")
+
+    def taken(self, row, before):
+        return [self.case_with(it) for it in [row.number(self.wide) for _ in range(self.count)]]
+
+    def read_code(self, module):
+        error, numbers = module.error if self.error else "Error", f"[u{self.width}; {self.count}]"
+        reads = f"ReadsOwn R.source becomes_{module.m}" if self.error else "Reads R.source"
+        first = self.cases[0][1] if self.cases else f"{self.other}(0)"
+        each = f"{self.enum}::each(numbers)"
+        return [
+            f"    /// Returns what each number says{', or the error if one says no case' * bool(self.error)}.",
+            f"    pub fn each(numbers: {numbers}) -> {self.answer(module, self.type)[0]}",
+            f"        ensures {{ result ≡ {self.s}_each numbers }}",
+            "    {",
+            f"        let mut found = [{self.enum}::{first}; {self.count}];",
+            f"        for i in 0..{self.count} {{",
+            f"            found[i] = {self.enum}::of(numbers[i]){'?' * bool(self.error)};",
+            "        }",
+            f"        {'Ok(found)' if self.error else 'found'}",
+            "    }",
+            "",
+            f"    /// Reads {self.count} numbers, and then returns what they say.",
+            f"    pub fn read_each<R: BitRead>(reader: &mut R) -> Result<{self.type}, {error}>",
+            f"        ensures {{ {reads} ({self.s}_read_each R.source.order) reader.old result reader.new }}",
+            "    {",
+            f"        let numbers = reader.read::<Bits<{self.wide}>, {numbers}>()?;",
+            f"        {each if self.error else f'Ok({each})'}",
+            "    }",
+        ]
+
+    def declares(self, module):
+        return [*super().declares(module), *self.write_code()]
+
+    def read_specs(self, module):
+        each, answer = f"map {self.s}_of numbers", self.answer(module, specs=f"(List {self.enum})")[1]
+        read = f"items_entry (unsigned_entry o {self.width} {self.wide}) {self.count}"
+        return [
+            "-- what each number says",
+            f"abbrev pub {self.s}_each : List ℕ → {answer}",
+            f"{self.s}_each numbers = {f'all_ok ({each})' if self.error else each}",
+            "",
+            f"-- the read of {self.count} numbers",
+            f"abbrev pub {self.s}_read_each : Order → ReadEntry {answer}",
+            f"{self.s}_read_each o = chain ({read}) (λ v. gives ({self.s}_each v))",
+            "",
+        ]
+
+    def invariants(self, module):
+        made = f"map {self.s}_of (take l.i l.numbers) ≡ map {self.ok} (take l.i l.found)"
+        return self.write_invariants(module) | {
+            f"{self.enum}/each": [
+                f"use {module.goals}.{self.enum}.each.Given as goal",
+                "-- the items so far are what their numbers say",
+                "abbrev pub invariant-loop-i : goal.invariant-loop-i",
+                f"invariant-loop-i l = ({made}) × (length l.found ≡ {self.count})",
+            ]
+        }
+
+    def answers(self, module):
+        return super().answers(module) | self.write_answers(module)
+
+    def reads_answers(self, goals):
+        read = self.read_answers(goals, "read_each", "numbers", "each")
+        return {f"{self.enum}/read_each": read, f"{self.enum}/each": self.each_answers(goals)}
+
+    def each_answers(self, goals):
+        """Gives the answers of the loop that makes the cases."""
+        inside = "(omega (arith, c.loop-i.invariant.1))"
+        said = "c.in_ok-found.ensures" if self.error else "c.of.ensures"
+        put = f"made-put {self.s}_of {self.ok} c.args.numbers _ _ _ _ {inside} {inside} c.loop-i.invariant.0 (sym {said})"
+        all_made = f"made-all {self.s}_of {self.ok} c.args.numbers _ _ {inside} {inside} c.loop-i.invariant.0"
+        out = [f"{goals}.each.Goals as goal", "", "pub loop-i-init : goal.loop-i-init"]
+        out += ["loop-i-init c = (refl, refl)", ""]
+        out += ["pub loop-i-preserved : goal.loop-i-preserved"]
+        out += [f"loop-i-preserved c = ({put}, simp length-set c.loop-i.invariant.1)", ""]
+        if not self.error:
+            return [*out, "pub returns : goal.returns", f"returns c = sym ({all_made} ∙ map-id _)"]
+        stop = f"made-stop {self.s}_of c.args.numbers _ _ _ _ {inside} c.loop-i.invariant.0 (sym c.in_err-found.ensures)"
+        out += ["pub returns-in_err-found : goal.returns-in_err-found"]
+        out += [f"returns-in_err-found c = is_error _ _ c.from_residual.ensures.1 ∙ sym ({stop})", ""]
+        return [*out, "pub returns : goal.returns", f"returns c = sym (ap all_ok ({all_made}) ∙ all_ok-items _)"]
+
+    def names(self, module):
+        own = " ".join(f"{self.s}_{it}" for it in ("of", "number", "each", "read_each"))
+        return super().names(module) | {module.specs_path: own}
+
+
+@kind("enum", form="`NAME enum TYPE BITS: NUMBER CASE, ..; DOC` or `NAME enum TYPE BITS x COUNT: NUMBER CASE, ..; DOC`")
+def enum(name, words, said):
+    """A line NAME enum TYPE BITS [x COUNT]: NUMBER CASE, ..; DOC."""
+    return (EnumItems if words[3:4] == ["x"] else Enum)(name, words, said)

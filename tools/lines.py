@@ -52,6 +52,7 @@ class Line:
     clause = ""  # the name of the clause that says so
     many = False  # whether `word` is a list of writes, and not one
     grows = False  # whether its read asks for memory
+    outer = ""  # the format's error
     kind = "ℕ"  # the type of its value in specs
     imports = ()  # paths that the code uses
     copies = ""  # the module of `bitstream_callers` that the crate needs a copy of
@@ -72,6 +73,11 @@ class Line:
     def view(self):
         """Gives what contracts see of the field."""
         return self.value
+
+    @property
+    def stops(self):
+        """Whether its read may answer an error of the format's own, behind which nothing is read."""
+        return bool(self.error)
 
     @property
     def size(self):

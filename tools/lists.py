@@ -1,6 +1,8 @@
 """Lists, whose number of items is read before them: each is a `Vec` of the format's own."""
 import examples
+from enums import EachOfEnum, Enum
 from lines import Line, list_term, signed_term, starts
+from loops import WrittenInLoop, placed
 from parts import Part
 from source import Refused, number
 from varying import WHOLE
@@ -34,12 +36,11 @@ class Count(Line):
         return f"unsigned-back o {self.bits} _ _ 64 ({self.length}) _ refl fits.{self.name} ({behind})"
 
 
-class Listed(Line):
-    """A line list NAME ..: as many items as were counted before."""
+class Listed(WrittenInLoop, Line):
+    """A line list NAME ..: as many items as were counted before. If an item may be refused, the list ends there."""
 
     many = grows = True
     reads = "c.in_{}-read.ensures.reads"  # the clause of the read of an item
-    writes = "c.in_{}-write.ensures.writes"  # and of its write
     each = ""  # what is said of each item
 
     def check(self, before):
@@ -51,7 +52,8 @@ class Listed(Line):
     more = property(lambda self: f"Fewer than 2^{self.bits_of_count}{self.each}.")
     view = property(lambda self: f"value.{self.name}.items")
     count = property(lambda self: f"length {self.value}")
-    entry = property(lambda self: f"items_entry ({self.item_entry}) {self.name}_count")
+    all_items = property(lambda self: "parts_entry" if self.error else "items_entry")
+    entry = property(lambda self: f"{self.all_items} ({self.item_entry}) {self.name}_count")
     word = property(lambda self: f"flat_map ({self.item_writes}) {self.value}")
 
     def said(self):
@@ -60,20 +62,43 @@ class Listed(Line):
     def read(self, error):
         return f"read_{self.name}(reader, alloc, {self.name}_count)"
 
-    def write(self):
-        return f"write_{self.name}(writer, &self.{self.name})"
-
-    def placed(self, text, order):
-        """Gives a term of specs for an order that is no variable `o`."""
-        return " ".join(order if it == "o" else it for it in text.split(" "))
+    def binds(self, behind):
+        if self.error:
+            return f"  chain ({self.entry}) (part_then (λ {self.name}. {behind}))"
+        return super().binds(behind)
 
     def declares(self, module):
-        entry = self.placed(self.item_entry, "R.source.order")
-        writes = self.placed(self.item_writes, "W.sink.order")
+        return [*self.refused_memory(module), *self.list_code(module), *self.write_code()]
+
+    def refused_memory(self, module):
+        """Gives what becomes of memory that is refused to a list whose function has the format's errors."""
+        if not self.error or next(it for it in module.lines if isinstance(it, Listed) and it.error) is not self:
+            return []
+        return [
+            f"impl<T: Drop> From<AllocFailed<T>> for {module.error} {{",
+            "    ghost from_gives = { λ _ own. own ≡ Reader OutOfMemory };",
+            "",
+            f"    fn from(_refused: AllocFailed<T>) -> {module.error} {{",
+            f"        {module.error}::Reader(Error::OutOfMemory)",
+            "    }",
+            "}",
+            "",
+        ]
+
+    @property
+    def imports(self):
+        return ("std::alloc::AllocFailed",) if self.error else ()
+
+    def list_code(self, module):
+        entry = f"({self.all_items} ({placed(self.item_entry, 'R.source.order')}) count)"
+        error = module.error if self.error else "Error"
+        reads = f"GrowsOwn R.source {module.becomes_name}" if self.error else "GrowingOutcome R.source"
+        last = ["/// One that is refused is the last that is read."] * bool(self.error)
         return [
             f"/// Reads so many items of `{self.name}`. If memory for one is refused, that one is read, and no more.",
-            f"fn read_{self.name}<R: BitRead>(reader: &mut R, alloc: Global, count: u64) -> Result<{self.type}, Error>",
-            f"    ensures {{ GrowingOutcome R.source (items_entry ({entry}) count)",
+            *last,
+            f"fn read_{self.name}<R: BitRead>(reader: &mut R, alloc: Global, count: u64) -> Result<{self.type}, {error}>",
+            f"    ensures {{ {reads} {entry}",
             "        reader.old (seen (λ found. found.items) result) reader.new }",
             "{",
             "    let mut found = Vec::new(alloc);",
@@ -83,42 +108,21 @@ class Listed(Line):
             "    Ok(found)",
             "}",
             "",
-            f"/// Writes the items of `{self.name}`.",
-            f"fn write_{self.name}<W: BitWrite>(writer: &mut W, items: &[{self.item}]) -> Result<(), Error>",
-            f"    ensures {{ WritesAll W.sink (flat_map ({writes}) items.now)",
-            "        writer.old result writer.new }",
-            "{",
-            "    for item in items {",
-            f"        {self.write_item()}?;",
-            "    }",
-            "    Ok(())",
-            "}",
-            "",
         ]
 
     def invariants(self, module):
         """Gives the loops' invariants, by the function."""
-        read, write = f"read_{self.name}", f"write_{self.name}"
-        return {
-            read: [
-                f"use {module.goals}.{read}.Given as goal",
-                "-- the items so far were read",
-                "abbrev pub invariant-loop : goal.invariant-loop",
-                "invariant-loop g l =",
-                "    let K = g.R.BitRead.source in",
-                f"    ItemsRead K ({self.placed(self.item_entry, 'K.order')}) l.counter l.initial.reader l.found.items"
-                " l.reader",
-            ],
-            write: [
-                f"use {module.goals}.{write}.Given as goal",
-                "-- the items so far were written",
-                "abbrev pub invariant-loop-item : goal.invariant-loop-item",
-                "invariant-loop-item g l =",
-                "    let K = g.W.BitWrite.sink in",
-                f"    ItemsWritten K ({self.placed(self.item_writes, 'K.order')}) l.items l.item-index"
-                " l.initial.writer l.writer",
-            ],
-        }
+        read = f"read_{self.name}"
+        so_far = f"PartsRead K {module.becomes_name}" if self.error else "ItemsRead K"
+        lines = [
+            f"use {module.goals}.{read}.Given as goal",
+            "-- the items so far were read",
+            "abbrev pub invariant-loop : goal.invariant-loop",
+            "invariant-loop g l =",
+            "    let K = g.R.BitRead.source in",
+            f"    {so_far} ({placed(self.item_entry, 'K.order')}) l.counter l.initial.reader l.found.items l.reader",
+        ]
+        return {read: lines} | self.write_invariants(module)
 
     def pushed(self):
         """Gives what is known of the list with one item more."""
@@ -127,18 +131,15 @@ class Listed(Line):
     def taken(self, row, before):
         return [self.taken_item(row) for _ in range(before[f"{self.name}_count"])]
 
-    def wrote(self, arm):
-        """Gives what is known of the write of an item."""
-        return self.writes.format(arm)
-
     def answers(self, module):
-        return {f"read_{self.name}": self.read_answers(module), f"write_{self.name}": self.write_answers(module)}
+        found = self.own_answers() if self.error else self.list_answers()
+        goals = f"use {module.goals}.read_{self.name}.Goals as goal"
+        return {f"read_{self.name}": [goals, *found]} | self.write_answers(module)
 
-    def read_answers(self, module):
+    def list_answers(self):
         pushed = "items-push _ _ {} c.loop.invariant " + self.reads.format("ok")
         residual = "c.from_residual-in_err-push"
         return [
-            f"use {module.goals}.read_{self.name}.Goals as goal",
             "",
             "pub loop-init : goal.loop-init",
             "loop-init g c = items-begin _ c.new-found.ensures.items",
@@ -159,22 +160,45 @@ class Listed(Line):
             "",
             "pub returns : goal.returns",
             "returns g c =",
-            "    let all : c.loop.counter ≡ c.args.count = omega (arith, c.loop-test.false, c.loop.auto.counter-end) in",
+            f"    {self.COUNTED}",
             "    grown (rw (← all) c.loop.invariant)",
         ]
 
-    def write_answers(self, module):
-        sink = "g.W.BitWrite.sink"
-        calls = f"({self.placed(self.item_writes, 'K.order')})"
-        lines = [f"use {module.goals}.write_{self.name}.Goals as goal", ""]
-        lines += ["pub loop-item-init : goal.loop-item-init", f"loop-item-init g c = let K = {sink} in"]
-        lines += [f"    written-begin K {calls} c.args.items.now _", ""]
-        lines += ["pub returns-in_err-write : goal.returns-in_err-write", "returns-in_err-write g c ="]
-        lines += [f"    let K = {sink} in", f"    written-stop K {calls} c.args.items.now _ _ _ _ _ _ _ _"]
-        lines += [f"    c.loop-item-test.true refl c.loop-item.invariant {self.wrote('err')} c.from_residual.ensures.1"]
-        lines += ["", "pub loop-item-preserved : goal.loop-item-preserved", "loop-item-preserved g c ="]
-        lines += [f"    let K = {sink} in", f"    written-more K {calls} c.args.items.now _ _ _ _ _ _"]
-        return lines + [f"    c.loop-item-test.true refl c.loop-item.invariant {self.wrote('ok')}"]
+    COUNTED = "let all : c.loop.counter ≡ c.args.count = omega (arith, c.loop-test.false, c.loop.auto.counter-end) in"
+
+    def own_read(self, arm):
+        """Gives what is known of the read of an item that may be refused."""
+        return f"(if_grown false {self.reads.format(arm)})"
+
+    def own_answers(self):
+        """Gives the answers of a list whose items may be refused."""
+        item = f"({placed(self.item_entry, 'g.R.BitRead.source.order')})"
+        pushed = f"parts-push {item} _ {{}} c.loop.invariant {self.own_read('ok')}"
+        stopped = "rw (own_seen_err _ c.{0}.result c.{0}.ensures.1)"
+        return [
+            "",
+            "pub loop-init : goal.loop-init",
+            "loop-init g c = parts-begin _ c.new-found.ensures.items",
+            "",
+            "pub returns-in_err-read : goal.returns-in_err-read",
+            "returns-in_err-read g c =",
+            f"    {stopped.format('from_residual')} (parts-stop {item} _ c.args.count c.loop-test.true c.loop.invariant"
+            f" {self.own_read('err')})",
+            "",
+            "pub returns-in_err-push : goal.returns-in_err-push",
+            "returns-in_err-push g c =",
+            f"    {stopped.format('from_residual-in_err-push')}",
+            f"    (parts-refused {item} (c.loop.counter + 1) c.args.count (omega (arith, c.loop-test.true))",
+            f"    ({pushed.format('refl')}) refl)",
+            "",
+            "pub loop-preserved : goal.loop-preserved",
+            f"loop-preserved g c = {pushed.format(self.pushed())}",
+            "",
+            "pub returns : goal.returns",
+            "returns g c =",
+            f"    {self.COUNTED}",
+            "    rw (← all) c.loop.invariant",
+        ]
 
 
 class Numbers(Listed):
@@ -299,11 +323,52 @@ class Bytes(Listed):
         return {}
 
 
+class Enums(Listed, EachOfEnum):
+    """A line list NAME enum TYPE BITS: NUMBER CASE, .. [, .. CASE]; DOC."""
+
+    reads, long = "c.in_{}-read.ensures", 5
+    unfolds = property(lambda self: ("unsigned", "unsigned_entry", self.all_items))
+    bits = None
+
+    def __init__(self, words, said):
+        Enum.__init__(self, words[1], words[2:], said)
+        self.item, self.type, self.kind = self.enum, f"Vec<{self.enum}>", f"List {self.enum}"
+
+    size = property(lambda self: f"{self.count} * {self.wide}")
+    item_entry = property(lambda self: f"{self.s}_read o")
+
+    def read_item(self):
+        return f"{self.enum}::read(reader)"
+
+    def back(self, behind):
+        lemma = "each_part-back" if self.error else "each-back"
+        shape = f"({self.item_entry}) ({self.item_writes}) ({self.count}) {self.value}"
+        return f"{lemma} _ _ {shape} _ refl (made-each {self.shape}) ({behind})"
+
+    written = property(lambda self: f"packs-made {self.shape} ({self.count}) refl")
+
+    def declares(self, module):
+        return [*Enum.declares(self, module), *Listed.declares(self, module)]
+
+    def answers(self, module):
+        return Enum.answers(self, module) | Listed.answers(self, module)
+
+    def taken_item(self, row):
+        return Enum.taken(self, row, {})
+
+
 class Parts(Listed, Part):
     """A line list NAME TYPE of MODULE: parts that have a description of their own."""
 
     reads, writes, counts, long = "c.in_{}-read.ensures", "c.in_{}-write.ensures", False, 5
-    own_errors = False
+    may_grow = False
+
+    stops = property(lambda self: bool(self.theirs))
+    mapped = stops
+
+    def settle(self):
+        super().settle()
+        self.grows = True
 
     def __init__(self, words, doc):
         Part.__init__(self, words[1:], doc)
@@ -311,11 +376,19 @@ class Parts(Listed, Part):
 
     @property
     def unfolds(self):
-        return ["items_entry", *super().unfolds]
+        return [self.all_items, *super().unfolds]
 
     size = property(lambda self: f"parts_size ({self.module}_size o) {self.value}")
-    item_entry = property(lambda self: f"{self.module}_entry o")
+    item_entry = property(lambda self: self.here)
     item_writes = property(lambda self: f"{self.module}_writes o")
+
+    @property
+    def imports(self):
+        return Part.imports.fget(self) + Listed.imports.fget(self)
+
+    def own_read(self, arm):
+        value, shown = ("(Ok _)", "absurd is") if arm == "ok" else ("(Err _)", "rw is refl")
+        return f"(if_grown false (own_made _ {value} {self.reads.format(arm)} (λ error is. {shown})))"
 
     def each_is(self, says, term):
         """Gives the term that each item is something, of one that it is if it fits its bits."""
@@ -336,10 +409,16 @@ class Parts(Listed, Part):
         return [(self.name, f"All {self.part}Fits {self.value}")]
 
     def back(self, behind):
-        read = f"IsReadAs ({self.module}_writes o x) ({self.module}_entry o) x"
-        all_back = self.each_is(read, f"λ x is. ({self.module}_goes o x is).back")
-        shape = f"({self.module}_entry o) ({self.module}_writes o) ({self.count}) {self.value}"
-        return f"each-back _ _ {shape} _ refl {all_back} ({behind})"
+        read = f"IsReadAs ({self.module}_writes o x) ({self.here}) {self.answered('x')}"
+        all_back = self.each_is(read, f"λ x is. {self.is_read('x', 'is')}")
+        shape = f"({self.here}) ({self.module}_writes o) ({self.count}) {self.value}"
+        return f"{'each_part-back' if self.error else 'each-back'} _ _ {shape} _ refl {all_back} ({behind})"
+
+    def declares(self, module):
+        return [*Part.declares(self, module), *Listed.declares(self, module)]
+
+    def answers(self, module):
+        return Part.answers(self, module) | Listed.answers(self, module)
 
     def given(self, said):
         return [Part.given(self, it) for it in examples.listed(self.name, said, "[(FIELD = VALUE, ..) ..]")]
@@ -351,13 +430,13 @@ class Parts(Listed, Part):
         return Part.taken(self, row, {})
 
 
-@starts("list", "`list NAME TYPE BITS`, `list NAME bytes` or `list NAME TYPE of MODULE`")
+@starts("list", "`list NAME TYPE BITS`, `list NAME bytes`, `list NAME enum TYPE BITS: ..` or `list NAME TYPE of MODULE`")
 def listed(words, doc):
-    """A line list NAME TYPE BITS, list NAME bytes, or list NAME TYPE of MODULE."""
+    """A line list NAME TYPE BITS, list NAME bytes, list NAME enum TYPE BITS: .., or list NAME TYPE of MODULE."""
     if words[3:4] == ["of"]:
         return Parts(words, doc)
-    if words[2] == "bytes":
-        return Bytes(words, doc)
+    if words[2] in ("bytes", "enum"):
+        return (Bytes if words[2] == "bytes" else Enums)(words, doc)
     if words[2] not in WHOLE:
-        raise Refused(f"`{words[2]}` in a list: take u8 to u128, i8 to i128, bytes, or a part")
+        raise Refused(f"`{words[2]}` in a list: take u8 to u128, i8 to i128, bytes, an enum, or a part")
     return (Numbers if words[2][0] == "u" else SignedNumbers)(words, doc)

@@ -62,7 +62,7 @@ class Module(Code, Specs, Proofs):
         parts, ends = [[]], [it[-1] for it in self.pieces()[:-1]]
         for it in self.lines:
             parts[-1].append(it)
-            if it.error or it in ends:
+            if it.stops or it in ends:
                 parts.append([])
         return parts
 

@@ -38,10 +38,11 @@ Rattle.bitstream_io.specs.Callers: ← ReadEntry WriteEntry Takes gives Error En
     bytes_entry bytes_of skip_entry vbr_entry any_vbr_entry signed_vbr_entry any_signed_vbr_entry items_entry
     option_entry plain bit unsigned signed unary_word buffer zeros align vbr signed_vbr non_zero write_run words
     Reads ReadsOwn OwnAnswer WritesAll sure_answer GrowsOwn OutOfMemory seen
-    same_error plain_reads part_then if_any number_or_zero optional optional_writes optional_size
+    same_error plain_reads part_then parts_entry all_ok if_any number_or_zero optional own_optional optional_writes
+    optional_size
     non_zero_u8 non_zero_u16 non_zero_u32 non_zero_u64 non_zero_u128
     non_zero_u8_entry non_zero_u16_entry non_zero_u32_entry non_zero_u64_entry non_zero_u128_entry
-Rattle.bitstream_io.specs.Grows: GrowingOutcome
+Rattle.bitstream_io.specs.Grows: GrowingOutcome PartsRead
 Rattle.bitstream_io.specs.Loop: parts_size ItemsRead ItemsWritten
 Rattle.bitstream_io.specs.SliceMut: written_bytes
 Rattle.bitstream_io.specs.ReadBack: IsReadAs
@@ -76,10 +77,13 @@ Rattle.bitstream_io.proofs.CallerLemmas: GoesBack Finds Packs inl inr is_error o
     bit-written signed-written unsigned-written bytes-written non_zero-written const-written zeros-written
     unary-written vbr-written packs-none packs-more packs-part packs-items packs-optional
     packs-is packs-room packs-whole packs-parts packs-signed_items each-back signed_items-back signed_items-finds
-    own_grown_answered
+    own_grown_answered if_grown own_made parts-begin parts-push parts-stop parts-refused
     items-begin items-push items-stop items-refused grown written-begin written-more written-stop
     non_zero_u8-again non_zero_u16-again non_zero_u32-again non_zero_u64-again non_zero_u128-again
     option_u8-again option_u16-again option_u32-again option_u64-again option_u128-again
+Rattle.bitstream_io.proofs.EachLemmas: all-made own_seen_err own_optional-back each_part-back made-each packs-made made_items-back
+    made_items-finds part_items-finds part_items-misses all_ok-items made-put made-all made-stop
+Rattle.std.proofs.lemmas.List: map-id length-set
 Rattle.bitstream_io.proofs.SliceLemmas: new_answer
 Rattle.bitstream_io.proofs.ReadsLemmas: seen_err
 Rattle.bitstream_io.proofs.CallsBack: signed_vbr-back any_signed_vbr-back mapped-read

@@ -11,8 +11,8 @@ class Part(Line):
 
     many, long = True, 4
     counts = True  # whether its bits are those of its lines
-    own_errors = True  # whether it may have errors of its own
     theirs, cases = "", ()  # its error, and the cases of that
+    may_grow = True  # whether it may have a list
     some = ""  # what an example says before the fields
     described = ()  # its lines
 
@@ -27,18 +27,17 @@ class Part(Line):
         said = self.find(self.module)
         if said["name"] != self.part:
             raise Refused(f"`{self.module}` describes `{said['name']}`, and not `{self.part}`")
-        if said["error"] and not self.own_errors:
-            raise Refused(f"`{self.part}` has errors of its own, so it stands neither in a list nor behind a condition")
         self.described = said["lines"]
-        if any(it.grows for it in self.described):
-            raise Refused(f"`{self.part}` has a list: read it by hand")
+        self.grows = any(it.grows for it in self.described)
+        if self.grows and not self.may_grow:
+            raise Refused(f"`{self.part}` has a list, so it stands neither in a list nor behind a condition")
         for it in self.described:
             it.within = self.part
         if said["error"]:
             tests = [it for it in said["lines"] if it.error]
             self.theirs, self.error, self.counts = said["error"], f"In{self.part}", False
             self.cases = list({it.error: it.theirs for it in tests}.items())
-        if self.counts:
+        if self.counts and not self.grows:
             self.inner, self.bits = said["lines"], said["total"]
             self.stand(self.at or 0, self.order)
 
@@ -53,7 +52,12 @@ class Part(Line):
         names = f"{{{self.part}, {self.theirs}}}" if self.theirs else self.part
         return (f"crate::{self.module}::{names}",)
 
-    entry = property(lambda self: f"{self.module}_{'here' if self.theirs else 'entry'} o")
+    # whether its read has errors of its own, or tells that memory was refused
+    stops = property(lambda self: bool(self.theirs) or self.grows)
+    # whether its errors become those of the format
+    mapped = property(lambda self: bool(self.theirs or self.grows and self.outer))
+    here = property(lambda self: f"{self.module}_{'here' if self.mapped else 'entry'} o")
+    entry = here
     word = property(lambda self: f"{self.module}_writes o {self.value}")
     size = property(lambda self: f"{self.module}_size o {self.value}")
     written = property(lambda self: f"{self.module}_packs o {self.value} fits.{self.name}")
@@ -62,7 +66,7 @@ class Part(Line):
         return self.part
 
     def read(self, error):
-        return f"{self.part}::read(reader)"
+        return f"{self.part}::read(reader{', alloc' * self.grows})"
 
     def write(self):
         return f"self.{self.name}.write(writer)"
@@ -71,16 +75,25 @@ class Part(Line):
         return f"An error of a `{self.part}` that is not the reader's."
 
     def binds(self, behind):
-        return f"  chain ({self.entry}) (part_then (λ {self.name}. {behind}))" if self.theirs else super().binds(behind)
+        return f"  chain ({self.entry}) (part_then (λ {self.name}. {behind}))" if self.stops else super().binds(behind)
 
     def fits(self):
         return [(self.name, f"{self.part}Fits {self.value}")]
 
+    def answered(self, value):
+        """Gives what its read answers, of what was written."""
+        return f"(Ok {value})" if self.stops else value
+
+    def is_read(self, value, fits):
+        """Gives the term that such a value is read back, of one that it fits its bits."""
+        goes = f"({self.module}_goes o {value} {fits}).back"
+        if not self.mapped:
+            return goes
+        writes, entry = f"({self.module}_writes o {value})", f"({self.module}_entry o)"
+        return f"(mapped-read {self.module}_answer {writes} {entry} (Ok {value}) {goes})"
+
     def back(self, behind):
-        value, goes = self.value, f"({self.module}_goes o {self.value} fits.{self.name}).back"
-        if self.theirs:
-            value = f"(Ok {value})"
-            goes = f"(mapped-read {self.module}_answer ({self.word}) ({self.module}_entry o) {value} {goes})"
+        value, goes = self.answered(self.value), self.is_read(self.value, f"fits.{self.name}")
         return f"part-back ({self.entry}) _ ({self.word}) _ {value} _ {goes} ({behind})"
 
     def place_in(self, bits):
@@ -120,15 +133,16 @@ class Part(Line):
         found = {}
         for it in self.described:
             if isinstance(it, Enum):
-                path = f"Rattle.{module.crate}.specs.declared.{self.module}.{it.type}.TheVariants"
+                path = f"Rattle.{module.crate}.specs.declared.{self.module}.{it.enum}.TheVariants"
                 found[path] = " ".join(f"{case}={self.part}{case}" for case in it.case_names()[1:])
             if isinstance(it, Part):
                 found = merged(found, it.row_names(module))
         return found
 
-    def is_first(self, module):
-        """Whether no line before it is read by the same function."""
-        return next(it for it in module.lines if isinstance(it, Part) and it.function == self.function) is self
+    def is_first(self, module, what="module"):
+        """Whether no line before it has the same part, or is read by the same function."""
+        alike = [it for it in module.lines if isinstance(it, Part) and getattr(it, what) == getattr(self, what)]
+        return alike[0] is self
 
     def names(self, module):
         base = f"Rattle.{module.crate}.specs.declared.{self.module}"
@@ -141,6 +155,7 @@ class Part(Line):
             found[f"{base}.{self.theirs}"] = self.theirs
             cases = ["Reader", *[case for case, _ in self.cases]]
             found[f"{base}.{self.theirs}.TheVariants"] = " ".join(f"{it}={self.part}{it}" for it in cases)
+        if self.mapped:
             found[module.specs_path] = " ".join(f"{self.module}_{it}" for it in ("error", "answer", "here"))
         return found
 
@@ -172,15 +187,16 @@ class Part(Line):
         ]
 
     def specs(self, module):
-        if not self.theirs or not self.is_first(module):
+        if not self.mapped or not self.is_first(module):
             return []
+        theirs = self.theirs or "Error"
         out = [f"-- an error of a `{self.part}`, as one of the type's"]
-        out += [f"abbrev pub {self.module}_error : {self.theirs} → {module.error}"]
-        out += [f"{self.module}_error ({self.part}Reader error) = Reader error"]
+        out += [f"abbrev pub {self.module}_error : {theirs} → {module.error}"]
+        out += [f"{self.module}_error {f'({self.part}Reader error)' if self.theirs else 'error'} = Reader error"]
         for case, held in self.cases:
             said = f"({self.part}{case} error)" if held else f"{self.part}{case}"
             out.append(f"{self.module}_error {said} = {self.error} {said}")
-        answers = f"Result {self.part} {self.theirs} → Result {self.part} {module.error}"
+        answers = f"Result {self.part} {theirs} → Result {self.part} {module.error}"
         out += ["", "-- and an answer", f"abbrev pub {self.module}_answer : {answers}"]
         out += [f"{self.module}_answer (Ok value) = Ok value"]
         out += [f"{self.module}_answer (Err error) = Err ({self.module}_error error)"]
@@ -203,14 +219,14 @@ class Part(Line):
 class Optional(Part):
     """A part that is there or not: `there` says when, in code, `when` in specs, `known` of the value's own fields."""
 
-    own_errors, some = False, "Some"
+    some, may_grow = "Some", False
 
     def __init__(self, words, doc):
         super().__init__(words, doc)
         self.counts = False
         self.type, self.kind, self.function = f"Option<{self.part}>", f"Option {self.part}", f"{snake(self.part)}_if"
 
-    entry = property(lambda self: f"optional {self.when} ({self.module}_entry o)")
+    entry = property(lambda self: self.if_there(self.when))
     word = property(lambda self: f"optional_writes ({self.module}_writes o) {self.value}")
     size = property(lambda self: f"optional_size ({self.module}_size o) {self.value}")
 
@@ -231,14 +247,19 @@ class Optional(Part):
     def fits(self):
         return [(self.name, f"ForSome {self.value} {self.part}Fits")]
 
+    def if_there(self, there):
+        """Gives what is read of it, of a term that it is there."""
+        return f"{'own_' * bool(self.theirs)}optional {there} ({self.here})"
+
     def goes(self):
         """Gives the term that it is read back."""
-        goes = f"(λ it is. ({self.module}_goes o it (fits.{self.name} it is)).back)"
-        return f"optional-back ({self.module}_entry o) ({self.module}_writes o) {self.value} {goes}"
+        goes = f"(λ it is. {self.is_read('it', f'(fits.{self.name} it is)')})"
+        lemma = "own_optional-back" if self.theirs else "optional-back"
+        return f"{lemma} ({self.here}) ({self.module}_writes o) {self.value} {goes}"
 
     def back(self, behind):
-        entry = f"optional {self.known} ({self.module}_entry o)"
-        return f"part-back ({entry}) _ ({self.word}) _ {self.value} _ {self.name} ({behind})"
+        entry, value = self.if_there(self.known), self.answered(self.value)
+        return f"part-back ({entry}) _ ({self.word}) _ {value} _ {self.name} ({behind})"
 
     def given(self, said):
         return None if said == "None" else Some(super().given(said))
@@ -250,13 +271,18 @@ class Optional(Part):
         return Some(super().taken(row, before)) if self.asks(before) else None
 
     def declares(self, module):
-        if not self.is_first(module):
-            return []
-        part, entry, writes = self.part, f"{self.module}_entry R.source.order", f"{self.module}_writes W.sink.order"
-        return [
+        out = super().declares(module)
+        if not self.is_first(module, "function"):
+            return out
+        part, writes = self.part, f"{self.module}_writes W.sink.order"
+        reads, entry, error = "Reads R.source", f"optional there ({self.module}_entry R.source.order)", "Error"
+        if self.theirs:
+            reads, entry = f"ReadsOwn R.source {module.becomes_name}", f"own_optional there ({self.module}_here R.source.order)"
+            error = module.error
+        return out + [
             f"/// Reads a `{part}` if it is there.",
-            f"fn read_{self.function}<R: BitRead>(reader: &mut R, there: bool) -> Result<Option<{part}>, Error>",
-            f"    ensures {{ Reads R.source (optional there ({entry})) reader.old result reader.new }}",
+            f"fn read_{self.function}<R: BitRead>(reader: &mut R, there: bool) -> Result<Option<{part}>, {error}>",
+            f"    ensures {{ {reads} ({entry}) reader.old result reader.new }}",
             "{",
             "    if !there {",
             "        return Ok(None);",
@@ -277,12 +303,12 @@ class Optional(Part):
         ]
 
     def answers(self, module):
-        if not self.is_first(module):
-            return {}
+        if not self.is_first(module, "function"):
+            return super().answers(module)
         path = f"write_{self.function}"
         goal = f"use {module.goals}.{path}.Goals as goal"
         none = ["pub returns-in-None : goal.returns-in-None", "returns-in-None g c = rw c.in-None.is (all_none _ _)"]
-        return {path: [goal, "", *none]}
+        return super().answers(module) | {path: [goal, "", *none]}
 
     def functions(self):
         return [f"read_{self.function}"]
@@ -352,10 +378,10 @@ class If(Optional):
 
     def check(self, before):
         for it in before:
-            if it.name == self.field and isinstance(it, Enum):
+            if it.name == self.field and isinstance(it, Enum) and it.kind == it.enum:
                 self.enum, self.number = it.s, {case: value for value, case in it.cases}.get(self.asked)
                 if self.number is None:
-                    raise Refused(f"`{self.asked}` is no case of {it.type} with a number of its own")
+                    raise Refused(f"`{self.asked}` is no case of {it.enum} with a number of its own")
                 return
             if it.name == self.field and it.kind == "ℕ":
                 self.number = number(self.asked, 0, 2**128 - 1, "what is asked for")
@@ -377,6 +403,6 @@ class If(Optional):
         return [*super().fits(), (f"{self.name}_there", f"is_some {self.value} ≡ {self.known}")]
 
     def lets(self):
-        read = f"IsReadAs ({self.word}) (optional there ({self.module}_entry o)) {self.value}"
+        read = f"IsReadAs ({self.word}) ({self.if_there('there')}) {self.answered(self.value)}"
         moved = f"subst (λ (there : Bool). {read}) fits.{self.name}_there ({self.goes()})"
         return [f"let {self.name} = {moved} in"]

@@ -9,6 +9,7 @@ UNFOLDS = {
     "unsigned_entry signed_entry const_entry skip_entry unary_entry bytes_entry "
     "groups_entry signed_groups_entry": "ReadTable",
     "items_entry": "Array",
+    "parts_entry": "Grows",
     "non_zero non_zero_entry option_entry": "NonZero",
     "groups groups_at": "Vbr",
 }

@@ -205,7 +205,7 @@ class Code:
 
     def known(self, tests, bits):
         """Gives the premises that these tests hold, behind the cases of their enums."""
-        kinds = " ".join(f"({it.name} : {it.type})" for it in tests if it.type)
+        kinds = " ".join(f"({it.name} : {it.kind})" for it in tests if it.type)
         return [kinds] * bool(kinds) + [it.holds(bits)[0] for it in tests]
 
     def at(self, bits):

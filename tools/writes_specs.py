@@ -47,7 +47,7 @@ class Specs:
             block = [it.binds(behind) for it in part]
             if k == len(parts) - 1:
                 block.append(self.gives())
-            elif not part[-1].error:
+            elif not part[-1].stops:
                 block.append(f"  {behind}")
             refused += bool(part and part[-1].error)
             says = f"{name} o{args} = do"
@@ -108,7 +108,7 @@ class Specs:
 
     def at_places(self):
         kinds = [it for it in self.tests if it.type]
-        arrows, args = "".join(f"{it.type} → " for it in kinds), "".join(f" {it.name}" for it in kinds)
+        arrows, args = "".join(f"{it.kind} → " for it in kinds), "".join(f" {it.name}" for it in kinds)
         fields = [f"  {it.name} = {it.place_in('bits')};" for it in self.fields]
         return [
             "-- the fields that bits say, each by its place",

@@ -502,14 +502,14 @@ bytes-word : (o : Order) (n : ℕ) → IsWord (bytes_entry o n) (8 * n) (λ w. O
 unfolding bytes_entry
 bytes-word o n = record { reads = λ p b. refl }
 
-made-word : {A B : Type 0} (e : ReadEntry A) (n : ℕ) (g : List Bool → A) (f : A → B) → IsWord e n (λ w. Ok (g w))
+pub made-word : {A B : Type 0} (e : ReadEntry A) (n : ℕ) (g : List Bool → A) (f : A → B) → IsWord e n (λ w. Ok (g w))
     → IsWord (chain e (λ a. gives (f a))) n (λ w. Ok (f (g w)))
 unfolding chain
 made-word e n g f h = record {
   reads = λ p b. rw (h.reads p b) ((map_takes n g f (λ w. Ok (f (g w))) (λ w _. refl)).reads p b);
 }
 
-within_of : (n m : ℕ) → nat_le n m ≡ true → n ≤ m
+pub within_of : (n m : ℕ) → nat_le n m ≡ true → n ≤ m
 within_of n m h = grind (arith, nat_tests)
 
 skip-word : (n : ℕ) → IsWord (skip_entry n) n (λ w. Ok tt)
@@ -695,17 +695,22 @@ packs-optional ws size None part = packs-none
 packs-optional ws size (Some a) part = part a refl
 
 -- a value that is made of a number, which gives it back
+pub made-read : {A : Type 0} (o : Order) (size n v : ℕ) (make : ℕ → A) (a : A) → nat_le n size ≡ true → v < 2 ^ n
+    → make v ≡ a → IsReadAs (unsigned o size n v ∷ []) (chain (unsigned_entry o size n) (λ k. gives (make k))) a
+made-read o size n v make a le fits is =
+    let word = unsigned o size n v ∷ [] in
+    let one : IsReadAs word (unsigned_entry o size n) v =
+    subst (IsReadAs word (unsigned_entry o size n)) (value_in-fits n v fits)
+    (unsigned-read o size n v (within_of n size le) (inl fits)) in
+    subst (IsReadAs word (chain (unsigned_entry o size n) (λ k. gives (make k)))) is
+    (mapped-read make word (unsigned_entry o size n) v one)
+
 pub made-back : {A B : Type 0} (es : List WriteEntry) (b : B) (o : Order) (size n v : ℕ) (make : ℕ → A) (a : A)
     (f : A → ReadEntry B) → nat_le n size ≡ true → v < 2 ^ n → make v ≡ a → GoesBack (f a) es b
     → GoesBack (chain (chain (unsigned_entry o size n) (λ k. gives (make k))) f) (unsigned o size n v ∷ es) b
 made-back es b o size n v make a f le fits is behind =
     let e = chain (unsigned_entry o size n) (λ (k : ℕ). gives (make k)) in
-    let one : IsReadAs (unsigned o size n v ∷ []) (unsigned_entry o size n) v =
-    subst (IsReadAs (unsigned o size n v ∷ []) (unsigned_entry o size n)) (value_in-fits n v fits)
-    (unsigned-read o size n v (within_of n size le) (inl fits)) in
-    let made : IsReadAs (unsigned o size n v ∷ []) e a =
-    subst (IsReadAs (unsigned o size n v ∷ []) e) is (mapped-read make (unsigned o size n v ∷ []) (unsigned_entry o size n) v one) in
-    part-back e f (unsigned o size n v ∷ []) es a b made behind
+    part-back e f (unsigned o size n v ∷ []) es a b (made-read o size n v make a le fits is) behind
 
 -- items that are written one by one, of which there are `count`
 pub each-back : {A B : Type 0} (es : List WriteEntry) (b : B) (e : ReadEntry A) (writes : A → List WriteEntry) (count : ℕ)

@@ -1,6 +1,6 @@
 -- What is written is read back, call by call: for each call of the tables but an alignment, which looks at its place.
 -- A caller's proof is `search (calls_go_back, FACTS)`, where the facts say that the values fit.
-use Rattle.std.proofs.Common.{◌≡◌, ◌⊎◌, inl, ℕ, zero, suc, ℤ, pos, ◌+◌, ◌-◌, ◌^◌, ◌<◌, ◌≤◌, ◌==◌, Bool, true, false, List, [], ◌∷◌, ◌++◌, length, replicate, Option, Some, Ok, refl, sym, ap, ◌∙◌, subst, append-nil, append_assoc, length-append, lt_of_le_of_lt, arith}
+use Rattle.std.proofs.Common.{◌≡◌, ◌⊎◌, inl, ℕ, zero, suc, ℤ, pos, ◌+◌, ◌-◌, ◌^◌, ◌<◌, ◌≤◌, ◌==◌, Bool, true, false, List, [], ◌∷◌, ◌++◌, length, replicate, Option, Some, Result, Ok, refl, sym, ap, ◌∙◌, subst, append-nil, append_assoc, length-append, lt_of_le_of_lt, arith}
 use Rattle.std.specs.Prelude.{IfSome, nat_le, nat_lt}
 use Rattle.std.specs.List.{All, AllByRecursion, flat_map}
 use Rattle.std.proofs.Math.Nat.{mod-eq_of_lt}
@@ -21,7 +21,9 @@ use Rattle.bitstream_stream.proofs.Writing.WriteLemmas.{unsigned-const, unsigned
 use Rattle.bitstream_value.specs.Array.{items_entry}
 use Rattle.bitstream_value.specs.Boolean.{truth_entry, truth}
 use Rattle.bitstream_value.specs.Checked.{checked_entry, signed_checked_entry}
+use Rattle.bitstream_value.specs.Grows.{parts_entry}
 use Rattle.bitstream_value.specs.NonZero.{non_zero_entry, non_zero, non_zero_vbr_entry, if_any, option_entry, option_vbr_entry}
+use Rattle.bitstream_value.specs.Own.{part_then}
 use Rattle.bitstream_value.specs.LimitedUnary.{limited_unary, limited_tree}
 use Rattle.bitstream_value.specs.Tree.{Tree, IsPath, first_path, path_entry, bit_by_bit}
 use Rattle.bitstream_value.proofs.BackLemmas.{GoesBack, goes_back}
@@ -179,37 +181,59 @@ module _ {C : Type 0} (count : C) (o : Order) where
       mapped-read (λ (y : ℤ). (count, y)) (plain w ∷ []) (signed_entry o size n) x
       (one-read (plain w) w (λ len. refl) found)
 
--- ---- items, and paths
+-- ---- items, parts, and paths
 
-module _ {A : Type 0} (e : ReadEntry A) (writes : A → List WriteEntry) where
+-- items one behind the other, of which one more is read behind those before it; `ok` is what they are read as
+module _ {A B : Type 0} (writes : A → List WriteEntry) (entry : ℕ → ReadEntry B) (ok : List A → B) (IsOne : A → Type 0) where
   abbrev AreRead : List A → Type 0
-  AreRead xs = IsReadAs (flat_map writes xs) (items_entry e (length xs)) xs
+  AreRead xs = IsReadAs (flat_map writes xs) (entry (length xs)) (ok xs)
 
-  -- an item behind others
-  item-behind : (xs : List A) (y : A) → AreRead xs → IsReadAs (writes y) e y → AreRead (xs ++ y ∷ [])
-  unfolding items_entry
-  item-behind xs y h one =
-      let more : IsReadAs (writes y) (chain e (λ item. gives (xs ++ item ∷ []))) (xs ++ y ∷ []) =
-      mapped-read (λ item. xs ++ item ∷ []) (writes y) e y one in
-      let both = then-read (items_entry e (length xs)) (λ items. chain e (λ item. gives (items ++ item ∷ [])))
-      (flat_map writes xs) (writes y) xs (xs ++ y ∷ []) h more in
-      let size : suc (length xs) ≡ length (xs ++ y ∷ []) = omega (arith, length-append xs (y ∷ [])) in
-      let words : flat_map writes xs ++ writes y ≡ flat_map writes (xs ++ y ∷ []) =
-      ap (λ (l : List WriteEntry). flat_map writes xs ++ l) (sym (append-nil (writes y)))
-      ∙ sym (flat_map-append writes xs (y ∷ [])) in
-      subst (λ (n : ℕ). IsReadAs (flat_map writes (xs ++ y ∷ [])) (items_entry e n) (xs ++ y ∷ [])) size
-      (subst (λ (l : List WriteEntry). IsReadAs l (items_entry e (suc (length xs))) (xs ++ y ∷ [])) words both)
+  module _ (one : (xs : List A) (y : A) → AreRead xs → IsOne y
+      → IsReadAs (flat_map writes xs ++ writes y) (entry (suc (length xs))) (ok (xs ++ y ∷ []))) where
+    item-behind : (xs : List A) (y : A) → AreRead xs → IsOne y → AreRead (xs ++ y ∷ [])
+    item-behind xs y h is =
+        let size : suc (length xs) ≡ length (xs ++ y ∷ []) = omega (arith, length-append xs (y ∷ [])) in
+        let words : flat_map writes xs ++ writes y ≡ flat_map writes (xs ++ y ∷ []) =
+        ap (λ (l : List WriteEntry). flat_map writes xs ++ l) (sym (append-nil (writes y)))
+        ∙ sym (flat_map-append writes xs (y ∷ [])) in
+        subst (λ (n : ℕ). IsReadAs (flat_map writes (xs ++ y ∷ [])) (entry n) (ok (xs ++ y ∷ []))) size
+        (subst (λ (l : List WriteEntry). IsReadAs l (entry (suc (length xs))) (ok (xs ++ y ∷ []))) words (one xs y h is))
 
-  items-behind : (xs ys : List A) → AreRead xs → AllByRecursion (λ x. IsReadAs (writes x) e x) ys → AreRead (xs ++ ys)
-  items-behind xs [] h all = subst AreRead (sym (append-nil xs)) h
-  items-behind xs (y ∷ ys) h all =
-      subst AreRead (append_assoc xs (y ∷ []) ys) (items-behind (xs ++ y ∷ []) ys (item-behind xs y h all.0) all.1)
+    items-behind : (xs ys : List A) → AreRead xs → AllByRecursion IsOne ys → AreRead (xs ++ ys)
+    items-behind xs [] h all = subst AreRead (sym (append-nil xs)) h
+    items-behind xs (y ∷ ys) h all =
+        subst AreRead (append_assoc xs (y ∷ []) ys) (items-behind (xs ++ y ∷ []) ys (item-behind xs y h all.0) all.1)
 
-  pub items-read : (xs : List A) → All (λ x. IsReadAs (writes x) e x) xs
-      → IsReadAs (flat_map writes xs) (items_entry e (length xs)) xs
-  unfolding items_entry
-  items-read xs all =
-      items-behind [] xs (λ len p more. refl) (recursion_from_All (λ x. IsReadAs (writes x) e x) xs all)
+pub items-read : {A : Type 0} (e : ReadEntry A) (writes : A → List WriteEntry) (xs : List A)
+    → All (λ x. IsReadAs (writes x) e x) xs → IsReadAs (flat_map writes xs) (items_entry e (length xs)) xs
+unfolding items_entry
+items-read {A = A} e writes xs all =
+    let one = λ (ys : List A) (y : A) (h : AreRead writes (items_entry e) (λ zs. zs) (λ x. IsReadAs (writes x) e x) ys)
+    (is : IsReadAs (writes y) e y). then-read (items_entry e (length ys))
+    (λ items. chain e (λ item. gives (items ++ item ∷ []))) (flat_map writes ys) (writes y) ys (ys ++ y ∷ []) h
+    (mapped-read (λ item. ys ++ item ∷ []) (writes y) e y is) in
+    items-behind writes (items_entry e) (λ zs. zs) (λ x. IsReadAs (writes x) e x) one [] xs (λ len p more. refl)
+    (recursion_from_All (λ x. IsReadAs (writes x) e x) xs all)
+
+-- a part with errors of its own, and what is made of it
+pub then_made-read : {A B E : Type 0} (e : ReadEntry (Result A E)) (make : A → B) (ws : List WriteEntry) (a : A)
+    → IsReadAs ws e (Ok a) → IsReadAs ws (chain e (part_then (λ v. gives (Ok (make v))))) (Ok (make a))
+then_made-read {B = B} {E = E} e make ws a part =
+    let behind = part_then {E = E} (λ v. gives (Ok (make v))) in
+    subst (λ (es : List WriteEntry). IsReadAs es (chain e behind) (Ok (make a))) (append-nil ws)
+    (then-read e behind ws [] (Ok a) (Ok (make a)) part (λ len p more. refl))
+
+pub parts-read : {A E : Type 0} (e : ReadEntry (Result A E)) (writes : A → List WriteEntry) (xs : List A)
+    → All (λ x. IsReadAs (writes x) e (Ok x)) xs → IsReadAs (flat_map writes xs) (parts_entry e (length xs)) (Ok xs)
+unfolding parts_entry
+parts-read {A = A} {E = E} e writes xs all =
+    let ok : List A → Result (List A) E = λ zs. Ok zs in
+    let one = λ (ys : List A) (y : A) (h : AreRead writes (parts_entry e) ok (λ x. IsReadAs (writes x) e (Ok x)) ys)
+    (is : IsReadAs (writes y) e (Ok y)). then-read (parts_entry e (length ys))
+    (part_then (λ items. chain e (part_then (λ item. gives (Ok (items ++ item ∷ [])))))) (flat_map writes ys) (writes y)
+    (Ok ys) (Ok (ys ++ y ∷ [])) h (then_made-read e (λ item. ys ++ item ∷ []) (writes y) y is) in
+    items-behind writes (parts_entry e) ok (λ x. IsReadAs (writes x) e (Ok x)) one [] xs (λ len p more. refl)
+    (recursion_from_All (λ x. IsReadAs (writes x) e (Ok x)) xs all)
 
 -- bits that are written one by one
 bits-written : (w : List Bool) (len : ℕ) → write_run (bit_by_bit w) len ≡ w

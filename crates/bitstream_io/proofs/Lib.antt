@@ -2,6 +2,7 @@ pub mod RunLemmas
 pub mod NonZeroBack
 pub mod CallsBack
 pub mod CallerLemmas
+pub mod EachLemmas
 pub mod PackLemmas
 mod ReadBackLemmas
 mod ReadScriptLemmas

@@ -18,7 +18,7 @@ pub use Rattle.bitstream_value.specs.Grows.{GrowsOwn, OwnReads, parts_entry, Par
 pub use Rattle.bitstream_value.specs.NonZero.{non_zero, option_entry, if_any, number_or_zero}
 pub use Rattle.bitstream_value.specs.Own.{OwnAnswer, ReadsOwn, WritesOwn, part_then, same_error, plain_reads}
 pub use Rattle.bitstream_value.specs.Tree.{Tree, leaf, node, IsPath, path_entry, bit_by_bit}
-pub use Rattle.bitstream_io.specs.Loop.{ItemsRead, ItemsWritten}
+pub use Rattle.bitstream_io.specs.Loop.{ItemsRead, ItemsWritten, all_ok}
 pub use Rattle.bitstream_io.specs.NonZeroTypes.{non_zero_u8, non_zero_u16, non_zero_u32, non_zero_u64, non_zero_u128, non_zero_u8_entry, non_zero_u16_entry, non_zero_u32_entry, non_zero_u64_entry, non_zero_u128_entry}
-pub use Rattle.bitstream_io.specs.Optional.{optional, optional_writes, optional_size}
+pub use Rattle.bitstream_io.specs.Optional.{optional, own_optional, optional_writes, optional_size}
 pub use Rattle.bitstream_io.specs.Steps.{◌>>=◌, bytes_number}

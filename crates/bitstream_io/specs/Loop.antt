@@ -1,5 +1,5 @@
--- Items that a loop reads or writes: what its invariant says.
-use Rattle.std.specs.Prelude.{ℕ, ◌+◌, List, [], ◌∷◌, take, flat_map, Ok}
+-- Items that a loop reads or writes: what its invariant says. And what several answers say as one.
+use Rattle.std.specs.Prelude.{ℕ, ◌+◌, List, [], ◌∷◌, take, flat_map, Result, Ok, Err}
 use Rattle.bitstream_count.specs.Entry.{ReadEntry, WriteEntry}
 use Rattle.bitstream_stream.specs.Reading.Reads.{BitSource, Reads}
 use Rattle.bitstream_stream.specs.Writing.Sink.{Sink, WritesAll}
@@ -17,3 +17,14 @@ ItemsWritten K calls items n old new = WritesAll K (flat_map calls (take n items
 abbrev pub parts_size : {A : Type 0} → (A → ℕ) → List A → ℕ
 parts_size size [] = 0
 parts_size size (part ∷ parts) = size part + parts_size size parts
+
+-- an answer, and what those behind it say as one
+abbrev pub ok_then : {A E : Type 0} → Result A E → Result (List A) E → Result (List A) E
+ok_then (Ok item) (Ok items) = Ok (item ∷ items)
+ok_then (Ok item) (Err error) = Err error
+ok_then (Err error) _ = Err error
+
+-- the items of answers, or the first error among them
+abbrev pub all_ok : {A E : Type 0} → List (Result A E) → Result (List A) E
+all_ok [] = Ok []
+all_ok (answer ∷ answers) = ok_then answer (all_ok answers)
