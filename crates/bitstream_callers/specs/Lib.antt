@@ -1,6 +1,8 @@
 pub mod Adts
 pub mod Axes
 pub mod BlockHeader
+pub mod ClientHello
+pub mod ClientHelloFields
 pub mod FlacComment
 pub mod Golomb
 pub mod Header

@@ -32,6 +32,7 @@ pub mod adts;
 pub mod appending;
 pub mod axes;
 pub mod block_header;
+pub mod client_hello;
 pub mod flac_comment;
 pub mod golomb;
 pub mod header;

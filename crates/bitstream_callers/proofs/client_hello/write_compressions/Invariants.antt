@@ -1,0 +1,12 @@
+use Rattle.bitstream_callers.specs.ClientHello.{compression_number}
+use Rattle.std.proofs.Common.{◌∷◌, []}
+use Rattle.bitstream_io.specs.Callers.{unsigned}
+use Rattle.bitstream_io.specs.Loop.{ItemsWritten}
+use Rattle.bitstream_callers.proofs.client_hello.write_compressions.Given as goal
+
+-- the items so far were written
+abbrev pub invariant-loop-item : goal.invariant-loop-item
+invariant-loop-item g l =
+    let K = g.W.BitWrite.sink in
+    ItemsWritten K (λ x. unsigned K.order 8 8 (compression_number x) ∷ []) l.items l.item-index l.initial.writer
+    l.writer

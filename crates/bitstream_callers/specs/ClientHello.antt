@@ -1,0 +1,106 @@
+-- The first message of a TLS connection.
+use Rattle.bitstream_callers.specs.declared.client_hello.ClientHello.{ClientHello}
+use Rattle.bitstream_callers.specs.declared.client_hello.ClientHelloError.{ClientHelloError}
+use Rattle.bitstream_callers.specs.declared.client_hello.ClientHelloError.TheVariants.{Reader, OtherMessage, NoCompression}
+use Rattle.bitstream_callers.specs.declared.client_hello.Compression.{Compression}
+use Rattle.bitstream_callers.specs.declared.client_hello.Compression.TheVariants.{Null, Deflate}
+use Rattle.std.specs.Prelude.{◌≡◌, ◌^◌, ◌<◌, ◌+◌, ◌*◌, ◌++◌, ◌∷◌, [], ◌==◌, if◌then◌else◌, ℕ, Bool, List, Result, Ok, Err, length}
+use Rattle.std.specs.List.{All, flat_map}
+use Rattle.bitstream_io.specs.Callers.{◌>>=◌, ReadEntry, WriteEntry, gives, Error, Order, High, chain, word, unsigned_entry, const_entry, bytes_entry, plain, unsigned, buffer, align, write_run, part_then, parts_entry}
+
+-- Made by `./format` from formats/client_hello.fields: edit that file and make this one anew.
+
+-- an error of the reader is one of the type's
+abbrev pub becomes_client_hello : Error → ClientHelloError → Type 0
+becomes_client_hello error own = own ≡ Reader error
+
+-- what a number says
+abbrev pub compression_of : ℕ → (Result Compression ClientHelloError)
+compression_of n = if n == 0 then Ok Null else if n == 1 then Ok Deflate else Err NoCompression
+
+-- and back
+abbrev pub compression_number : Compression → ℕ
+compression_number Null = 0
+compression_number Deflate = 1
+
+-- the read of its number
+abbrev pub compression_read : Order → ReadEntry (Result Compression ClientHelloError)
+compression_read o = chain (unsigned_entry o 8 8) (λ v. gives (compression_of v))
+
+-- the reads, in order, behind 2 that may be refused
+abbrev pub client_hello_entry_2 : Order → ℕ → ℕ → List ℕ → ℕ → List ℕ → ℕ → List ℕ → ℕ → List Compression → ReadEntry
+    (Result ClientHello ClientHelloError)
+client_hello_entry_2 o size version random session_count session suites_count suites compressions_count compressions =
+    do
+      extensions_count ← unsigned_entry o 64 16
+      extensions ← bytes_entry o extensions_count
+      gives (Ok (record {
+        size = size;
+        version = version;
+        random = random;
+        session = session;
+        suites = suites;
+        compressions
+            = compressions;
+        extensions = extensions;
+      }))
+
+-- the reads, in order, behind 1 that may be refused
+abbrev pub client_hello_entry_1 : Order → ReadEntry (Result ClientHello ClientHelloError)
+client_hello_entry_1 o = do
+  size ← unsigned_entry o 32 24
+  version ← unsigned_entry o 16 16
+  random ← bytes_entry o 32
+  session_count ← unsigned_entry o 64 8
+  session ← bytes_entry o session_count
+  suites_count ← unsigned_entry o 64 16
+  suites ← bytes_entry o suites_count
+  compressions_count ← unsigned_entry o 64 8
+  chain (parts_entry (compression_read o) compressions_count) (part_then (λ compressions. client_hello_entry_2 o size
+      version random session_count session suites_count suites compressions_count compressions))
+
+-- the reads, in order
+abbrev pub client_hello_entry : Order → ReadEntry (Result ClientHello ClientHelloError)
+client_hello_entry o = do
+  is_0 ← const_entry o 8 1
+  if is_0 then client_hello_entry_1 o else gives (Err OtherMessage)
+
+-- the writes, in order
+abbrev pub client_hello_writes : Order → ClientHello → List WriteEntry
+client_hello_writes o value =
+    plain (word o 8 1)
+    ∷ unsigned o 32 24 value.size
+    ∷ unsigned o 16 16 value.version
+    ∷ buffer o value.random
+    ∷ unsigned o 64 8 (length value.session)
+    ∷ buffer o value.session
+    ∷ unsigned o 64 16 (length value.suites)
+    ∷ buffer o value.suites
+    ∷ unsigned o 64 8 (length value.compressions)
+    ∷ flat_map (λ x. unsigned o 8 8 (compression_number x) ∷ []) value.compressions
+    ++ unsigned o 64 16 (length value.extensions)
+    ∷ buffer o value.extensions
+    ∷ []
+
+-- each field fits its bits
+pub record Fits (value : ClientHello) : Type 0 where
+  pub size : value.size < 2 ^ 24
+  pub version : value.version < 2 ^ 16
+  pub random_count : length value.random ≡ 32
+  pub random : All (λ b. b < 256) value.random
+  pub session_count : length value.session < 2 ^ 8
+  pub session : All (λ b. b < 256) value.session
+  pub suites_count : length value.suites < 2 ^ 16
+  pub suites : All (λ b. b < 256) value.suites
+  pub compressions_count : length value.compressions < 2 ^ 8
+  pub extensions_count : length value.extensions < 2 ^ 16
+  pub extensions : All (λ b. b < 256) value.extensions
+
+-- the number of bits
+abbrev pub client_hello_size : Order → ClientHello → ℕ
+client_hello_size o value = 352 + 8 * length value.session + 8 * length value.suites + length value.compressions * 8 + 8
+    * length value.extensions
+
+-- the bits of all fields, up to a whole byte
+unfoldable pub client_hello_bits : ClientHello → List Bool
+client_hello_bits value = write_run (client_hello_writes High value ++ align ∷ []) 0

@@ -1,0 +1,314 @@
+//! The first message of a TLS connection.
+//!
+//! Made by `./format` from formats/client_hello.fields: edit that file and make this one anew.
+ghost use Rattle.bitstream_callers.specs.ClientHello.{client_hello_entry, client_hello_writes, client_hello_size, client_hello_bits, Fits, becomes_client_hello, compression_of, compression_number, compression_read};
+ghost use Rattle.bitstream_callers.specs.declared.client_hello.ClientHello.{ClientHello};
+ghost use Rattle.bitstream_callers.specs.declared.client_hello.ClientHelloError.{ClientHelloError};
+ghost use Rattle.bitstream_callers.specs.declared.client_hello.ClientHelloError.TheVariants.{Reader};
+ghost use Rattle.std.specs.Prelude.{◌≡◌, ◌≤◌, ◌*◌, ◌++◌, ◌∷◌, [], ◌⊎◌, ℕ, Bool, true, List, Ok, Err, length, IfOk, IsOk};
+ghost use Rattle.std.specs.List.{flat_map};
+ghost use Rattle.bitstream_io.specs.Callers.{Takes, Order, High, bits, unsigned, write_run, ReadsOwn, OwnAnswer, WritesAll, sure_answer, GrowsOwn, OutOfMemory, seen, same_error, parts_entry};
+ghost use Rattle.bitstream_io.specs.SliceMut.{written_bytes};
+
+use bitstream_io::{
+    BE, BitRead, BitReadExt, BitReader, BitWrite, BitWriteExt, BitWriter, Bits, Error,
+    FromBitStreamUsing, SliceMut, ToBitStream,
+};
+use std::alloc::{AllocFailed, Global};
+use std::marker::Model;
+
+/// The first message of a TLS connection.
+///
+/// ```text
+///  0                   1                   2                   3
+///  0 1 2 3 4 5 6 7 8 9 0 1 2 3 4 5 6 7 8 9 0 1 2 3 4 5 6 7 8 9 0 1
+/// +-+-+-+-+-+-+-+-+-+-+-+-+-+-+-+-+-+-+-+-+-+-+-+-+-+-+-+-+-+-+-+-+
+/// |       =1      |                      size                     |
+/// +-+-+-+-+-+-+-+-+-+-+-+-+-+-+-+-+-+-+-+-+-+-+-+-+-+-+-+-+-+-+-+-+
+/// |            version            |                               |
+/// +-+-+-+-+-+-+-+-+-+-+-+-+-+-+-+-+-+-+-+-+-+-+-+-+-+-+-+-+-+-+-+-+
+/// |                        random (7 rows)                        |
+/// +-+-+-+-+-+-+-+-+-+-+-+-+-+-+-+-+-+-+-+-+-+-+-+-+-+-+-+-+-+-+-+-+
+/// |                               | session_count |
+/// +-+-+-+-+-+-+-+-+-+-+-+-+-+-+-+-+-+-+-+-+-+-+-+-+-+-+-+-+-+-+-+-+
+/// /                 session (session_count bytes)                 /
+/// +-+-+-+-+-+-+-+-+-+-+-+-+-+-+-+-+-+-+-+-+-+-+-+-+-+-+-+-+-+-+-+-+
+/// |          suites_count         |
+/// +-+-+-+-+-+-+-+-+-+-+-+-+-+-+-+-+-+-+-+-+-+-+-+-+-+-+-+-+-+-+-+-+
+/// /                  suites (suites_count bytes)                  /
+/// +-+-+-+-+-+-+-+-+-+-+-+-+-+-+-+-+-+-+-+-+-+-+-+-+-+-+-+-+-+-+-+-+
+/// |compressions_co|
+/// +-+-+-+-+-+-+-+-+-+-+-+-+-+-+-+-+-+-+-+-+-+-+-+-+-+-+-+-+-+-+-+-+
+/// /        compressions (compressions_count of Compression)       /
+/// +-+-+-+-+-+-+-+-+-+-+-+-+-+-+-+-+-+-+-+-+-+-+-+-+-+-+-+-+-+-+-+-+
+/// |        extensions_count       |
+/// +-+-+-+-+-+-+-+-+-+-+-+-+-+-+-+-+-+-+-+-+-+-+-+-+-+-+-+-+-+-+-+-+
+/// /              extensions (extensions_count bytes)              /
+/// +-+-+-+-+-+-+-+-+-+-+-+-+-+-+-+-+-+-+-+-+-+-+-+-+-+-+-+-+-+-+-+-+
+/// ```
+#[derive(Debug, Drop)]
+pub struct ClientHello {
+    /// The bytes of the message that follow. Below 2^24.
+    pub size: u32,
+    /// The version, which is 0x0303 since TLS 1.2.
+    pub version: u16,
+    /// Random bytes.
+    pub random: [u8; 32],
+    /// The session that is to go on. Fewer than 2^8.
+    pub session: Vec<u8>,
+    /// The cipher suites, of two bytes each. Fewer than 2^16.
+    pub suites: Vec<u8>,
+    /// How the bytes may be compressed. Fewer than 2^8.
+    pub compressions: Vec<Compression>,
+    /// The extensions, as they stand. Fewer than 2^16.
+    pub extensions: Vec<u8>,
+}
+
+impl Model for ClientHello {
+    ghost use Rattle.bitstream_callers.specs.ClientHelloFields.{ClientHelloFields};
+
+    ghost Value = { ClientHelloFields };
+
+    ghost view = { λ value. record {
+      size = value.size;
+      version = value.version;
+      random = value.random;
+      session = value.session.items;
+      suites = value.suites.items;
+      compressions = value.compressions.items;
+      extensions = value.extensions.items;
+    } };
+}
+
+/// Why a `ClientHello` is not read.
+#[derive(Debug, Drop)]
+pub enum ClientHelloError {
+    /// An error of the reader.
+    Reader(Error),
+    /// The message is no ClientHello.
+    OtherMessage,
+    /// The number of compressions is that of no `Compression`.
+    NoCompression,
+}
+
+impl From<Error> for ClientHelloError {
+    ghost from_gives = { becomes_client_hello };
+
+    fn from(error: Error) -> ClientHelloError {
+        ClientHelloError::Reader(error)
+    }
+}
+
+/// How the bytes may be compressed.
+#[derive(Clone, Copy, Debug, PartialEq)]
+pub enum Compression {
+    /// 0.
+    Null,
+    /// 1.
+    Deflate,
+}
+
+impl Compression {
+    /// Returns what a number says.
+    pub fn of(number: u8) -> Result<Compression, ClientHelloError>
+        ensures { result ≡ compression_of number }
+    {
+        if number == 0 {
+            return Ok(Compression::Null);
+        }
+        if number == 1 {
+            return Ok(Compression::Deflate);
+        }
+        Err(ClientHelloError::NoCompression)
+    }
+
+    /// Returns its number.
+    pub fn number(self) -> u8
+        ensures { result ≡ compression_number self }
+    {
+        match self {
+            Compression::Null => 0,
+            Compression::Deflate => 1,
+        }
+    }
+
+    /// Reads its number.
+    pub fn read<R: BitRead>(reader: &mut R) -> Result<Compression, ClientHelloError>
+        ensures { ReadsOwn R.source becomes_client_hello (compression_read R.source.order) reader.old result reader.new }
+    {
+        let number = reader.read::<Bits<8>, u8>()?;
+        Compression::of(number)
+    }
+}
+
+impl<T: Drop> From<AllocFailed<T>> for ClientHelloError {
+    ghost from_gives = { λ _ own. own ≡ Reader OutOfMemory };
+
+    fn from(_refused: AllocFailed<T>) -> ClientHelloError {
+        ClientHelloError::Reader(Error::OutOfMemory)
+    }
+}
+
+/// Reads so many items of `compressions`. If memory for one is refused, that one is read, and no more.
+/// One that is refused is the last that is read.
+fn read_compressions<R: BitRead>(
+    reader: &mut R,
+    alloc: Global,
+    count: u64,
+) -> Result<Vec<Compression>, ClientHelloError>
+    ensures { GrowsOwn R.source becomes_client_hello (parts_entry (compression_read R.source.order) count)
+        reader.old (seen (λ found. found.items) result) reader.new }
+{
+    let mut found = Vec::new(alloc);
+    for _ in 0..count {
+        found.push(Compression::read(reader)?)?;
+    }
+    Ok(found)
+}
+
+/// Writes the items of `compressions`.
+fn write_compressions<W: BitWrite>(writer: &mut W, items: &[Compression]) -> Result<(), Error>
+    ensures { WritesAll W.sink (flat_map (λ x. unsigned W.sink.order 8 8 (compression_number x) ∷ []) items.now)
+        writer.old result writer.new }
+{
+    for item in items {
+        writer.write::<Bits<8>, u8>(item.number())?;
+    }
+    Ok(())
+}
+
+impl ClientHello {
+    /// Reads the fields in order.
+    ///
+    /// # Errors
+    ///
+    /// `OtherMessage`, `NoCompression`, behind the bits that say so.
+    /// `Reader(OutOfMemory)` if memory for a list is refused, behind the items before.
+    /// Else those of the reader: after each of them it has failed.
+    pub fn read<R: BitRead>(reader: &mut R, alloc: Global) -> Result<ClientHello, ClientHelloError>
+        ensures { GrowsOwn R.source becomes_client_hello (client_hello_entry R.source.order) reader.old result reader.new }
+    {
+        reader.read_const::<Bits<8>, Bits<1>, ClientHelloError>(ClientHelloError::OtherMessage)?;
+        let size = reader.read::<Bits<24>, u32>()?;
+        let version = reader.read::<Bits<16>, u16>()?;
+        let random = reader.read_to_bytes::<[u8; 32]>()?;
+        let session_count = reader.read::<Bits<8>, u64>()?;
+        let session = reader.read_to_vec(alloc, session_count as usize)?;
+        let suites_count = reader.read::<Bits<16>, u64>()?;
+        let suites = reader.read_to_vec(alloc, suites_count as usize)?;
+        let compressions_count = reader.read::<Bits<8>, u64>()?;
+        let compressions = read_compressions(reader, alloc, compressions_count)?;
+        let extensions_count = reader.read::<Bits<16>, u64>()?;
+        let extensions = reader.read_to_vec(alloc, extensions_count as usize)?;
+        Ok(ClientHello {
+            size,
+            version,
+            random,
+            session,
+            suites,
+            compressions,
+            extensions,
+        })
+    }
+
+    /// Returns what bytes begin with.
+    ///
+    /// # Errors
+    ///
+    /// `OtherMessage`, `NoCompression`, `Reader(EndOfInput)` if the bytes end before the fields do.
+    /// `Reader(OutOfMemory)` if memory for a list is refused.
+    pub fn parse(packet: &[u8], alloc: Global) -> Result<ClientHello, ClientHelloError>
+        ensures answer { (OwnAnswer becomes_client_hello (λ answer. answer)
+            (sure_answer ((client_hello_entry High).reads 0 (bits High packet.now))) result)
+            ⊎ (result ≡ Err (ClientHelloError.Reader OutOfMemory)) }
+        ensures back { (value : ClientHello) (more : List Bool) → Fits value
+            → bits High packet.now ≡ write_run (client_hello_writes High value) 0 ++ more
+            → (result ≡ Ok value)
+            ⊎ (result ≡ Err (ClientHelloError.Reader OutOfMemory)) }
+    {
+        client_hello_goes_back();
+        ClientHello::read(&mut BitReader::<_, BE>::over(packet), alloc)
+    }
+
+    /// Writes the fields in order.
+    ///
+    /// # Errors
+    ///
+    /// `Checked` for a field that does not fit its bits. The fields before it are written then.
+    /// Else those of the sink.
+    pub fn write<W: BitWrite>(&self, writer: &mut W) -> Result<(), Error>
+        ensures { WritesAll W.sink (client_hello_writes W.sink.order self.now) writer.old result writer.new }
+    {
+        writer.write_const::<Bits<8>, Bits<1>>()?;
+        writer.write::<Bits<24>, u32>(self.size)?;
+        writer.write::<Bits<16>, u16>(self.version)?;
+        writer.write_bytes(&self.random)?;
+        writer.write::<Bits<8>, u64>(self.session.len() as u64)?;
+        writer.write_bytes(&self.session)?;
+        writer.write::<Bits<16>, u64>(self.suites.len() as u64)?;
+        writer.write_bytes(&self.suites)?;
+        writer.write::<Bits<8>, u64>(self.compressions.len() as u64)?;
+        write_compressions(writer, &self.compressions)?;
+        writer.write::<Bits<16>, u64>(self.extensions.len() as u64)?;
+        writer.write_bytes(&self.extensions)?;
+        Ok(())
+    }
+
+    /// Writes the fields to the first bytes of a buffer, and returns what was written. No write
+    /// fails if each field fits its bits and the buffer has room for their bits. No memory is asked for.
+    ///
+    /// # Errors
+    ///
+    /// `Checked` for a field that does not fit its bits, or `Stream(WriteZero)` if the buffer is too
+    /// short.
+    pub fn pack_into<'a>(&self, buffer: &'a mut [u8]) -> Result<SliceMut<'a>, Error>
+        ensures packed { IfOk result (λ packed. bits High (written_bytes packed) ≡ client_hello_bits self.now) }
+        ensures room { Fits self.now → client_hello_size High self.now ≤ 8 * length buffer.old → IsOk result }
+    {
+        let mut writer = BitWriter::<_, BE>::over(buffer);
+        self.write(&mut writer)?;
+        writer.byte_align()?;
+        Ok(writer.into_writer())
+    }
+}
+
+impl FromBitStreamUsing for ClientHello {
+    type Context = Global;
+
+    type Error = ClientHelloError;
+
+    ghost grows = { true };
+
+    ghost becomes = { becomes_client_hello };
+
+    ghost reads = { λ o _. client_hello_entry o };
+
+    fn from_reader<R: BitRead>(
+        reader: &mut R,
+        alloc: Global,
+    ) -> Result<ClientHello, ClientHelloError> {
+        ClientHello::read(reader, alloc)
+    }
+}
+
+impl ToBitStream for ClientHello {
+    type Error = Error;
+
+    ghost becomes = { same_error };
+
+    ghost writes = { client_hello_writes };
+
+    fn to_writer<W: BitWrite>(&self, writer: &mut W) -> Result<(), Error> {
+        self.write(writer)
+    }
+}
+
+/// What fits its bits is read back as it was written, in either order of bits, wherever it stands.
+/// The read takes the bits that were written, and no more: as many as `client_hello_size` says.
+pub fn client_hello_goes_back()
+    ensures back { (o : Order) (value : ClientHello) (at from : ℕ) (more : List Bool) → Fits value
+        → let written = write_run (client_hello_writes o value) at in
+        (client_hello_entry o).reads from (written ++ more) ≡ Takes (length written) (Ok (Ok value)) }
+    ensures size { (o : Order) (value : ClientHello) (at : ℕ) → Fits value
+        → length (write_run (client_hello_writes o value) at) ≡ client_hello_size o value }
+{}
