@@ -3,7 +3,7 @@ import re
 
 import examples
 import lists  # noqa: F401
-from enums import snake
+from enums import Enum, snake
 from lines import FORMS, KINDS, WORDS
 from names import TAKEN
 from parts import Part
@@ -134,6 +134,25 @@ def shadowed(lines):
             said[name] = it.line
 
 
+def check_types(said, lines):
+    """Refuses types and cases of the error whose names something else has, and says which cases of an enum share one."""
+    enums = [it for it in lines if isinstance(it, Enum)]
+    types = [(said["at"]["struct"], said["name"]), (said["at"].get("error"), said["error"])]
+    types += [(it.line, it.enum) for it in enums]
+    parts = {it.part: it.line for it in lines if isinstance(it, Part)}
+    for k, (count, name) in enumerate(types):
+        if name and (name in [one for _, one in types[:k]] or name in parts):
+            refuse(count, f"two types have one name, `{name}`")
+    errors = [(it.line, it.error) for it in lines if it.error]
+    for count, name in [*types, *errors]:
+        if name in TAKEN:
+            refuse(count, f"`{name}` is a name of the specs: take another one")
+    names = [name for _, name in types] + list(parts) + [*dict.fromkeys(name for _, name in errors)]
+    names += [case for it in enums for case in it.case_names()[1:]]
+    for it in enums:
+        it.shared = [case for case in it.case_names()[1:] if case in TAKEN or names.count(case) > 1]
+
+
 def refuse(count, why):
     raise Refused(f"line {count}: {why}")
 
@@ -153,10 +172,7 @@ def check(said, lines):
         if it.clause in ("there", "short", "answer", "back"):
             refuse(it.line, "`There`, `Short`, `Answer` and `Back` are names of the contract: take other ones")
     shadowed(lines)
-    cases = [(it.line, [it.error, *(it.case_names() if hasattr(it, "case_names") else [])]) for it in lines]
-    for count, found in [(at["struct"], [said["name"]]), (at.get("error"), [said["error"]]), *cases]:
-        if TAKEN & set(found):
-            refuse(count, f"`{min(TAKEN & set(found))}` is a name of the specs: take another one")
+    check_types(said, lines)
     if said["error"] and not any(it.error for it in lines):
         refuse(at["error"], f"no line refuses bits, so there is no `{said['error']}`: leave this line out")
     total = said["total"]

@@ -16,6 +16,7 @@ class Enum(Line):
 
     unfolds, long = ("unsigned", "unsigned_entry"), 4
     within = ""  # the part that it is of: its cases are called so in the rows
+    shared = ()  # the cases whose names something else has in specs: there they begin with the enum's name
 
     def __init__(self, name, words, said):
         cases, _, self.doc = said.partition(";")
@@ -32,6 +33,8 @@ class Enum(Line):
                 self.cases.append((number(value, 0, 2**self.wide - 1, "the number of a case"), case))
         if len(dict(self.cases)) < len(self.cases):
             raise Refused("two cases have one number")
+        if len(set(self.case_names())) < len(self.case_names()):
+            raise Refused("two cases have one name, or one has that of the enum")
         if len(self.cases) == 2**self.wide and self.other:
             raise Refused("no number is left for the other case")
         self.error = "" if self.other else f"No{self.enum}"
@@ -46,6 +49,10 @@ class Enum(Line):
 
     def case_names(self):
         return [self.enum, *[case for _, case in self.cases], *([self.other] if self.other else [])]
+
+    def called(self, case):
+        """Gives what a case is called in specs."""
+        return self.enum * (case in self.shared) + case
 
     def why(self):
         return f"The number of {self.name} is that of no `{self.enum}`."
@@ -64,7 +71,8 @@ class Enum(Line):
         return case
 
     def term(self, value):
-        return self.within + value.replace("(", " ").rstrip(")")
+        case, opened, held = value.rstrip(")").partition("(")
+        return f"{self.within}{self.called(case)}{' ' * bool(opened)}{held}"
 
     def taken(self, row, before):
         return self.case_with(row.number(self.wide))
@@ -183,12 +191,13 @@ class Enum(Line):
     def case_specs(self, module):
         """Gives the definitions of what a number says, and back."""
         answer = self.answer(module)[1]
-        tests = "".join(f"if n == {it} then {f'Ok {case}' if self.error else case} else " for it, case in self.cases)
+        cases = [(it, self.called(case)) for it, case in self.cases]
+        tests = "".join(f"if n == {it} then {f'Ok {case}' if self.error else case} else " for it, case in cases)
         out = ["-- what a number says", f"abbrev pub {self.s}_of : ℕ → {answer}"]
-        out += [f"{self.s}_of n = {tests}{f'Err {self.error}' if self.error else f'{self.other} n'}", ""]
+        out += [f"{self.s}_of n = {tests}{f'Err {self.error}' if self.error else f'{self.called(self.other)} n'}", ""]
         out += ["-- and back", f"abbrev pub {self.s}_number : {self.enum} → ℕ"]
-        out += [f"{self.s}_number {case} = {value}" for value, case in self.cases]
-        out += [f"{self.s}_number ({self.other} n) = n"] if self.other else []
+        out += [f"{self.s}_number {case} = {value}" for value, case in cases]
+        out += [f"{self.s}_number ({self.called(self.other)} n) = n"] if self.other else []
         return [*out, ""]
 
     def read_specs(self, module):
@@ -202,9 +211,10 @@ class Enum(Line):
             return []
         out = ["-- the number of each case fits its bits, and says that case"]
         out += [f"{self.s}_small : (it : {self.enum}) → {self.s}_number it < 2 ^ {self.wide}"]
-        out += [f"{self.s}_small {case} = omega arith" for _, case in self.cases]
+        cases = [self.called(case) for _, case in self.cases]
+        out += [f"{self.s}_small {case} = omega arith" for case in cases]
         out += ["", f"{self.s}_again : (it : {self.enum}) → {self.s}_of ({self.s}_number it) ≡ Ok it"]
-        return out + [f"{self.s}_again {case} = refl" for _, case in self.cases] + [""]
+        return out + [f"{self.s}_again {case} = refl" for case in cases] + [""]
 
     def answers(self, module):
         goals = f"use {module.goals}.{self.enum}"
@@ -243,7 +253,8 @@ class Enum(Line):
     def names(self, module):
         base = f"{module.declared}.{self.enum}"
         own = {module.specs_path: " ".join(f"{self.s}_{it}" for it in ("of", "number", "read"))}
-        return {base: self.enum, f"{base}.TheVariants": " ".join(self.case_names()[1:])} | own
+        cases = [f"{it}={self.called(it)}" if it in self.shared else it for it in self.case_names()[1:]]
+        return {base: self.enum, f"{base}.TheVariants": " ".join(cases)} | own
 
     def lemma_names(self, module):
         return {module.lemmas_path: f"{self.s}_small {self.s}_again"}

@@ -134,7 +134,7 @@ class Part(Line):
         for it in self.described:
             if isinstance(it, Enum):
                 path = f"Rattle.{module.crate}.specs.declared.{self.module}.{it.enum}.TheVariants"
-                found[path] = " ".join(f"{case}={self.part}{case}" for case in it.case_names()[1:])
+                found[path] = " ".join(f"{case}={self.part}{it.called(case)}" for case in it.case_names()[1:])
             if isinstance(it, Part):
                 found = merged(found, it.row_names(module))
         return found
