@@ -136,7 +136,8 @@ def shadowed(lines):
 
 def check_types(said, lines):
     """Refuses types and cases of the error whose names something else has, and says which cases of an enum share one."""
-    enums = [it for it in lines if isinstance(it, Enum)]
+    all_enums = [it for it in lines if isinstance(it, Enum)]
+    enums = [it for it in all_enums if not it.repeats]
     types = [(said["at"]["struct"], said["name"]), (said["at"].get("error"), said["error"])]
     types += [(it.line, it.enum) for it in enums]
     parts = {it.part: it.line for it in lines if isinstance(it, Part)}
@@ -149,7 +150,7 @@ def check_types(said, lines):
             refuse(count, f"`{name}` is a name of the specs: take another one")
     names = [name for _, name in types] + list(parts) + [*dict.fromkeys(name for _, name in errors)]
     names += [case for it in enums for case in it.case_names()[1:]]
-    for it in enums:
+    for it in all_enums:
         it.shared = [case for case in it.case_names()[1:] if case in TAKEN or names.count(case) > 1]
 
 

@@ -15,22 +15,29 @@ class Enum(Line):
     """A line NAME enum TYPE BITS: NUMBER CASE, .. [, .. CASE]; DOC. The case behind `..` has all other numbers."""
 
     unfolds, long = ("unsigned", "unsigned_entry"), 4
+    alone = True  # whether its numbers are read one by one
     within = ""  # the part that it is of: its cases are called so in the rows
     shared = ()  # the cases whose names something else has in specs: there they begin with the enum's name
 
     def __init__(self, name, words, said):
-        cases, _, self.doc = said.partition(";")
-        self.name, self.enum, self.other, self.cases = name, words[1], "", []
+        self.repeats = not re.match(r"\s*(\d|\.\.)", said)  # whether a line before it has its cases
+        cases, _, self.doc = ("", "", said) if self.repeats else said.partition(";")
+        self.name, self.enum, self.other, self.cases, self.error = name, words[1], "", [], ""
         self.type = self.kind = self.enum
         self.wide, self.doc = number(words[2], 1, 32, "the width of an enum"), self.doc.strip()
         self.s = snake(self.enum)
         self.width = next(it for it in (8, 16, 32) if it >= self.wide)
-        for it in cases.split(","):
+        for it in [] if self.repeats else cases.split(","):
             value, case = it.split()
             if value == "..":
                 self.other = case
             else:
                 self.cases.append((number(value, 0, 2**self.wide - 1, "the number of a case"), case))
+        if not self.repeats:
+            self.check_cases()
+
+    def check_cases(self):
+        """Refuses cases that do not go together."""
         if len(dict(self.cases)) < len(self.cases):
             raise Refused("two cases have one number")
         if len(set(self.case_names())) < len(self.case_names()):
@@ -38,6 +45,16 @@ class Enum(Line):
         if len(self.cases) == 2**self.wide and self.other:
             raise Refused("no number is left for the other case")
         self.error = "" if self.other else f"No{self.enum}"
+
+    def check(self, before):
+        super().check(before)
+        if self.repeats:
+            first = next((it for it in before if isinstance(it, Enum) and it.enum == self.enum and it.alone), None)
+            if not first:
+                raise Refused(f"no line before it says the cases of `{self.enum}`: `0 CASE, 1 CASE, ..` behind a colon")
+            if first.wide != self.wide:
+                raise Refused(f"`{self.enum}` has {first.wide} bits above")
+            self.cases, self.other, self.error = first.cases, first.other, first.error
 
     bits = property(lambda self: self.wide)
     entry = property(lambda self: f"{self.s}_read o")
@@ -136,6 +153,8 @@ class Enum(Line):
         return f"Result<{code}, {module.error}>", f"(Result {specs} {module.error})"
 
     def declares(self, module):
+        if self.repeats:
+            return []
         out = [f"/// {self.doc or f'A {self.enum}.'}", "#[derive(Clone, Copy, Debug, PartialEq)]"]
         out += [f"pub enum {self.enum} {{"]
         for value, case in self.cases:
@@ -186,7 +205,7 @@ class Enum(Line):
         ]
 
     def specs(self, module):
-        return [*self.case_specs(module), *self.read_specs(module)]
+        return [] if self.repeats else [*self.case_specs(module), *self.read_specs(module)]
 
     def case_specs(self, module):
         """Gives the definitions of what a number says, and back."""
@@ -207,7 +226,7 @@ class Enum(Line):
         return ["-- the read of its number", head, f"{self.s}_read o = {read}", ""]
 
     def lemmas(self, module):
-        if self.other:
+        if self.other or self.repeats:
             return []
         out = ["-- the number of each case fits its bits, and says that case"]
         out += [f"{self.s}_small : (it : {self.enum}) → {self.s}_number it < 2 ^ {self.wide}"]
@@ -217,6 +236,8 @@ class Enum(Line):
         return out + [f"{self.s}_again {case} = refl" for case in cases] + [""]
 
     def answers(self, module):
+        if self.repeats:
+            return {}
         goals = f"use {module.goals}.{self.enum}"
         tests = [(f"if-number-eq{value}", value) for value, _ in self.cases]
         misses = [f"ne_eqb _ {value} c.{label}.false" for label, value in tests]
@@ -296,10 +317,12 @@ class EachOfEnum(WrittenInLoop, Enum):
 class EnumItems(EachOfEnum):
     """A line NAME enum TYPE BITS x COUNT: NUMBER CASE, .. [, .. CASE]; DOC. Each says a case once all numbers are read."""
 
-    unfolds, long = ("unsigned", "unsigned_entry", "items_entry"), 6
+    unfolds, long, alone = ("unsigned", "unsigned_entry", "items_entry"), 6, False
 
     def __init__(self, name, words, said):
         super().__init__(name, words, said)
+        if self.repeats:
+            raise Refused("an array says its cases itself: `0 CASE, 1 CASE, ..` behind a colon")
         self.item, self.count = self.enum, number(words[4], 1, 4096, "the number of items")
         self.type, self.kind = f"[{self.enum}; {self.count}]", f"List {self.enum}"
 
@@ -422,7 +445,7 @@ class EnumItems(EachOfEnum):
         return super().names(module) | {module.specs_path: own}
 
 
-@kind("enum", form="`NAME enum TYPE BITS: NUMBER CASE, ..; DOC` or `NAME enum TYPE BITS x COUNT: NUMBER CASE, ..; DOC`")
+@kind("enum", form="`NAME enum TYPE BITS: NUMBER CASE, ..; DOC`, without cases if a line before it has them, or `NAME enum TYPE BITS x COUNT: NUMBER CASE, ..; DOC`")
 def enum(name, words, said):
     """A line NAME enum TYPE BITS [x COUNT]: NUMBER CASE, ..; DOC."""
     return (EnumItems if words[3:4] == ["x"] else Enum)(name, words, said)

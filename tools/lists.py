@@ -44,6 +44,7 @@ class Listed(WrittenInLoop, Line):
     each = ""  # what is said of each item
 
     def check(self, before):
+        super().check(before)
         counts = [it for it in before if isinstance(it, Count) and it.list == self.name]
         if not counts:
             raise Refused(f"no `count {self.name} BITS` before it")
