@@ -93,13 +93,18 @@ def example(said, lines, count, digits, answer):
             answer = examples.fields(lines, answer)
         elif any(it.error == answer and it.theirs for it in lines):
             raise Refused(f"`{answer}` holds an error of the part: give the example in its description")
-        elif answer not in ["EndOfInput", *[it.error for it in lines if it.error]]:
+        elif answer not in [*readers(lines), *[it.error for it in lines if it.error]]:
             raise Refused(f"an example answers `{answer}`, which is no case of the error")
         data = examples.bytes_of(digits)
         examples.check(lines, said["order"], data, answer)
     except Refused as it:
         raise Refused(f"line {count}: {it}") from None
     return data, answer
+
+
+def readers(lines):
+    """Gives the errors of the reader that these lines may answer."""
+    return ["EndOfInput", *[error for it in lines for error, _ in it.reader_errors]]
 
 
 def place(said, lines, find):

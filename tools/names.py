@@ -42,6 +42,7 @@ Rattle.bitstream_io.specs.Callers: ← ReadEntry WriteEntry Takes gives Error En
     optional_size
     non_zero_u8 non_zero_u16 non_zero_u32 non_zero_u64 non_zero_u128
     non_zero_u8_entry non_zero_u16_entry non_zero_u32_entry non_zero_u64_entry non_zero_u128_entry
+Rattle.bitstream_io.specs.Error.TheVariants: VariableWidthOverflow RedundantGroup
 Rattle.bitstream_io.specs.Grows: GrowingOutcome PartsRead
 Rattle.bitstream_io.specs.Loop: parts_size ItemsRead ItemsWritten
 Rattle.bitstream_io.specs.SliceMut: written_bytes

@@ -20,9 +20,10 @@ def values_of(lines, said):
     return [f"  {it.name} = {it.term(said[it.name])};" for it in lines if it.type]
 
 
-def refused(said):
+def refused(module, said):
     """Gives what bytes answer of which an example names the error."""
-    return "Err EndOfInput" if said == "EndOfInput" else f"Ok (Err {said})"
+    own = any(it.error == said for it in module.lines)
+    return f"Ok (Err {said})" if own else f"Err {said}"
 
 
 def row(module, k, data, said, unfolds):
@@ -37,7 +38,7 @@ def row(module, k, data, said, unfolds):
     if isinstance(said, str):
         return [
             *known,
-            f"refused_{k} : sure_answer (({m}_entry {o}).reads 0 (bits {o} row_{k})) ≡ {refused(said)}",
+            f"refused_{k} : sure_answer (({m}_entry {o}).reads 0 (bits {o} row_{k})) ≡ {refused(module, said)}",
             f"unfolding row_{k} {' '.join(unfolds)}",
             f"refused_{k} = refl",
             "",
