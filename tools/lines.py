@@ -53,6 +53,7 @@ class Line:
     many = False  # whether `word` is a list of writes, and not one
     grows = False  # whether its read asks for memory
     outer = ""  # the format's error
+    seen = ""  # behind its value: what contracts see of it
     kind = "ℕ"  # the type of its value in specs
     imports = ()  # paths that the code uses
     copies = ""  # the module of `bitstream_callers` that the crate needs a copy of
@@ -72,7 +73,7 @@ class Line:
     @property
     def view(self):
         """Gives what contracts see of the field."""
-        return self.value
+        return self.value + self.seen
 
     @property
     def stops(self):

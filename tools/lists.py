@@ -40,6 +40,7 @@ class Listed(WrittenInLoop, Line):
     """A line list NAME ..: as many items as were counted before. If an item may be refused, the list ends there."""
 
     many = grows = True
+    seen = ".items"
     reads = "c.in_{}-read.ensures.reads"  # the clause of the read of an item
     each = ""  # what is said of each item
 
@@ -51,7 +52,6 @@ class Listed(WrittenInLoop, Line):
         self.bits_of_count = counts[0].bits
 
     more = property(lambda self: f"Fewer than 2^{self.bits_of_count}{self.each}.")
-    view = property(lambda self: f"value.{self.name}.items")
     count = property(lambda self: f"length {self.value}")
     all_items = property(lambda self: "parts_entry" if self.error else "items_entry")
     entry = property(lambda self: f"{self.all_items} ({self.item_entry}) {self.name}_count")

@@ -162,7 +162,7 @@ class Code:
         for k, piece in list(enumerate(self.pieces()))[1:]:
             entry, seen = self.entry_at(piece[0])
             given = "".join(f", {it.name}: {it.held or it.type}" for it in seen)
-            values = "".join(f" {it.name}{'.items' * it.grows}" for it in seen)
+            values = "".join(f" {it.name}{it.seen}" for it in seen)
             out += [
                 f"    /// Reads the fields from `{first_of(piece)}` on.",
                 f"    fn read_{k + 1}<R: BitRead>(reader: &mut R{self.memory()}{given}) -> Result<{self.type}, {self.e}>",
