@@ -15,7 +15,7 @@ RESERVED = set(
     ruleset mutual infix infixl infixr elim let in do coe fcoe tcoe hcom com type match fn if else for while loop struct
     enum impl trait self move ref mut ghost requires ensures search grind simp omega assumption ground cc rw
     bits number word plain bit zeros unsigned signed gives take drop first_bit at from more o value words map optional
-    reader writer fits result packet""".split()
+    reader writer fits result packet alloc""".split()
 )
 ORDERS = {"BE": "High", "LE": "Low"}
 # What is said of the whole, and how.

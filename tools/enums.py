@@ -367,8 +367,10 @@ class EnumItems(EachOfEnum):
         reads = f"ReadsOwn R.source becomes_{module.m}" if self.error else "Reads R.source"
         first = self.cases[0][1] if self.cases else f"{self.other}(0)"
         each = f"{self.enum}::each(numbers)"
+        of_one = f"    /// `{self.error}` if one of them says no case"
         return [
-            f"    /// Returns what each number says{', or the error if one says no case' * bool(self.error)}.",
+            "    /// Returns what each number says.",
+            *["    ///", "    /// # Errors", "    ///", f"{of_one}."] * bool(self.error),
             f"    pub fn each(numbers: {numbers}) -> {self.answer(module, self.type)[0]}",
             f"        ensures {{ result ≡ {self.s}_each numbers }}",
             "    {",
@@ -379,7 +381,12 @@ class EnumItems(EachOfEnum):
             f"        {'Ok(found)' if self.error else 'found'}",
             "    }",
             "",
-            f"    /// Reads {self.count} numbers, and then returns what they say.",
+            f"    /// Reads {self.count} numbers of {self.wide} bits each, and then returns what they say.",
+            "    ///",
+            "    /// # Errors",
+            "    ///",
+            *[f"{of_one}: all of them are read then."] * bool(self.error),
+            f"    /// {'Else those' if self.error else 'Those'} of the reader: after each of them it has failed.",
             f"    pub fn read_each<R: BitRead>(reader: &mut R) -> Result<{self.type}, {error}>",
             f"        ensures {{ {reads} ({self.s}_read_each R.source.order) reader.old result reader.new }}",
             "    {",
