@@ -12,8 +12,8 @@ use Rattle.bitstream_io.specs.Entry.{ReadEntry, Takes}
 use Rattle.bitstream_io.specs.Fault.{read_refusal_of}
 use Rattle.bitstream_io.specs.Refusal.{Refusal, IsTrueEnd}
 use Rattle.bitstream_io.specs.Own.{OwnAnswer}
-use Rattle.bitstream_io.specs.Reads.{ReaderState, BitSource, Reads, ReadDone, ReadRefused, had_failed, was_done, was_refused, memory_refused}
-use Rattle.bitstream_io.proofs.ReadsLemmas.{Took, Took-nil, Took-trans, Took-left, took, parts_left}
+use Rattle.bitstream_io.specs.Reads.{ReaderState, BitSource, Reads, Took, ReadDone, ReadRefused, had_failed, was_done, was_refused, memory_refused}
+use Rattle.bitstream_io.proofs.ReadsLemmas.{Took-nil, Took-trans, Took-left, took, parts_left}
 use Rattle.bitfields_core.specs.declared.fault.Fault.{Fault}
 use Rattle.bitfields_core.specs.declared.fault.Reason.{Reason}
 use Rattle.bitfields_core.specs.declared.fault.Reason.TheVariants.{BitsEnded, OutOfMemory}

@@ -1,12 +1,9 @@
 //! Numbers of bits of bytes in memory, which may be more than a `u64` holds.
-ghost use Rattle.std.specs.Prelude.{◌≡◌, ◌<◌, ◌≤◌, ◌^◌};
+ghost use Rattle.std.specs.Prelude.{◌≡◌, min};
 
 /// Returns a number, or 2^64 - 1 if it is more.
 pub fn capped(number: u128) -> u64
-    // The answer is at most the number.
-    ensures most { result ≤ number }
-    // If the number is below 2^64, it is the answer.
-    ensures exact { number < 2 ^ 64 → result ≡ number }
+    ensures { result ≡ min number u64.MAX }
 {
     if number < 1 << 64 {
         number as u64

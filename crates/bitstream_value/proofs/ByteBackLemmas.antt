@@ -10,13 +10,13 @@ use Rattle.bitstream_stream.specs.WholeBytes.ByteReads.{ByteReadEntry, given_byt
 use Rattle.bitstream_stream.proofs.Reading.EntryLemmas.{word_front-some as byte_front-some}
 use Rattle.bitstream_value.specs.ByteGrows.{byte_part_then, byte_parts}
 use Rattle.bitstream_value.specs.ByteSteps.{number_bytes}
-use Rattle.bitstream_value.specs.ByteTypes.{byte_chain, byte_gives}
+use Rattle.bitstream_value.specs.ByteTypes.{byte_chain, byte_gives, byte_stores}
 use Rattle.bitstream_value.proofs.ByteSteps.{chain-ok, bytes_in, number-bytes}
 use Rattle.bitstream_value.proofs.ByteGrowsLemmas.{byte_parts-suc}
 
 -- these bytes are taken, whatever follows, and this is answered
 abbrev pub BytesBack : {A : Type 0} → ByteReadEntry A → List ℕ → A → Type 0
-BytesBack e taken a = (more : List ℕ) → e (taken ++ more) ≡ Takes (length taken) (Ok a)
+BytesBack e taken a = (more : List ℕ) → e.reads (taken ++ more) ≡ Takes (length taken) (Ok a)
 
 -- n bytes
 pub given-back : (n : ℕ) (x : List ℕ) → length x ≡ n → BytesBack (given_bytes n) x x
@@ -64,12 +64,12 @@ module _ {A E : Type 0} (e : ByteReadEntry (Result A E)) (writes : A → List �
   part-behind : (n : ℕ) (w u : List ℕ) (xs : List A) (x : A) → BytesBack (byte_parts e n) w (Ok xs)
       → BytesBack e u (Ok x) → BytesBack (byte_parts e (suc n)) (w ++ u) (Ok (xs ++ x ∷ []))
   part-behind n w u xs x h k =
-      let last = byte_part-back e (λ y. byte_gives (Ok (xs ++ y ∷ []))) u [] x (Ok (xs ++ x ∷ [])) k
-      (nothing-back (Ok (xs ++ x ∷ []))) in
-      let behind = subst (λ l. BytesBack (byte_chain e (byte_part_then (λ y. byte_gives (Ok (xs ++ y ∷ []))))) l
+      let last = byte_part-back e (λ y. byte_stores (Ok (xs ++ y ∷ []))) u [] x (Ok (xs ++ x ∷ [])) k
+      (λ more. refl) in
+      let behind = subst (λ l. BytesBack (byte_chain e (byte_part_then (λ y. byte_stores (Ok (xs ++ y ∷ []))))) l
       (Ok (xs ++ x ∷ []))) (append-nil u) last in
       rw (byte_parts-suc e n)
-      (byte_part-back (byte_parts e n) (λ ys. byte_chain e (byte_part_then (λ y. byte_gives (Ok (ys ++ y ∷ [])))))
+      (byte_part-back (byte_parts e n) (λ ys. byte_chain e (byte_part_then (λ y. byte_stores (Ok (ys ++ y ∷ [])))))
       w u xs (Ok (xs ++ x ∷ [])) h behind)
 
   parts-behind : (n : ℕ) (w : List ℕ) (xs ys : List A) → BytesBack (byte_parts e n) w (Ok xs)

@@ -1,81 +1,163 @@
 -- Reads of whole bytes in a function that asks for memory of its own.
-use Rattle.std.proofs.Common.{Continue, Break, ◌≡◌, ℕ, zero, suc, ◌+◌, ◌^◌, ◌*◌, ◌<◌, ◌≤◌, ◌⊎◌, inl, inr, false, List, [], ◌∷◌, ◌++◌, Result, Ok, Err, refl, sym, ap, ◌∙◌, subst, arith, add-one}
+use Rattle.std.proofs.Common.{Continue, Break, ◌≡◌, ℕ, zero, suc, ◌+◌, ◌^◌, ◌*◌, ◌<◌, ◌≤◌, ◌⊎◌, inl, inr, true, false, ◌||◌, IsTrue, List, [], ◌∷◌, ◌++◌, length, take, drop, Result, Ok, Err, refl, sym, ap, ◌∙◌, subst, arith, add-one}
 use Rattle.std.specs.Result.{IsErrAnd, result_from_control_flow}
 use Rattle.std.specs.declared.ops.ControlFlow.{ControlFlow}
 use Rattle.bitstream_count.specs.declared.error.Error.{Error}
 use Rattle.bitstream_count.specs.declared.error.Error.TheVariants.{OutOfMemory}
+use Rattle.bitstream_count.specs.Entry.{TooFew, Takes, allocates_after}
+use Rattle.std.proofs.Math.Seq.{drop-append_seam}
+use Rattle.std.proofs.lemmas.Bool.{le-leb, cases_lt}
+use Rattle.std.proofs.lemmas.Bool.Decides.{nat_tests}
 use Rattle.bitstream_number.specs.Word.{Order}
 use Rattle.bitstream_order.specs.Moving.Gather.{seen}
-use Rattle.bitstream_stream.specs.WholeBytes.ByteReads.{ByteSource, ByteReadEntry, ByteReads, ByteReadsGrowing, given_bytes, was_done, was_refused, memory_refused}
+use Rattle.bitstream_stream.specs.WholeBytes.ByteReads.{ByteSource, ByteReadEntry, ByteReads, ByteReadsGrowing, given_bytes, vec_bytes, was_done, was_refused, memory_refused}
 use Rattle.bitstream_stream.proofs.WholeBytes.ByteReadsLemmas.{bytes_none, bytes_took}
-use Rattle.bitstream_value.specs.ByteGrows.{ByteGrowthRefused, ByteGrowingOutcome, by_reads, between_reads, ByteGrowsOwn, byte_part_then, byte_parts, BytePartsRead}
+use Rattle.bitstream_value.specs.ByteGrows.{ByteGrowthRefused, ByteGrowingOutcome, ByteReadLacksMemory, by_reads, in_a_read, between_reads, ByteGrowsOwn, byte_part_then, byte_parts, BytePartsRead}
 use Rattle.bitstream_value.specs.ByteSteps.{number_bytes}
-use Rattle.bitstream_value.specs.ByteTypes.{byte_chain, byte_gives}
+use Rattle.bitstream_value.specs.ByteTypes.{byte_chain, byte_gives, byte_stores}
 use Rattle.bitstream_value.specs.Own.{OwnAnswer}
-use Rattle.bitstream_value.proofs.ByteSteps.{chain_reads, chain_stops, chain-none, chain-needs, both_taken, none_needed, nothing_read, bytes_in, number_read, number_stops}
-use Rattle.bitstream_value.proofs.GrowsLemmas.{nat_le_split}
+use Rattle.bitstream_value.proofs.ByteSteps.{chain_reads, chain_stops, chain-none, chain-ok, chain-needs, both_taken, none_needed, nothing_read, bytes_in, number_read, number_stops}
+use Rattle.bitstream_value.proofs.GrowsLemmas.{nat_le_split, or_true}
 use Rattle.bitstream_value.proofs.OwnLemmas.{is_error}
 
--- memory was refused here, whatever stands ahead
-pub bytes-growth-here : {R A : Type 0} {K : ByteSource R} (e : ByteReadEntry A) (s : R)
+-- ---- after which bytes a call may allocate
+
+module _ {A B : Type 0} (e : ByteReadEntry A) (f : A → ByteReadEntry B) where
+  -- where the first of two calls may
+  byte_chain-allocates : (w : List ℕ) → IsTrue (e.allocates w) → IsTrue ((byte_chain e f).allocates w)
+  unfolding byte_chain
+  byte_chain-allocates w asked = rw asked refl
+
+  -- where the second may, after the first
+  byte_chain-allocates_after : (u v : List ℕ) (a : A)
+      → ((more : List ℕ) → e.reads (u ++ more) ≡ Takes (length u) (Ok a)) → IsTrue ((f a).allocates v)
+      → IsTrue ((byte_chain e f).allocates (u ++ v))
+  unfolding byte_chain
+  byte_chain-allocates_after u v a decides asked =
+      let here : allocates_after (e.reads (u ++ v)) (λ n b. (f b).allocates (drop n (u ++ v))) ≡ true =
+      rw (decides v, drop-append_seam u v) asked in
+      rw here (or_true (e.allocates (u ++ v)))
+
+-- a read into a vector may allocate while bytes are missing
+vec_bytes-allocates : (n : ℕ) (w : List ℕ) → (vec_bytes n).reads w ≡ TooFew → IsTrue ((vec_bytes n).allocates w)
+unfolding given_bytes
+vec_bytes-allocates n w few = elim (cases_lt (length w) n) [
+  | inl short ↦ grind (arith, nat_tests)
+  | inr long ↦
+      let there : (vec_bytes n).reads w ≡ Takes n (Ok (take n w)) = rw (le-leb n (length w) long) refl in
+      cc
+]
+
+-- ---- memory that was refused
+
+-- memory was refused here, where a call may allocate
+pub bytes-growth-here : {R A : Type 0} {K : ByteSource R} (e : ByteReadEntry A) (s : R) → IsTrue (e.allocates [])
     → ByteGrowingOutcome K e s (Err OutOfMemory) s
-bytes-growth-here {K = K} e s = between_reads (record {
+bytes-growth-here {K = K} e s asked = between_reads (record {
   answer = refl;
   bytes = [];
   needs = λ front b back is. absurd (none_needed front b back is);
+  asked = asked;
   took = (bytes_took 0 [] s s (bytes_none {K = K} {grows = false} s)).0;
 })
 
 -- a read that asks for no memory is one that may
 pub bytes_grown : {R A : Type 0} {K : ByteSource R} {e : ByteReadEntry A} {r : Result A Error} {s t : R}
     → ByteReads K e s r t → ByteGrowingOutcome K e s r t
-bytes_grown (was_done h) = by_reads (was_done h)
-bytes_grown (was_refused h) = by_reads (was_refused h)
-bytes_grown (memory_refused g h) = by_reads (memory_refused refl h)
+bytes_grown h = by_reads h
+
+-- a read into a vector
+vec_bytes-by : {R : Type 0} {K : ByteSource R} (n : ℕ) (r : Result (List ℕ) Error) (s t : R)
+    → ByteReadsGrowing K (given_bytes n) s r t → ByteGrowingOutcome K (vec_bytes n) s r t
+vec_bytes-by n r s t (was_done h) = by_reads (was_done (record {
+  bytes = h.bytes;
+  decides = h.decides;
+  needs = h.needs;
+  took = h.took;
+}))
+vec_bytes-by n r s t (was_refused h) = by_reads (was_refused (record {
+  refusal = h.refusal;
+  allowed = h.allowed;
+  answer = h.answer;
+  gone = h.gone;
+  loses = h.loses;
+  after = h.after;
+  taken = h.taken;
+  few = h.few;
+  ended = h.ended;
+  refusals = h.refusals;
+  references = h.references;
+}))
+vec_bytes-by n r s t (memory_refused g h) = in_a_read (record {
+  refused = record { answer = h.answer; bytes = h.bytes; few = h.few; took = h.took };
+  asked = vec_bytes-allocates n h.bytes h.few;
+})
+
+pub vec_bytes-grown : {R : Type 0} {K : ByteSource R} {n : ℕ} {r : Result (List ℕ) Error} {s t : R}
+    → ByteReadsGrowing K (given_bytes n) s r t → ByteGrowingOutcome K (vec_bytes n) s r t
+vec_bytes-grown {n = n} {r = r} {s = s} {t = t} h = vec_bytes-by n r s t h
 
 module _ {R A B : Type 0} {K : ByteSource R} (e : ByteReadEntry A) (f : A → ByteReadEntry B) where
-  behind : {a : A} {r : Result B Error} {s t z : R} → ByteReadsGrowing K e s (Ok a) t
+  behind : {a : A} {r : Result B Error} {s t z : R} → ByteReads K e s (Ok a) t
       → ByteGrowthRefused (f a) (K.state t) r (K.state z) → ByteGrowthRefused (byte_chain e f) (K.state s) r (K.state z)
   behind {a = a} {s = s} {t = t} {z = z} (was_done h) k = record {
     answer = k.answer;
     bytes = h.bytes ++ k.bytes;
     needs = chain-needs e f h.bytes k.bytes a h.decides h.needs k.needs;
+    asked = byte_chain-allocates_after e f h.bytes k.bytes a h.decides k.asked;
     took = both_taken K h.bytes k.bytes s t z h.took k.took;
   }
   behind (was_refused h) k = let p = h.answer in cc
-  behind (memory_refused g h) k = let p = h.answer in cc
+  behind (memory_refused g h) k = cc
+
+  lacks_behind : {a : A} {r : Result B Error} {s t z : R} → ByteReads K e s (Ok a) t
+      → ByteReadLacksMemory (f a) (K.state t) r (K.state z)
+      → ByteReadLacksMemory (byte_chain e f) (K.state s) r (K.state z)
+  lacks_behind {a = a} {s = s} {t = t} {z = z} (was_done h) k =
+      let more = k.refused.bytes in
+      record {
+        refused = record {
+          answer = k.refused.answer;
+          bytes = h.bytes ++ more;
+          few = chain-ok e f h.bytes more a TooFew (h.decides more) k.refused.few;
+          took = both_taken K h.bytes more s t z h.took k.refused.took;
+        };
+        asked = byte_chain-allocates_after e f h.bytes more a h.decides k.asked;
+      }
+  lacks_behind (was_refused h) k = let p = h.answer in cc
+  lacks_behind (memory_refused g h) k = cc
 
   -- one part and then another
   pub bytes-grow-ok : {a : A} {r : Result B Error} {s t z : R} → ByteGrowingOutcome K e s (Ok a) t
       → ByteGrowingOutcome K (f a) t r z → ByteGrowingOutcome K (byte_chain e f) s r z
   bytes-grow-ok (by_reads h) (by_reads k) = by_reads (chain_reads e f h k)
+  bytes-grow-ok {s = s} {t = t} {z = z} (by_reads h) (in_a_read k) =
+      in_a_read (lacks_behind {s = s} {t = t} {z = z} h k)
   bytes-grow-ok {s = s} {t = t} {z = z} (by_reads h) (between_reads k) =
       between_reads (behind {s = s} {t = t} {z = z} h k)
+  bytes-grow-ok (in_a_read h) k = let p = h.refused.answer in cc
   bytes-grow-ok (between_reads h) k = let p = h.answer in cc
 
   -- a part that ends the call
   pub bytes-grow-err : {x : Error} {s t : R} → ByteGrowingOutcome K e s (Err x) t
       → ByteGrowingOutcome K (byte_chain e f) s (Err x) t
   bytes-grow-err (by_reads h) = by_reads (chain_stops e f h)
+  bytes-grow-err {x = x} (in_a_read h) = in_a_read (record {
+    refused = record {
+      answer = let p = h.refused.answer in cc;
+      bytes = h.refused.bytes;
+      few = chain-none e f h.refused.bytes h.refused.few;
+      took = h.refused.took;
+    };
+    asked = byte_chain-allocates e f h.refused.bytes h.asked;
+  })
   bytes-grow-err {x = x} (between_reads h) = between_reads (record {
     answer = let p = h.answer in cc;
     bytes = h.bytes;
     needs = λ front b back is. chain-none e f front (h.needs front b back is);
+    asked = byte_chain-allocates e f h.bytes h.asked;
     took = h.took;
   })
-
--- a call that was done, whose answer found no memory
-pub bytes-done-refused : {R A : Type 0} {K : ByteSource R} (e : ByteReadEntry A) (a : A) (s t : R)
-    → ByteGrowingOutcome K e s (Ok a) t → ByteGrowingOutcome K e s (Err OutOfMemory) t
-bytes-done-refused e a s t (by_reads (was_done h)) = between_reads (record {
-  answer = refl;
-  bytes = h.bytes;
-  needs = h.needs;
-  took = h.took;
-})
-bytes-done-refused e a s t (by_reads (was_refused h)) = let p = h.answer in cc
-bytes-done-refused e a s t (by_reads (memory_refused g h)) = let p = h.answer in cc
-bytes-done-refused e a s t (between_reads h) = let p = h.answer in cc
 
 -- ---- calls of a function with errors of its own
 
@@ -102,20 +184,23 @@ module _ {R A B E : Type 0} {K : ByteSource R} {becomes : Error → E → Type 0
   end_grown_bytes h p q k =
       stop_grown_bytes (bytes_grown (subst (λ x. ByteReads K e s x t) (p ∙ ap result_from_control_flow q) h)) k
 
-  -- a read that grows, whose answer is seen by a view
-  pub then_growing_bytes : {V : Type 0} (view : V → A) {z : R} {v : V} {answer : Result V Error}
-      {flow : ControlFlow _ V} → ByteReadsGrowing K e s (seen view answer) t → answer ≡ result_from_control_flow flow
-      → flow ≡ Continue v → ByteGrowsOwn K becomes (f (view v)) t r z → ByteGrowsOwn K becomes (byte_chain e f) s r z
+-- a read into a vector, whose answer is seen by a view
+module _ {R B E : Type 0} {K : ByteSource R} {becomes : Error → E → Type 0} {n : ℕ} (f : List ℕ
+    → ByteReadEntry (Result B E)) {r : Result B E} {s t : R} where
+  pub then_growing_bytes : {V : Type 0} (view : V → List ℕ) {z : R} {v : V} {answer : Result V Error}
+      {flow : ControlFlow _ V} → ByteReadsGrowing K (given_bytes n) s (seen view answer) t
+      → answer ≡ result_from_control_flow flow → flow ≡ Continue v → ByteGrowsOwn K becomes (f (view v)) t r z
+      → ByteGrowsOwn K becomes (byte_chain (vec_bytes n) f) s r z
   then_growing_bytes view h p q k =
-      go_grown_bytes
-      (by_reads (subst (λ x. ByteReadsGrowing K e s (seen view x) t) (p ∙ ap result_from_control_flow q) h)) k
+      go_grown_bytes f (vec_bytes-grown (subst (λ x. ByteReadsGrowing K (given_bytes n) s (seen view x) t)
+      (p ∙ ap result_from_control_flow q) h)) k
 
-  pub end_growing_bytes : {V : Type 0} (view : V → A) {answer : Result V Error} {flow : ControlFlow _ V} {x : _}
-      → ByteReadsGrowing K e s (seen view answer) t → answer ≡ result_from_control_flow flow → flow ≡ Break x
-      → IsErrAnd r (becomes x.0) → ByteGrowsOwn K becomes (byte_chain e f) s r t
+  pub end_growing_bytes : {V : Type 0} (view : V → List ℕ) {answer : Result V Error} {flow : ControlFlow _ V} {x : _}
+      → ByteReadsGrowing K (given_bytes n) s (seen view answer) t → answer ≡ result_from_control_flow flow
+      → flow ≡ Break x → IsErrAnd r (becomes x.0) → ByteGrowsOwn K becomes (byte_chain (vec_bytes n) f) s r t
   end_growing_bytes view h p q k =
-      stop_grown_bytes
-      (by_reads (subst (λ x. ByteReadsGrowing K e s (seen view x) t) (p ∙ ap result_from_control_flow q) h)) k
+      stop_grown_bytes f (vec_bytes-grown (subst (λ x. ByteReadsGrowing K (given_bytes n) s (seen view x) t)
+      (p ∙ ap result_from_control_flow q) h)) k
 
 -- a read of a number
 module _ {R B E : Type 0} {K : ByteSource R} {becomes : Error → E → Type 0} (o : Order) (n : ℕ) (f : ℕ
@@ -217,19 +302,23 @@ pub ruleset few_growing_byte_reads = (
 
 pub byte_parts-suc : {A E : Type 0} (e : ByteReadEntry (Result A E)) (n : ℕ) → byte_parts e (suc n)
     ≡ byte_chain (byte_parts e n) (byte_part_then (λ xs.
-    byte_chain e (byte_part_then (λ x. byte_gives (Ok (xs ++ x ∷ []))))))
+    byte_chain e (byte_part_then (λ x. byte_stores (Ok (xs ++ x ∷ []))))))
 unfolding byte_parts
 byte_parts-suc e n = refl
 
-own_done-refused : {R A E : Type 0} {K : ByteSource R} {becomes : Error → E → Type 0} (e : ByteReadEntry (Result A E))
-    (a : A) (y : E) (s t : R) (plain : Result (Result A E) Error) → ByteGrowingOutcome K e s plain t
-    → OwnAnswer becomes (λ x. x) plain (Ok a) → becomes OutOfMemory y → ByteGrowsOwn K becomes e s (Err y) t
-own_done-refused e a y s t (Ok v) h is own = record {
-  plain = Err OutOfMemory;
-  called = bytes-done-refused e v s t h;
-  answer = own;
+-- a value that was stored, behind all reads
+stored_bytes_end : {R A E : Type 0} {K : ByteSource R} {becomes : Error → E → Type 0} (r : Result A E) (s : R)
+    → ByteGrowsOwn K becomes (byte_stores r) s r s
+stored_bytes_end {K = K} r s = record {
+  plain = Ok r;
+  called = by_reads (was_done (record {
+    bytes = [];
+    decides = λ more. refl;
+    needs = λ front b back is. absurd (none_needed front b back is);
+    took = (bytes_took 0 [] s s (bytes_none {K = K} {grows = false} s)).0;
+  }));
+  answer = refl;
 }
-own_done-refused e a y s t (Err x) h is own = absurd is
 
 module _ {R A E : Type 0} {K : ByteSource R} {becomes : Error → E → Type 0} (e : ByteReadEntry (Result A E)) where
   -- none yet
@@ -242,7 +331,7 @@ module _ {R A E : Type 0} {K : ByteSource R} {becomes : Error → E → Type 0} 
       → BytePartsRead K becomes e n s xs t → ByteGrowsOwn K becomes e t (Ok x) z
       → BytePartsRead K becomes e (n + 1) s ys z
   byte_parts-push n {s = s} {z = z} is h k =
-      rw (add-one n, byte_parts-suc e n, is) (byte_part_go _ h (byte_part_go _ k (grown_bytes_end _ z)))
+      rw (add-one n, byte_parts-suc e n, is) (byte_part_go _ h (byte_part_go _ k (stored_bytes_end _ z)))
 
   later : (k all : ℕ) (y : E) (s t : R) → ByteGrowsOwn K becomes (byte_parts e k) s (Err y) t
       → (k ≡ all) ⊎ (k < all) → ByteGrowsOwn K becomes (byte_parts e all) s (Err y) t
@@ -260,9 +349,16 @@ module _ {R A E : Type 0} {K : ByteSource R} {becomes : Error → E → Type 0} 
       rw (byte_parts-suc e n) (byte_part_go _ h (byte_part_stop _ k refl)) in
       later (suc n) all x s z here (nat_le_split (suc n) all (omega (arith, more)))
 
-  -- some were read, and the next growth was refused
-  pub byte_parts-refused : (k all : ℕ) {xs : List A} {y : E} {s t : R} → k ≤ all → BytePartsRead K becomes e k s xs t
-      → becomes OutOfMemory y → ByteGrowsOwn K becomes (byte_parts e all) s (Err y) t
-  byte_parts-refused k all {xs = xs} {y = y} {s = s} {t = t} le h own =
-      later k all y s t (own_done-refused (byte_parts e k) xs y s t h.plain h.called h.answer own)
-      (nat_le_split k all le)
+  -- k parts were read and stored, and one more was read, for which no memory was found
+  pub byte_parts-refused : (k all : ℕ) {xs : List A} {x : A} {y : E} {s t z : R} → k < all
+      → BytePartsRead K becomes e k s xs t → ByteGrowsOwn K becomes e t (Ok x) z → becomes OutOfMemory y
+      → ByteGrowsOwn K becomes (byte_parts e all) s (Err y) z
+  byte_parts-refused k all {xs = xs} {x = x} {y = y} {s = s} {z = z} less h read own =
+      let last : ByteGrowsOwn K becomes (byte_stores (Ok (xs ++ x ∷ []))) z (Err y) z = record {
+        plain = Err OutOfMemory;
+        called = bytes-growth-here (byte_stores (Ok (xs ++ x ∷ []))) z refl;
+        answer = own;
+      } in
+      let next : ByteGrowsOwn K becomes (byte_parts e (suc k)) s (Err y) z =
+      rw (byte_parts-suc e k) (byte_part_go _ h (byte_part_go _ read last)) in
+      later (suc k) all y s z next (nat_le_split (suc k) all (omega (arith, less)))

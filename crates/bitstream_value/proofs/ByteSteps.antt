@@ -22,16 +22,17 @@ use Rattle.bitstream_value.specs.ByteTypes.{byte_chain, byte_gives, ByteReadsOwn
 -- ---- fronts of two reads
 
 module _ {A B : Type 0} (e : ByteReadEntry A) (f : A → ByteReadEntry B) where
-  pub chain-ok : (u v : List ℕ) (a : A) (x : Front B) → e (u ++ v) ≡ Takes (length u) (Ok a) → f a v ≡ x
-      → byte_chain e f (u ++ v) ≡ longer (length u) x
+  pub chain-ok : (u v : List ℕ) (a : A) (x : Front B) → e.reads (u ++ v) ≡ Takes (length u) (Ok a)
+      → (f a).reads v ≡ x → (byte_chain e f).reads (u ++ v) ≡ longer (length u) x
   unfolding byte_chain
-  chain-ok u v a x first second = rw first (ap (longer (length u)) (ap (f a) (drop-append_seam u v) ∙ second))
+  chain-ok u v a x first second = rw first (ap (longer (length u)) (ap (f a).reads (drop-append_seam u v) ∙ second))
 
-  chain-err : (w : List ℕ) (n : ℕ) (x : Error) → e w ≡ Takes n (Err x) → byte_chain e f w ≡ Takes n (Err x)
+  chain-err : (w : List ℕ) (n : ℕ) (x : Error) → e.reads w ≡ Takes n (Err x)
+      → (byte_chain e f).reads w ≡ Takes n (Err x)
   unfolding byte_chain
   chain-err w n x h = rw h refl
 
-  pub chain-none : (w : List ℕ) → e w ≡ TooFew → byte_chain e f w ≡ TooFew
+  pub chain-none : (w : List ℕ) → e.reads w ≡ TooFew → (byte_chain e f).reads w ≡ TooFew
   unfolding byte_chain
   chain-none w h = rw h refl
 
@@ -54,13 +55,13 @@ none_needed (c ∷ front) b back e = cc
 
 -- a beginning of the bytes of two reads, one behind the other, is too short for both
 module _ {A B : Type 0} (e : ByteReadEntry A) (f : A → ByteReadEntry B) where
-  pub chain-needs : (u v : List ℕ) (a : A) → ((more : List ℕ) → e (u ++ more) ≡ Takes (length u) (Ok a))
-      → ((front : List ℕ) (b : ℕ) (back : List ℕ) → u ≡ front ++ b ∷ back → e front ≡ TooFew)
-      → ((front : List ℕ) (b : ℕ) (back : List ℕ) → v ≡ front ++ b ∷ back → f a front ≡ TooFew)
-      → (front : List ℕ) (b : ℕ) (back : List ℕ) → u ++ v ≡ front ++ b ∷ back → byte_chain e f front ≡ TooFew
+  pub chain-needs : (u v : List ℕ) (a : A) → ((more : List ℕ) → e.reads (u ++ more) ≡ Takes (length u) (Ok a))
+      → ((front : List ℕ) (b : ℕ) (back : List ℕ) → u ≡ front ++ b ∷ back → e.reads front ≡ TooFew)
+      → ((front : List ℕ) (b : ℕ) (back : List ℕ) → v ≡ front ++ b ∷ back → (f a).reads front ≡ TooFew)
+      → (front : List ℕ) (b : ℕ) (back : List ℕ) → u ++ v ≡ front ++ b ∷ back → (byte_chain e f).reads front ≡ TooFew
   chain-needs u v a decides first second front b back is = elim (cut u v front b back is) [
     | inl p ↦ chain-none e f front (first front b p.0 p.1)
-    | inr p ↦ subst (λ w. byte_chain e f w ≡ TooFew) (sym p.1)
+    | inr p ↦ subst (λ w. (byte_chain e f).reads w ≡ TooFew) (sym p.1)
         (chain-ok e f u p.0 a TooFew (decides p.0) (second p.0 b back p.2))
   ]
 
@@ -100,7 +101,7 @@ module _ {R A B : Type 0} {K : ByteSource R} {grows : Bool} (e : ByteReadEntry A
         few = chain-ok e f u k.gone a TooFew (h.decides k.gone) k.few;
         ended = λ end xs known.
             let left = Consumes-known (K.state s).bytes (K.state t).bytes u xs took.loses known in
-            subst (λ w. byte_chain e f w ≡ TooFew) (sym left.2)
+            subst (λ w. (byte_chain e f).reads w ≡ TooFew) (sym left.2)
             (chain-ok e f u left.0 a TooFew (h.decides left.0) (k.ended end left.0 left.1));
         refusals = k.refusals ∙ ap (λ l. k.refusal ∷ l) took.refusals;
         references = k.references ∙ took.references;

@@ -1,42 +1,115 @@
 -- Reads in a function that asks for memory of its own.
-use Rattle.std.proofs.Common.{Some, ◌≡◌, ℕ, ◌+◌, ◌⊎◌, inl, inr, Bool, true, false, List, [], ◌∷◌, ◌++◌, length, Result, Ok, Err, refl, sym, ap, ◌∙◌, subst, append-nil, zero, suc, ◌≤◌, ◌<◌, arith, add-one}
+use Rattle.std.proofs.Common.{Some, ◌≡◌, ℕ, ◌+◌, ◌*◌, ◌⊎◌, inl, inr, Bool, true, false, ◌||◌, IsTrue, List, [], ◌∷◌, ◌++◌, length, drop, Result, Ok, Err, refl, sym, ap, ◌∙◌, subst, append-nil, append_assoc, length-append, zero, suc, ◌≤◌, ◌<◌, arith, add-one}
+use Rattle.std.proofs.KnownBytes.{Consumes-trans}
 use Rattle.std.specs.Result.{IsErrAnd, result_from_control_flow}
 use Rattle.std.specs.declared.ops.ControlFlow.{ControlFlow}
 use Rattle.std.specs.declared.ops.ControlFlow.TheVariants.{Continue, Break}
 use Rattle.bitstream_count.specs.declared.error.Error.{Error}
-use Rattle.bitstream_count.specs.declared.error.Error.TheVariants.{OutOfMemory}
-use Rattle.bitstream_count.specs.Entry.{ReadEntry, chain, gives}
-use Rattle.bitstream_number.specs.Word.{Order, bits}
+use Rattle.bitstream_count.specs.declared.error.Error.TheVariants.{Failed, OutOfMemory}
+use Rattle.bitstream_count.specs.Entry.{ReadEntry, Front, TooFew, Takes, allocates_after, chain, gives, is_whole, list_item, stores}
+use Rattle.bitstream_number.specs.Word.{Order, bits, bytes_of}
 use Rattle.bitstream_order.specs.Moving.Gather.{seen}
 use Rattle.bitstream_order.specs.Refusal.{TrueEnds}
 use Rattle.bitstream_stream.proofs.Reading.SliceLemmas.{Reads-answer}
-use Rattle.bitstream_stream.specs.Reading.Reads.{sure_answer, is_run_too_long, ReaderState, BitSource, Reads, ReadsGrowing, had_failed, was_done, was_refused, memory_refused}
-use Rattle.bitstream_stream.proofs.Reading.EntryLemmas.{chain-none, chain-ok}
-use Rattle.bitstream_stream.proofs.Reading.ReadsLemmas.{Took-trans, took, Behind, Behind-needs, Reads-chain-ok, Reads-chain-err, Reads-gives, Reads-growing, none_needed}
+use Rattle.bitstream_stream.specs.Reading.ReadTable.{bytes_entry, vec_entry}
+use Rattle.bitstream_stream.specs.Reading.Reads.{sure_answer, is_run_too_long, ReaderState, ReadDone, BitSource, Reads, ReadsGrowing, had_failed, was_done, was_refused, memory_refused}
+use Rattle.bitstream_stream.proofs.Reading.EntryLemmas.{chain-none, chain-ok, split, word_front-some}
+use Rattle.bitstream_stream.proofs.Reading.ReadsLemmas.{Consumes-known, Took-left, Took-nil, Took-trans, took, Behind, Behind-needs, Reads-chain-ok, Reads-chain-err, Reads-gives, Reads-same, none_needed, ok_front, parts_left}
 use Rattle.bitstream_value.specs.Own.{OwnAnswer, ReadsOwn, part_then, same_error, plain_reads}
 use Rattle.bitstream_value.proofs.OwnLemmas.{is_error, joined, front_short, never_own, read_by}
-use Rattle.bitstream_value.specs.Grows.{GrowthRefused, GrowingOutcome, by_reads, between_reads, GrowsOwn, OwnReads, parts_entry, PartsRead}
+use Rattle.bitstream_value.specs.Grows.{GrowthRefused, GrowingOutcome, by_reads, in_a_read, between_reads, GrowsOwn, MayAllocate, OwnReads, ReadLacksMemory, parts_entry, PartsRead}
 use Rattle.std.proofs.Math.Seq.{drop-append_seam}
-use Rattle.std.proofs.lemmas.Bool.Decides.{leb_tells}
+use Rattle.std.proofs.lemmas.Bool.{eq-eqb}
+use Rattle.std.proofs.lemmas.Bool.Decides.{leb_tells, nat_tests}
 use Rattle.bitstream_value.specs.Array.{items_entry}
 use Rattle.bitstream_value.proofs.ArrayLemmas.{items-suc}
 
--- memory was refused here, whatever stands ahead
-pub growth-here : {R A : Type 0} {K : BitSource R} (e : ReadEntry A) (s : R) → GrowingOutcome K e s (Err OutOfMemory) s
-growth-here e s = between_reads (record {
+-- ---- after which bits a call may allocate
+
+pub or_true : (b : Bool) → (b || true) ≡ true
+or_true true = refl
+or_true false = refl
+
+module _ {A B : Type 0} (e : ReadEntry A) (f : A → ReadEntry B) where
+  -- where the first of two calls may
+  pub chain-allocates : (p : ℕ) (w : List Bool) → IsTrue (e.allocates p w) → IsTrue ((chain e f).allocates p w)
+  unfolding chain
+  chain-allocates p w asked = rw asked refl
+
+  -- where the second may, after the first
+  pub chain-allocates_after : (p q : ℕ) (u v : List Bool) (a : A)
+      → ((more : List Bool) → e.reads p (u ++ more) ≡ Takes (length u) (Ok a)) → q ≡ p + length u
+      → IsTrue ((f a).allocates q v) → IsTrue ((chain e f).allocates p (u ++ v))
+  unfolding chain
+  chain-allocates_after p q u v a decides place asked =
+      let here : allocates_after (e.reads p (u ++ v)) (λ n b. (f b).allocates (p + n) (drop n (u ++ v))) ≡ true =
+      rw (decides v, drop-append_seam u v, ← place) asked in
+      rw here (or_true (e.allocates p (u ++ v)))
+
+never_after : {A : Type 0} (front : Front A) → allocates_after front (λ n a. false) ≡ false
+never_after TooFew = refl
+never_after (Takes n (Ok a)) = refl
+never_after (Takes n (Err x)) = refl
+
+or_false : (b : Bool) → (b || false) ≡ true → b ≡ true
+or_false true h = refl
+or_false false h = h
+
+-- a call whose value is then wrapped allocates where it does by itself
+plain-allocates : {A : Type 0} (e : ReadEntry A) (p : ℕ) (w : List Bool)
+    → IsTrue ((plain_reads {E = Error} e).allocates p w) → IsTrue (e.allocates p w)
+unfolding chain
+plain-allocates e p w asked =
+    or_false (e.allocates p w) (subst (λ b. (e.allocates p w || b) ≡ true) (never_after (e.reads p w)) asked)
+
+-- a read into a vector may allocate while bytes are missing
+vec-allocates : (o : Order) (n p : ℕ) (w : List Bool) → (vec_entry o n).reads p w ≡ TooFew
+    → IsTrue ((vec_entry o n).allocates p w)
+unfolding bytes_entry
+vec-allocates o n p w few = elim (split (8 * n) w) [
+  | inl short ↦ grind (arith, nat_tests)
+  | inr s ↦
+      let there : (vec_entry o n).reads p w ≡ Takes (8 * n) (Ok (bytes_of o n s.word)) =
+      rw s.parts (word_front-some (8 * n) (λ v. Ok (bytes_of o n v)) s.word s.rest s.len) in
+      cc
+]
+
+-- ---- memory that was refused
+
+-- the same refusal, as one of another call
+lacks_as : {A B : Type 0} (o : Order) (d : ReadEntry A) (e : ReadEntry B) (r : Result A Error) (x : Result B Error)
+    (s t : ReaderState) (h : ReadLacksMemory o d s r t) → x ≡ Err OutOfMemory
+    → e.reads s.taken h.refused.word ≡ TooFew → IsTrue (e.allocates s.taken h.refused.word)
+    → ReadLacksMemory o e s x t
+lacks_as o d e r x s t h is few asked = record {
+  refused = record {
+    fine = h.refused.fine;
+    answer = is;
+    word = h.refused.word;
+    few = few;
+    gone = h.refused.gone;
+    loses = h.refused.loses;
+    rest = h.refused.rest;
+    parts = h.refused.parts;
+    fetched = h.refused.fetched;
+    taken = h.refused.taken;
+    refusals = h.refused.refusals;
+    references = h.refused.references;
+    failed = h.refused.failed;
+  };
+  asked = asked;
+}
+
+-- memory was refused here, where a call may allocate
+pub growth-here : {R A : Type 0} {K : BitSource R} (e : ReadEntry A) (s : R) → (K.state s).failed ≡ false
+    → IsTrue (e.allocates (K.state s).taken []) → GrowingOutcome K e s (Err OutOfMemory) s
+growth-here {K = K} e s fine asked = between_reads (record {
   answer = refl;
   word = [];
   needs = λ front b back is. absurd (none_needed front b back is);
-  stands = inl (refl, refl);
+  asked = asked;
+  took = Took-nil K.order (K.state s) fine;
 })
-
--- a call that came to an answer on a reader that has failed
-Same-here : {R A : Type 0} (K : BitSource R) (e : ReadEntry A) (s t z : R) (r : Result A Error) → K.state t ≡ K.state s
-    → (K.state s).failed ≡ true → GrowthRefused K.order e (K.state t) r (K.state z) → K.state z ≡ K.state s
-Same-here K e s t z r same failed h = elim h.stands [
-  | inl p ↦ p.1 ∙ same
-  | inr p ↦ let fine = p.fine in let f : (K.state t).failed ≡ true = ap (λ (x : ReaderState). x.failed) same ∙ failed in cc
-]
 
 refused-first : {A B : Type 0} (o : Order) (e : ReadEntry A) (f : A → ReadEntry B) (x : Error) (s t : ReaderState)
     → GrowthRefused o e s (Err x) t → GrowthRefused o (chain e f) s (Err x) t
@@ -44,69 +117,135 @@ refused-first o e f x s t h = record {
   answer = let p = h.answer in cc;
   word = h.word;
   needs = λ front b back is. chain-none e f s.taken front (h.needs front b back is);
-  stands = h.stands;
+  asked = chain-allocates e f s.taken h.word h.asked;
+  took = h.took;
 }
 
 module _ {R A B : Type 0} {K : BitSource R} (e : ReadEntry A) (f : A → ReadEntry B) where
-  -- part one was done, and then memory was refused
-  refused-behind : {a : A} {r : Result B Error} {s t z : R} → ReadsGrowing K e s (Ok a) t
+  -- what no beginning of two words decides
+  after_first : {a : A} {s t : R} (h : ReadDone K.order e (K.state s) (Ok a) (K.state t))
+      → Behind (chain e f) (K.state s).taken h.word (f a) (K.state t).taken
+  after_first {a = a} {s = s} h = record {
+    needs = λ front b back is. chain-none e f (K.state s).taken front (h.needs front b back is);
+    short = λ more short. chain-ok e f (K.state s).taken (h.word ++ more) (length h.word) a (h.decides more)
+        ∙ rw (drop-append_seam h.word more, ← h.taken, short) refl;
+  }
+
+  -- the first call was done, and then memory was refused
+  refused-behind : {a : A} {r : Result B Error} {s t z : R} → Reads K e s (Ok a) t
       → GrowthRefused K.order (f a) (K.state t) r (K.state z)
       → GrowthRefused K.order (chain e f) (K.state s) r (K.state z)
-  refused-behind {a = a} {r = r} {s = s} {t = t} {z = z} (had_failed h) k = record {
+  refused-behind {t = t} (had_failed h) k =
+      let fine = k.took.fine in
+      let failed : (K.state t).failed ≡ true = ap (λ (x : ReaderState). x.failed) h.same ∙ h.failed in
+      cc
+  refused-behind {a = a} {s = s} {t = t} {z = z} (was_done h) k = record {
     answer = k.answer;
-    word = [];
-    needs = λ front b back is. absurd (none_needed front b back is);
-    stands = inl (refl, Same-here K (f a) s t z r h.same h.failed k);
+    word = h.word ++ k.word;
+    needs = Behind-needs k.word (after_first {s = s} {t = t} h) k.needs;
+    asked = chain-allocates_after e f (K.state s).taken (K.state t).taken h.word k.word a h.decides h.taken k.asked;
+    took = Took-trans K.order h.word k.word (K.state s) (K.state t) (K.state z)
+        (took K.order e a (K.state s) (K.state t) h) k.took;
   }
-  refused-behind {a = a} {r = r} {s = s} {t = t} {z = z} (was_done h) k =
-      let behind : Behind (chain e f) (K.state s).taken h.word (f a) (K.state t).taken = record {
-        needs = λ front b back is. chain-none e f (K.state s).taken front (h.needs front b back is);
-        short = λ more short. chain-ok e f (K.state s).taken (h.word ++ more) (length h.word) a (h.decides more)
-            ∙ rw (drop-append_seam h.word more, ← h.taken, short) refl;
-      } in
-      let first = took K.order e a (K.state s) (K.state t) h in
-      record {
-        answer = k.answer;
-        word = h.word ++ k.word;
-        needs = Behind-needs k.word behind k.needs;
-        stands = inr (elim k.stands [
-          | inl p ↦ rw (p.0, p.1, append-nil h.word) first
-          | inr p ↦ Took-trans K.order h.word k.word (K.state s) (K.state t) (K.state z) first p
-        ]);
-      }
   refused-behind (was_refused h) k = let p = h.answer in cc
-  refused-behind (memory_refused g h) k = let p = h.answer in cc
+  refused-behind (memory_refused g h) k = cc
+
+  -- the first call was done, and then memory was refused to the second
+  lacks-behind : {a : A} {r : Result B Error} {s t z : R} → Reads K e s (Ok a) t
+      → ReadLacksMemory K.order (f a) (K.state t) r (K.state z)
+      → ReadLacksMemory K.order (chain e f) (K.state s) r (K.state z)
+  lacks-behind {t = t} (had_failed h) k =
+      let fine = k.refused.fine in
+      let failed : (K.state t).failed ≡ true = ap (λ (x : ReaderState). x.failed) h.same ∙ h.failed in
+      cc
+  lacks-behind {a = a} {s = s} {t = t} {z = z} (was_done h) k =
+      let o = K.order in
+      let u = h.word in
+      let v = k.refused.word in
+      let was = took o e a (K.state s) (K.state t) h in
+      record {
+        refused = record {
+          fine = h.fine;
+          answer = k.refused.answer;
+          word = u ++ v;
+          few = (after_first {s = s} {t = t} h).short v k.refused.few;
+          gone = was.gone ++ k.refused.gone;
+          loses = Consumes-trans (K.state s).bytes (K.state t).bytes (K.state z).bytes was.gone k.refused.gone was.loses
+              k.refused.loses;
+          rest = k.refused.rest;
+          parts = parts_left o (K.state s).queue (K.state t).queue u was.gone k.refused.gone was.parts
+              ∙ ap (λ l. u ++ l) k.refused.parts ∙ sym (append_assoc u v k.refused.rest);
+          fetched = omega (arith, was.fetched, k.refused.fetched, length-append was.gone k.refused.gone);
+          taken = omega (arith, was.taken, k.refused.taken, length-append u v);
+          refusals = k.refused.refusals ∙ was.refusals;
+          references = k.refused.references ∙ was.references;
+          failed = k.refused.failed;
+        };
+        asked = chain-allocates_after e f (K.state s).taken (K.state t).taken u v a h.decides h.taken k.asked;
+      }
+  lacks-behind (was_refused h) k = let p = h.answer in cc
+  lacks-behind (memory_refused g h) k = cc
 
   -- one part and then another
   pub grows-chain-ok : {a : A} {r : Result B Error} {s t z : R} → GrowingOutcome K e s (Ok a) t
       → GrowingOutcome K (f a) t r z → GrowingOutcome K (chain e f) s r z
   grows-chain-ok (by_reads h) (by_reads k) = by_reads (Reads-chain-ok e f h k)
+  grows-chain-ok {s = s} {t = t} {z = z} (by_reads h) (in_a_read k) =
+      in_a_read (lacks-behind {s = s} {t = t} {z = z} h k)
   grows-chain-ok {s = s} {t = t} {z = z} (by_reads h) (between_reads k) =
       between_reads (refused-behind {s = s} {t = t} {z = z} h k)
+  grows-chain-ok (in_a_read h) k = let p = h.refused.answer in cc
   grows-chain-ok (between_reads h) k = let p = h.answer in cc
 
   -- a part that ends the call
   pub grows-chain-err : {x : Error} {s t : R} → GrowingOutcome K e s (Err x) t → GrowingOutcome K (chain e f) s (Err x) t
   grows-chain-err (by_reads h) = by_reads (Reads-chain-err e f h)
+  grows-chain-err {x = x} {s = s} {t = t} (in_a_read h) =
+      in_a_read (lacks_as K.order e (chain e f) (Err x) (Err x) (K.state s) (K.state t) h
+      (let p = h.refused.answer in cc)
+      (chain-none e f (K.state s).taken h.refused.word h.refused.few)
+      (chain-allocates e f (K.state s).taken h.refused.word h.asked))
   grows-chain-err {x = x} {s = s} {t = t} (between_reads h) =
       between_reads (refused-first K.order e f x (K.state s) (K.state t) h)
+
+-- a call that answered with a value on a reader that goes on
+still_fine : {R A : Type 0} {K : BitSource R} {e : ReadEntry A} {a : A} {s t : R} → e.on_failed ≡ Err Failed
+    → GrowingOutcome K e s (Ok a) t → (K.state t).failed ≡ false
+still_fine failed (by_reads h) = (ok_front failed h).failed
+still_fine failed (in_a_read h) = let p = h.refused.answer in cc
+still_fine failed (between_reads h) = let p = h.answer in cc
 
 -- ---- calls of a function with errors of its own
 
 -- an outcome that asks for no memory is one that may
 pub grown : {R A : Type 0} {K : BitSource R} {e : ReadEntry A} {r : Result A Error} {s t : R} → Reads K e s r t
     → GrowingOutcome K e s r t
-grown h = by_reads (Reads-growing h)
+grown h = by_reads h
+
+-- a read into a vector
+vec-by : {R : Type 0} {K : BitSource R} (o : Order) (n : ℕ) (r : Result (List ℕ) Error) (s t : R)
+    → ReadsGrowing K (vec_entry o n) s r t → GrowingOutcome K (vec_entry o n) s r t
+vec-by o n r s t (had_failed h) = by_reads (had_failed h)
+vec-by o n r s t (was_done h) = by_reads (was_done h)
+vec-by o n r s t (was_refused h) = by_reads (was_refused h)
+vec-by {K = K} o n r s t (memory_refused g h) =
+    in_a_read (record { refused = h; asked = vec-allocates o n (K.state s).taken h.word h.few })
+
+pub vec-grown : {R : Type 0} {K : BitSource R} {o : Order} {n : ℕ} {r : Result (List ℕ) Error} {s t : R}
+    → ReadsGrowing K (bytes_entry o n) s r t → GrowingOutcome K (vec_entry o n) s r t
+vec-grown {o = o} {n = n} {r = r} {s = s} {t = t} h =
+    vec-by o n r s t (Reads-same (record { reads = λ p b. refl; on_failed = refl }) h)
 
 pub if_grown : {R A E : Type 0} {K : BitSource R} {becomes : Error → E → Type 0} {e : ReadEntry (Result A E)}
     {r : Result A E} {s t : R} (grows : Bool) → OwnReads grows K becomes e s r t → GrowsOwn K becomes e s r t
 if_grown true h = h
 if_grown false h = record { plain = h.plain; called = grown h.called; answer = h.answer }
 
--- memory was refused
+-- memory was refused here, where a call may allocate
 pub own_refused : {R A E : Type 0} {K : BitSource R} {becomes : Error → E → Type 0} (e : ReadEntry (Result A E))
-    (r : Result A E) (s : R) → IsErrAnd r (becomes OutOfMemory) → GrowsOwn K becomes e s r s
-own_refused e r s is = record { plain = Err OutOfMemory; called = growth-here e s; answer = is }
+    (r : Result A E) (s : R) → (K.state s).failed ≡ false → IsTrue (e.allocates (K.state s).taken [])
+    → IsErrAnd r (becomes OutOfMemory) → GrowsOwn K becomes e s r s
+own_refused e r s fine asked is = record { plain = Err OutOfMemory; called = growth-here e s fine asked; answer = is }
 
 module _ {R A B E : Type 0} {K : BitSource R} {becomes : Error → E → Type 0} {e : ReadEntry A} (f : A
     → ReadEntry (Result B E)) {r : Result B E} {s t : R} where
@@ -129,18 +268,22 @@ module _ {R A B E : Type 0} {K : BitSource R} {becomes : Error → E → Type 0}
       → GrowsOwn K becomes (chain e f) s r t
   end_grown_read h p q k = stop_grown (grown (subst (λ x. Reads K e s x t) (p ∙ ap result_from_control_flow q) h)) k
 
-  -- a read that grows, whose answer is seen by a view
-  pub then_growing : {V : Type 0} (view : V → A) {z : R} {v : V} {answer : Result V Error} {flow : ControlFlow _ V}
-      → ReadsGrowing K e s (seen view answer) t → answer ≡ result_from_control_flow flow → flow ≡ Continue v
-      → GrowsOwn K becomes (f (view v)) t r z → GrowsOwn K becomes (chain e f) s r z
+-- a read into a vector, whose answer is seen by a view
+module _ {R B E : Type 0} {K : BitSource R} {becomes : Error → E → Type 0} {o : Order} {n : ℕ} (f : List ℕ
+    → ReadEntry (Result B E)) {r : Result B E} {s t : R} where
+  pub then_growing : {V : Type 0} (view : V → List ℕ) {z : R} {v : V} {answer : Result V Error} {flow : ControlFlow _ V}
+      → ReadsGrowing K (bytes_entry o n) s (seen view answer) t → answer ≡ result_from_control_flow flow
+      → flow ≡ Continue v → GrowsOwn K becomes (f (view v)) t r z → GrowsOwn K becomes (chain (vec_entry o n) f) s r z
   then_growing view h p q k =
-      go_grown (by_reads (subst (λ x. ReadsGrowing K e s (seen view x) t) (p ∙ ap result_from_control_flow q) h)) k
+      go_grown f (vec-grown (subst (λ x. ReadsGrowing K (bytes_entry o n) s (seen view x) t)
+      (p ∙ ap result_from_control_flow q) h)) k
 
-  pub end_growing : {V : Type 0} (view : V → A) {answer : Result V Error} {flow : ControlFlow _ V} {x : _}
-      → ReadsGrowing K e s (seen view answer) t → answer ≡ result_from_control_flow flow → flow ≡ Break x
-      → IsErrAnd r (becomes x.0) → GrowsOwn K becomes (chain e f) s r t
+  pub end_growing : {V : Type 0} (view : V → List ℕ) {answer : Result V Error} {flow : ControlFlow _ V} {x : _}
+      → ReadsGrowing K (bytes_entry o n) s (seen view answer) t → answer ≡ result_from_control_flow flow
+      → flow ≡ Break x → IsErrAnd r (becomes x.0) → GrowsOwn K becomes (chain (vec_entry o n) f) s r t
   end_growing view h p q k =
-      stop_grown (by_reads (subst (λ x. ReadsGrowing K e s (seen view x) t) (p ∙ ap result_from_control_flow q) h)) k
+      stop_grown f (vec-grown (subst (λ x. ReadsGrowing K (bytes_entry o n) s (seen view x) t)
+      (p ∙ ap result_from_control_flow q) h)) k
 
 -- the answer behind all reads: a value, or an error of the type's own
 pub grown_end : {R A E : Type 0} {K : BitSource R} {becomes : Error → E → Type 0} (r : Result A E) (s : R)
@@ -222,39 +365,46 @@ nat_le_split k n le = elim (leb_tells n k) [
   | inr h ↦ let p : k < n = h.1 in inr p
 ]
 
--- a call that was done, whose answer found no memory
-pub done-refused : {R A : Type 0} {K : BitSource R} (e : ReadEntry A) (a : A) (s t : R) → GrowingOutcome K e s (Ok a) t
-    → GrowingOutcome K e s (Err OutOfMemory) t
-done-refused {K = K} e a s t (by_reads (had_failed h)) = between_reads (record {
-  answer = refl;
-  word = [];
-  needs = λ front b back is. absurd (none_needed front b back is);
-  stands = inl (refl, h.same);
-})
-done-refused {K = K} e a s t (by_reads (was_done h)) = between_reads (record {
-  answer = refl;
-  word = h.word;
-  needs = h.needs;
-  stands = inr (took K.order e a (K.state s) (K.state t) h);
-})
-done-refused e a s t (by_reads (was_refused h)) = let p = h.answer in cc
-done-refused e a s t (by_reads (memory_refused g h)) = let p = h.answer in cc
-done-refused e a s t (between_reads h) = let p = h.answer in cc
+-- an item was read, and then storing it found no memory
+item-refused : {R A : Type 0} {K : BitSource R} (e : ReadEntry A) (a : A) (s t : R) → e.on_failed ≡ Err Failed
+    → Reads K e s (Ok a) t → GrowingOutcome K (list_item e) s (Err OutOfMemory) t
+item-refused {K = K} e a s t failed read =
+    let h = ok_front failed read in
+    let p = (K.state s).taken in
+    let is : e.reads p h.word ≡ Takes (length h.word) (Ok a) = ap (e.reads p) (sym (append-nil h.word)) ∙ h.decides [] in
+    let whole : is_whole (e.reads p h.word) h.word ≡ true = rw is (eq-eqb (length h.word) (length h.word) refl) in
+    between_reads (record {
+      answer = refl;
+      word = h.word;
+      needs = h.needs;
+      asked = rw whole (or_true (e.allocates p h.word));
+      took = took K.order e a (K.state s) (K.state t) h;
+    })
 
--- some of the items were read, and then memory was refused
-items-lack : {R A : Type 0} {K : BitSource R} (e : ReadEntry A) (k all : ℕ) (xs : List A) (s t : R) → k ≤ all
-    → Reads K (items_entry e k) s (Ok xs) t → (k ≡ all) ⊎ (k < all)
-    → GrowingOutcome K (items_entry e all) s (Err OutOfMemory) t
-items-lack {K = K} e k all xs s t le h (inl is) =
-    subst (λ n. GrowingOutcome K (items_entry e n) s (Err OutOfMemory) t) is (done-refused (items_entry e k) xs s t (grown h))
-items-lack e k zero xs s t le h (inr less) = absurd (omega (arith, less))
-items-lack {K = K} e k (suc n) xs s t le h (inr less) =
-    rw (items-suc e n) (grows-chain-err (items_entry e n) _
-    (items-lack e k n xs s t (omega (arith, less)) h (nat_le_split k n (omega (arith, less)))))
+module _ {R A : Type 0} {K : BitSource R} (e : ReadEntry A) where
+  -- some of the items were read, and then memory was refused
+  items-lack : (k all : ℕ) (s t : R) → GrowingOutcome K (items_entry e k) s (Err OutOfMemory) t
+      → (k ≡ all) ⊎ (k < all) → GrowingOutcome K (items_entry e all) s (Err OutOfMemory) t
+  items-lack k all s t h (inl is) = subst (λ n. GrowingOutcome K (items_entry e n) s (Err OutOfMemory) t) is h
+  items-lack k zero s t h (inr less) = absurd (omega (arith, less))
+  items-lack k (suc n) s t h (inr less) =
+      rw (items-suc e n) (grows-chain-err (items_entry e n) _
+      (items-lack k n s t h (nat_le_split k n (omega (arith, less)))))
 
-pub items-refused : {R A : Type 0} {K : BitSource R} (e : ReadEntry A) (k all : ℕ) {xs : List A} {s t : R} → k ≤ all
-    → Reads K (items_entry e k) s (Ok xs) t → GrowingOutcome K (items_entry e all) s (Err OutOfMemory) t
-items-refused e k all {xs = xs} {s = s} {t = t} le h = items-lack e k all xs s t le h (nat_le_split k all le)
+-- an item is read as one that is stored
+pub item-read : {R A : Type 0} {K : BitSource R} {e : ReadEntry A} {r : Result A Error} {s t : R} → Reads K e s r t
+    → Reads K (list_item e) s r t
+item-read h = Reads-same (record { reads = λ p b. refl; on_failed = refl }) h
+
+-- k items were read and stored, and one more was read, for which no memory was found
+pub items-refused : {R A : Type 0} {K : BitSource R} (e : ReadEntry A) (k all : ℕ) {xs : List A} {a : A} {s t z : R}
+    → e.on_failed ≡ Err Failed → k < all → Reads K (items_entry (list_item e) k) s (Ok xs) t → Reads K e t (Ok a) z
+    → GrowingOutcome K (items_entry (list_item e) all) s (Err OutOfMemory) z
+items-refused {K = K} e k all {a = a} {s = s} {t = t} {z = z} failed less h read =
+    let next : GrowingOutcome K (items_entry (list_item e) (suc k)) s (Err OutOfMemory) z =
+    rw (items-suc (list_item e) k) (grows-chain-ok (items_entry (list_item e) k) _ (by_reads h)
+    (grows-chain-err (list_item e) _ (item-refused e a t z failed read))) in
+    items-lack (list_item e) (suc k) all s z next (nat_le_split (suc k) all (omega (arith, less)))
 
 -- an error, seen by a view of the values
 pub is_seen_err : {A V E : Type 0} (view : A → V) (P : E → Type 0) (r : Result A E) → IsErrAnd r P
@@ -275,19 +425,24 @@ module _ {R A B E : Type 0} {K : BitSource R} {becomes : Error → E → Type 0}
   part_stop {x = x} h is = part_stops f x h.plain is h.called h.answer
 
 parts-suc : {A E : Type 0} (e : ReadEntry (Result A E)) (n : ℕ) → parts_entry e (suc n)
-    ≡ chain (parts_entry e n) (part_then (λ xs. chain e (part_then (λ x. gives (Ok (xs ++ x ∷ []))))))
+    ≡ chain (parts_entry e n) (part_then (λ xs. chain e (part_then (λ x. stores (Ok (xs ++ x ∷ []))))))
 unfolding parts_entry
 parts-suc e n = refl
 
-own_done-refused : {R A E : Type 0} {K : BitSource R} {becomes : Error → E → Type 0} (e : ReadEntry (Result A E)) (a : A)
-    (y : E) (s t : R) (plain : Result (Result A E) Error) → GrowingOutcome K e s plain t
-    → OwnAnswer becomes (λ x. x) plain (Ok a) → becomes OutOfMemory y → GrowsOwn K becomes e s (Err y) t
-own_done-refused e a y s t (Ok v) h is own = record {
-  plain = Err OutOfMemory;
-  called = done-refused e v s t h;
-  answer = own;
+-- a value that was stored, behind all reads
+stored_end : {R A E : Type 0} {K : BitSource R} {becomes : Error → E → Type 0} (r : Result A E) (s : R)
+    → GrowsOwn K becomes (stores r) s r s
+stored_end r s = record {
+  plain = Ok r;
+  called = by_reads (Reads-same (record { reads = λ p b. refl; on_failed = refl }) (Reads-gives r s));
+  answer = refl;
 }
-own_done-refused e a y s t (Err x) h is own = absurd is
+
+part_fine : {R A E : Type 0} {K : BitSource R} {becomes : Error → E → Type 0} {e : ReadEntry (Result A E)} {s t : R}
+    (a : A) (plain : Result (Result A E) Error) → e.on_failed ≡ Err Failed → GrowingOutcome K e s plain t
+    → OwnAnswer becomes (λ x. x) plain (Ok a) → (K.state t).failed ≡ false
+part_fine a (Ok v) failed h is = still_fine failed h
+part_fine a (Err x) failed h is = absurd is
 
 module _ {R A E : Type 0} {K : BitSource R} {becomes : Error → E → Type 0} (e : ReadEntry (Result A E)) where
   -- none yet
@@ -299,7 +454,7 @@ module _ {R A E : Type 0} {K : BitSource R} {becomes : Error → E → Type 0} (
   pub parts-push : (n : ℕ) {xs ys : List A} {x : A} {s t z : R} → ys ≡ xs ++ x ∷ [] → PartsRead K becomes e n s xs t
       → GrowsOwn K becomes e t (Ok x) z → PartsRead K becomes e (n + 1) s ys z
   parts-push n {s = s} {z = z} is h k =
-      rw (add-one n, parts-suc e n, is) (part_go _ h (part_go _ k (grown_end _ z)))
+      rw (add-one n, parts-suc e n, is) (part_go _ h (part_go _ k (stored_end _ z)))
 
   later : (k all : ℕ) (y : E) (s t : R) → GrowsOwn K becomes (parts_entry e k) s (Err y) t → (k ≡ all) ⊎ (k < all)
       → GrowsOwn K becomes (parts_entry e all) s (Err y) t
@@ -316,12 +471,16 @@ module _ {R A E : Type 0} {K : BitSource R} {becomes : Error → E → Type 0} (
       rw (parts-suc e n) (part_go _ h (part_stop _ k refl)) in
       later (suc n) all x s z here (nat_le_split (suc n) all (omega (arith, more)))
 
-  -- some were read, and the next growth was refused
-  pub parts-refused : (k all : ℕ) {xs : List A} {y : E} {s t : R} → k ≤ all → PartsRead K becomes e k s xs t
-      → becomes OutOfMemory y → GrowsOwn K becomes (parts_entry e all) s (Err y) t
-  parts-refused k all {xs = xs} {y = y} {s = s} {t = t} le h own =
-      later k all y s t (own_done-refused (parts_entry e k) xs y s t h.plain h.called h.answer own)
-      (nat_le_split k all le)
+  -- k parts were read and stored, and one more was read, for which no memory was found
+  pub parts-refused : (k all : ℕ) {xs : List A} {x : A} {y : E} {s t z : R} → e.on_failed ≡ Err Failed → k < all
+      → PartsRead K becomes e k s xs t → GrowsOwn K becomes e t (Ok x) z → becomes OutOfMemory y
+      → GrowsOwn K becomes (parts_entry e all) s (Err y) z
+  parts-refused k all {xs = xs} {x = x} {y = y} {s = s} {z = z} failed less h read own =
+      let fine = part_fine x read.plain failed read.called read.answer in
+      let last = own_refused {becomes = becomes} (stores (Ok (xs ++ x ∷ []))) (Err y) z fine refl own in
+      let next : GrowsOwn K becomes (parts_entry e (suc k)) s (Err y) z =
+      rw (parts-suc e k) (part_go _ h (part_go _ read last)) in
+      later (suc k) all y s z next (nat_le_split (suc k) all (omega (arith, less)))
 
 pub grown_is : {R A E : Type 0} {K : BitSource R} {becomes : Error → E → Type 0} {x r : Result A E} {s : R} → x ≡ r
     → GrowsOwn K becomes (gives x) s r s
@@ -330,32 +489,44 @@ grown_is {x = x} {s = s} is = rw (sym is) (grown_end x s)
 -- ---- what is answered over a stream that refuses at true ends alone: the front's answer or the end, or that memory was
 -- refused
 
-answered : {R A : Type 0} {K : BitSource R} {e : ReadEntry A} {r : Result A Error} {s t : R} → TrueEnds K.may
-    → (xs : List ℕ) → (K.state s).failed ≡ false → (K.state s).bytes ≡ Some xs → ReadsGrowing K e s r t
-    → (r ≡ sure_answer (e.reads (K.state s).taken ((K.state s).queue ++ bits K.order xs))) ⊎ (r ≡ Err OutOfMemory)
-answered {K = K} {e = e} {r = r} {s = s} {t = t} ends xs fine known (had_failed h) =
-    inl (Reads-answer {K = K} {e = e} {r = r} {s = s} {t = t} ends xs fine known (had_failed h))
-answered {K = K} {e = e} {r = r} {s = s} {t = t} ends xs fine known (was_done h) =
-    inl (Reads-answer {K = K} {e = e} {r = r} {s = s} {t = t} ends xs fine known (was_done h))
-answered {K = K} {e = e} {r = r} {s = s} {t = t} ends xs fine known (was_refused h) =
-    inl (Reads-answer {K = K} {e = e} {r = r} {s = s} {t = t} ends xs fine known (was_refused h))
-answered ends xs fine known (memory_refused g h) = inr h.answer
+-- all bits left begin with the word that a call took until memory was refused
+lacks_left : {A : Type 0} (o : Order) (e : ReadEntry A) (r : Result A Error) (s t : ReaderState)
+    → ReadLacksMemory o e s r t → (xs : List ℕ) → s.bytes ≡ Some xs → MayAllocate e s.taken (s.queue ++ bits o xs)
+lacks_left o e r s t h xs known =
+    let lost = Consumes-known s.bytes t.bytes h.refused.gone xs h.refused.loses known in
+    record {
+      front = h.refused.word;
+      back = h.refused.rest ++ bits o lost.0;
+      parts = ap (λ l. s.queue ++ bits o l) lost.2
+          ∙ parts_left o s.queue h.refused.rest h.refused.word h.refused.gone lost.0 h.refused.parts;
+      asked = h.asked;
+    }
+
+grown_left : {A : Type 0} (o : Order) (e : ReadEntry A) (r : Result A Error) (s t : ReaderState)
+    → GrowthRefused o e s r t → (xs : List ℕ) → s.bytes ≡ Some xs → MayAllocate e s.taken (s.queue ++ bits o xs)
+grown_left o e r s t h xs known =
+    let left = Took-left o h.word s t h.took xs known in
+    record { front = h.word; back = t.queue ++ bits o left.0; parts = left.2; asked = h.asked }
 
 pub grown-answer : {R A : Type 0} {K : BitSource R} {e : ReadEntry A} {r : Result A Error} {s t : R} → TrueEnds K.may
     → (xs : List ℕ) → (K.state s).failed ≡ false → (K.state s).bytes ≡ Some xs → GrowingOutcome K e s r t
-    → (r ≡ sure_answer (e.reads (K.state s).taken ((K.state s).queue ++ bits K.order xs))) ⊎ (r ≡ Err OutOfMemory)
+    → (r ≡ sure_answer (e.reads (K.state s).taken ((K.state s).queue ++ bits K.order xs)))
+    ⊎ ((r ≡ Err OutOfMemory) × MayAllocate e (K.state s).taken ((K.state s).queue ++ bits K.order xs))
 grown-answer {K = K} {e = e} {r = r} {s = s} {t = t} ends xs fine known (by_reads h) =
-    answered {K = K} {e = e} {r = r} {s = s} {t = t} ends xs fine known h
-grown-answer ends xs fine known (between_reads h) = inr h.answer
+    inl (Reads-answer {K = K} {e = e} {r = r} {s = s} {t = t} ends xs fine known h)
+grown-answer {K = K} {e = e} {r = r} {s = s} {t = t} ends xs fine known (in_a_read h) =
+    inr (h.refused.answer, lacks_left K.order e r (K.state s) (K.state t) h xs known)
+grown-answer {K = K} {e = e} {r = r} {s = s} {t = t} ends xs fine known (between_reads h) =
+    inr (h.answer, grown_left K.order e r (K.state s) (K.state t) h xs known)
 
 pub own_grown-answer : {R A E : Type 0} {K : BitSource R} {becomes : Error → E → Type 0} {e : ReadEntry (Result A E)}
     {r : Result A E} {s t : R} → TrueEnds K.may → (xs : List ℕ) → (K.state s).failed ≡ false
     → (K.state s).bytes ≡ Some xs → GrowsOwn K becomes e s r t
     → OwnAnswer becomes (λ x. x) (sure_answer (e.reads (K.state s).taken ((K.state s).queue ++ bits K.order xs))) r
-    ⊎ IsErrAnd r (becomes OutOfMemory)
+    ⊎ (IsErrAnd r (becomes OutOfMemory) × MayAllocate e (K.state s).taken ((K.state s).queue ++ bits K.order xs))
 own_grown-answer {K = K} {becomes = becomes} {e = e} {r = r} {s = s} {t = t} ends xs fine known h = elim (grown-answer {s = s} {t = t} ends xs fine known h.called) [
   | inl is ↦ inl (subst (λ z. OwnAnswer becomes (λ x. x) z r) is h.answer)
-  | inr is ↦ inr (subst (λ z. OwnAnswer becomes (λ x. x) z r) is h.answer)
+  | inr lack ↦ inr (subst (λ z. OwnAnswer becomes (λ x. x) z r) lack.0 h.answer, lack.1)
 ]
 
 -- ---- reads that have no error but the reader's, in a function whose errors are of another type
@@ -363,17 +534,23 @@ own_grown-answer {K = K} {becomes = becomes} {e = e} {r = r} {s = s} {t = t} end
 module _ {R A : Type 0} (K : BitSource R) (e : ReadEntry A) (s t : R) where
   never_grown : (y : Error) → GrowingOutcome K (plain_reads {E = Error} e) s (Ok (Err y)) t → ⊥
   never_grown y (by_reads h) = never_own K e s t y h
+  never_grown y (in_a_read h) = let p = h.refused.answer in cc
   never_grown y (between_reads h) = let p = h.answer in cc
 
   grow_by : (plain : Result (Result A Error) Error) → is_run_too_long (joined plain) ≡ is_run_too_long plain
       → GrowingOutcome K (plain_reads e) s plain t → GrowingOutcome K e s (joined plain) t
   unfolding chain
   grow_by plain long (by_reads h) = by_reads (read_by K e s t plain long h)
+  grow_by plain long (in_a_read h) =
+      in_a_read (lacks_as K.order (plain_reads e) e plain (joined plain) (K.state s) (K.state t) h
+      (ap joined h.refused.answer) (front_short (e.reads (K.state s).taken h.refused.word) h.refused.few)
+      (plain-allocates e (K.state s).taken h.refused.word h.asked))
   grow_by plain long (between_reads h) = between_reads (record {
     answer = ap joined h.answer;
     word = h.word;
     needs = λ front b back is. front_short (e.reads (K.state s).taken front) (h.needs front b back is);
-    stands = h.stands;
+    asked = plain-allocates e (K.state s).taken h.word h.asked;
+    took = h.took;
   })
 
   grow_of : (plain : Result (Result A Error) Error) (r : Result A Error) → GrowingOutcome K (plain_reads e) s plain t

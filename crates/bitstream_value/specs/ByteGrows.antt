@@ -1,26 +1,34 @@
 -- Reads of bytes in a function that asks for memory of its own, between its reads or in them.
-use Rattle.std.specs.Prelude.{◌≡◌, ℕ, zero, suc, Bool, true, false, List, [], ◌∷◌, ◌++◌, Result, Ok, Err}
+use Rattle.std.specs.Prelude.{◌≡◌, ℕ, zero, suc, IsTrue, Bool, true, false, List, [], ◌∷◌, ◌++◌, Result, Ok, Err}
 use Rattle.bitstream_count.specs.declared.error.Error.{Error}
 use Rattle.bitstream_count.specs.declared.error.Error.TheVariants.{OutOfMemory}
 use Rattle.bitstream_count.specs.Entry.{TooFew}
-use Rattle.bitstream_stream.specs.WholeBytes.ByteReads.{ByteReaderState, ByteSource, ByteReadEntry, BytesTaken, ByteReadsGrowing}
+use Rattle.bitstream_stream.specs.WholeBytes.ByteReads.{ByteReaderState, ByteSource, ByteReadEntry, BytesTaken, ByteMemoryRefused, ByteReads}
 use Rattle.bitstream_value.specs.Own.{OwnErrors}
-use Rattle.bitstream_value.specs.ByteTypes.{byte_chain, byte_gives, ByteReadsOwn}
+use Rattle.bitstream_value.specs.ByteTypes.{byte_chain, byte_gives, byte_stores, ByteReadsOwn}
 
--- Memory was refused between the reads of a call. These bytes were taken, and no proper beginning of them has a front:
--- the call was not decided before.
+-- Memory that a read of the call asked for was refused. The call may allocate after the bytes that were taken.
+pub record ByteReadLacksMemory {A : Type 0} (entry : ByteReadEntry A) (old : ByteReaderState)
+    (result : Result A Error) (new : ByteReaderState) : Type 0 where
+  pub refused : ByteMemoryRefused entry old result new
+  pub asked : IsTrue (entry.allocates refused.bytes)
+
+-- Memory was refused between the reads of a call. The call may allocate after these bytes, which were taken, and no
+-- proper beginning of them has a front: the call was not decided before.
 pub record ByteGrowthRefused {A : Type 0} (entry : ByteReadEntry A) (old : ByteReaderState)
     (result : Result A Error) (new : ByteReaderState) : Type 0 where
   pub answer : result ≡ Err OutOfMemory
   pub bytes : List ℕ
-  pub needs : (front : List ℕ) (b : ℕ) (back : List ℕ) → bytes ≡ front ++ b ∷ back → entry front ≡ TooFew
+  pub needs : (front : List ℕ) (b : ℕ) (back : List ℕ) → bytes ≡ front ++ b ∷ back → entry.reads front ≡ TooFew
+  pub asked : IsTrue (entry.allocates bytes)
   pub took : BytesTaken old bytes new
 
--- reads of bytes among which memory is asked for: they come to an outcome of a call that grows, or memory was refused
--- between them
+-- reads of bytes among which memory is asked for: they come to an outcome of a read, or memory was refused in one of
+-- them or between them
 pub data ByteGrowingOutcome {R A : Type 0} (K : ByteSource R) (entry : ByteReadEntry A) (old : R)
     (result : Result A Error) (new : R) : Type 0 where
-  by_reads : ByteReadsGrowing K entry old result new → ByteGrowingOutcome K entry old result new
+  by_reads : ByteReads K entry old result new → ByteGrowingOutcome K entry old result new
+  in_a_read : ByteReadLacksMemory entry (K.state old) result (K.state new) → ByteGrowingOutcome K entry old result new
   between_reads : ByteGrowthRefused entry (K.state old) result (K.state new)
       → ByteGrowingOutcome K entry old result new
 
@@ -42,11 +50,12 @@ abbrev pub byte_part_then : {A B E : Type 0} → (A → ByteReadEntry (Result B 
 byte_part_then f (Ok value) = f value
 byte_part_then f (Err error) = byte_gives (Err error)
 
--- the given number of parts with errors of their own, one after another, up to the first that answers one
+-- the given number of parts with errors of their own, one after another, up to the first that answers one; each is
+-- stored once it is read
 unfoldable pub byte_parts : {A E : Type 0} → ByteReadEntry (Result A E) → ℕ → ByteReadEntry (Result (List A) E)
 byte_parts entry zero = byte_gives (Ok [])
 byte_parts entry (suc n) = byte_chain (byte_parts entry n) (byte_part_then (λ items.
-    byte_chain entry (byte_part_then (λ item. byte_gives (Ok (items ++ item ∷ []))))))
+    byte_chain entry (byte_part_then (λ item. byte_stores (Ok (items ++ item ∷ []))))))
 
 -- so many parts were read, and these are they
 abbrev pub BytePartsRead : {R A E : Type 0} → ByteSource R → (Error → E → Type 0) → ByteReadEntry (Result A E) → ℕ → R

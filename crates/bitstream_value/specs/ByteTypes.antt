@@ -1,22 +1,30 @@
 -- Calls for whole bytes, one after another, and with errors of their own.
-use Rattle.std.specs.Prelude.{◌≡◌, ◌⊎◌, ℕ, ◌+◌, ◌≤◌, nat_lt, if◌then◌else◌, List, [], ◌∷◌, length, drop, None, Some, Result, Ok, Err, IsErr}
+use Rattle.std.specs.Prelude.{◌≡◌, ◌⊎◌, ◌||◌, ℕ, ◌+◌, ◌≤◌, nat_lt, if◌then◌else◌, List, [], ◌∷◌, length, drop, None, Some, Result, Ok, Err, IsErr}
 use Rattle.std.proofs.Common.{sym, add-zero, arith, length-append}
 use Rattle.bitstream_number.specs.Word.{Order, High}
 use Rattle.bitstream_count.specs.declared.error.Error.{Error}
 use Rattle.bitstream_count.specs.declared.error.Error.TheVariants.{CounterOverflow}
-use Rattle.bitstream_count.specs.Entry.{Takes, front_then}
-use Rattle.bitstream_stream.specs.WholeBytes.ByteReads.{ByteSource, ByteReadEntry, ByteReads}
+use Rattle.bitstream_count.specs.Entry.{Takes, allocates_after, front_then, is_empty}
+use Rattle.bitstream_stream.specs.WholeBytes.ByteReads.{ByteSource, ByteReadEntry, ByteReads, byte_call}
 use Rattle.bitstream_stream.specs.WholeBytes.ByteSink.{ByteSink, ByteWrites}
 use Rattle.bitstream_value.specs.Lengths.{in_place, number_of}
 use Rattle.bitstream_value.specs.Own.{OwnAnswer, OwnErrors}
 
 -- one read of bytes and then, unless it answers an error, another, which may depend on its answer
 unfoldable pub byte_chain : {A B : Type 0} → ByteReadEntry A → (A → ByteReadEntry B) → ByteReadEntry B
-byte_chain e f bytes = front_then (e bytes) (λ n a. f a (drop n bytes))
+byte_chain e f = record {
+  reads = λ bytes. front_then (e.reads bytes) (λ n a. (f a).reads (drop n bytes));
+  allocates = λ bytes.
+      e.allocates bytes || allocates_after (e.reads bytes) (λ n a. (f a).allocates (drop n bytes));
+}
 
 -- no read at all
 abbrev pub byte_gives : {A : Type 0} → A → ByteReadEntry A
-byte_gives a bytes = Takes 0 (Ok a)
+byte_gives a = byte_call (λ _. Takes 0 (Ok a))
+
+-- the same, but the value is stored first, which may allocate
+abbrev pub byte_stores : {A : Type 0} → A → ByteReadEntry A
+byte_stores a = record (byte_gives a) { allocates = λ bytes. is_empty bytes }
 
 -- a read of bytes with errors of its own, which its entry answers too
 abbrev pub ByteReadsOwn : {R A E : Type 0} → ByteSource R → (Error → E → Type 0) → ByteReadEntry (Result A E) → R

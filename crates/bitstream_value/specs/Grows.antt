@@ -1,30 +1,45 @@
 -- Reads in a function that asks for memory of its own, between its reads or in them.
-use Rattle.std.specs.Prelude.{◌≡◌, ℕ, zero, suc, ◌⊎◌, Bool, true, false, List, [], ◌∷◌, ◌++◌, Result, Ok, Err}
+use Rattle.std.specs.Prelude.{◌≡◌, ℕ, zero, suc, IsTrue, Bool, true, false, List, [], ◌∷◌, ◌++◌, Result, Ok, Err}
 use Rattle.bitstream_count.specs.declared.error.Error.{Error}
 use Rattle.bitstream_count.specs.declared.error.Error.TheVariants.{OutOfMemory}
-use Rattle.bitstream_count.specs.Entry.{ReadEntry, TooFew, chain, gives}
+use Rattle.bitstream_count.specs.Entry.{ReadEntry, TooFew, chain, gives, stores}
 use Rattle.bitstream_number.specs.Word.{Order}
-use Rattle.bitstream_stream.specs.Reading.Reads.{ReaderState, BitSource, ReadsGrowing}
-use Rattle.bitstream_stream.proofs.Reading.ReadsLemmas.{Took}
+use Rattle.bitstream_stream.specs.Reading.Reads.{ReaderState, BitSource, Took, MemoryRefused, Reads}
 use Rattle.bitstream_value.specs.Own.{OwnErrors, ReadsOwn, part_then}
 
--- Memory was refused between the reads of a call. The reader stands behind a word, and no proper beginning of the word
--- has a front: the call was not decided before. No bit was taken: nothing changed, also of a reader that had failed.
+-- Memory that a read of the call asked for was refused, and the reader has failed. The call may allocate behind the bits
+-- that were taken.
+pub record ReadLacksMemory {A : Type 0} (o : Order) (entry : ReadEntry A) (old : ReaderState) (result : Result A Error)
+    (new : ReaderState) : Type 0 where
+  pub refused : MemoryRefused o entry old result new
+  pub asked : IsTrue (entry.allocates old.taken refused.word)
+
+-- Memory was refused between the reads of a call, on a reader that had not failed and goes on. The call may allocate
+-- after the word that was taken, and no proper beginning of the word has a front: the call was not decided before.
 pub record GrowthRefused {A : Type 0} (o : Order) (entry : ReadEntry A) (old : ReaderState) (result : Result A Error)
     (new : ReaderState) : Type 0 where
   pub answer : result ≡ Err OutOfMemory
   pub word : List Bool
   pub needs : (front : List Bool) (b : Bool) (back : List Bool) → word ≡ front ++ b ∷ back → entry.reads old.taken front
       ≡ TooFew
-  pub stands : ((word ≡ []) × (new ≡ old)) ⊎ Took o old word new
+  pub asked : IsTrue (entry.allocates old.taken word)
+  pub took : Took o old word new
 
--- reads among which memory is asked for: they come to an outcome of a call that grows, or memory was refused between
--- them
+-- reads among which memory is asked for: they come to an outcome of a read, or memory was refused in one of them or
+-- between them
 pub data GrowingOutcome {R A : Type 0} (K : BitSource R) (entry : ReadEntry A) (old : R) (result : Result A Error)
     (new : R) : Type 0 where
-  by_reads : ReadsGrowing K entry old result new → GrowingOutcome K entry old result new
+  by_reads : Reads K entry old result new → GrowingOutcome K entry old result new
+  in_a_read : ReadLacksMemory K.order entry (K.state old) result (K.state new) → GrowingOutcome K entry old result new
   between_reads : GrowthRefused K.order entry (K.state old) result (K.state new)
       → GrowingOutcome K entry old result new
+
+-- the call may allocate once it has taken some first ones of these bits
+pub record MayAllocate {A : Type 0} (entry : ReadEntry A) (taken : ℕ) (bits : List Bool) : Type 0 where
+  pub front : List Bool
+  pub back : List Bool
+  pub parts : bits ≡ front ++ back
+  pub asked : IsTrue (entry.allocates taken front)
 
 -- such a read with errors of its own, which its entry answers too
 abbrev pub GrowsOwn : {R A E : Type 0} → BitSource R → (Error → E → Type 0) → ReadEntry (Result A E) → R → Result A E
@@ -38,11 +53,12 @@ abbrev pub OwnReads : {R A E : Type 0} → Bool → BitSource R → (Error → E
 OwnReads false K becomes entry old result new = ReadsOwn K becomes entry old result new
 OwnReads true K becomes entry old result new = GrowsOwn K becomes entry old result new
 
--- the given number of parts with errors of their own, one after another, up to the first that answers one
+-- the given number of parts with errors of their own, one after another, up to the first that answers one; each is
+-- stored once it is read
 unfoldable pub parts_entry : {A E : Type 0} → ReadEntry (Result A E) → ℕ → ReadEntry (Result (List A) E)
 parts_entry entry zero = gives (Ok [])
 parts_entry entry (suc n) = chain (parts_entry entry n) (part_then (λ items.
-    chain entry (part_then (λ item. gives (Ok (items ++ item ∷ []))))))
+    chain entry (part_then (λ item. stores (Ok (items ++ item ∷ []))))))
 
 -- so many parts were read, and these are they
 abbrev pub PartsRead : {R A E : Type 0} → BitSource R → (Error → E → Type 0) → ReadEntry (Result A E) → ℕ → R → List A

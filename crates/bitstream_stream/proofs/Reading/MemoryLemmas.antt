@@ -14,15 +14,15 @@ use Rattle.bitstream_number.specs.Word.{Order, word, bits, number}
 use Rattle.bitstream_number.proofs.WordLemmas.{length-bits, bits-append, length-word, number-word}
 use Rattle.bitstream_order.specs.Refusal.{Refusal, TrueEnds}
 use Rattle.bitstream_order.specs.Streaming.Tail.{IsTail}
-use Rattle.bitstream_stream.specs.Reading.Reads.{ReaderState, Reads, ReadDone, had_failed, was_done, was_refused, bits_left, failed_reader}
+use Rattle.bitstream_stream.specs.Reading.Reads.{ReaderState, Reads, ReadDone, Took, had_failed, was_done, was_refused, bits_left, failed_reader}
 use Rattle.bitstream_stream.specs.Reading.ReadTable.{unsigned_entry, unary_entry, skip_entry, align_entry, whole_bytes_entry}
 use Rattle.bitstream_stream.specs.Alignment.{to_boundary}
 use Rattle.bitstream_stream.specs.Reading.Reader.{new_reader_state}
 use Rattle.bitstream_stream.proofs.Reading.EntryLemmas.{word_front-some, word_front-none, word_needs}
-use Rattle.bitstream_stream.proofs.Reading.ReadsLemmas.{Took, Took-too_long, Reads-chain-ok}
+use Rattle.bitstream_stream.proofs.Reading.ReadsLemmas.{Took-too_long, Reads-chain-ok}
 use Rattle.bitstream_stream.proofs.Reading.TableLemmas.{unsigned-takes}
 use Rattle.bitstream_stream.specs.Reading.Memory.{held, rest_bits, taken_bits, memory_state, EndsInMemory}
-use Rattle.bitstream_stream.specs.Reading.MemoryState.{held_there}
+use Rattle.bitstream_stream.specs.Reading.MemoryState.{held_there, none_or_some}
 use Rattle.bitstream_stream.specs.Reading.MemorySource.{memory_source}
 use Rattle.bitstream_stream.specs.Reading.MemoryTakes.{GoesOn, TakesNumber, FailsAtEnd}
 use Rattle.bitstream_stream.specs.declared.read.slice_reader.SliceReader.{SliceReader}
@@ -180,6 +180,7 @@ refused {E = E} o entry old new fine none h =
       loses = rw h.before refl;
       after = rw (h.bit, h.bytes) (sym h.before ∙ h.allowed.before ∙ sym h.allowed.after);
       fetched = rw (h.all, h.bytes, h.bit) (omega arith);
+      least = rw (h.all, h.bytes, h.bit) (omega arith);
       few = rw (append-nil s.queue) first;
       ended = λ end xs known.
           let same : xs ≡ drop (held old.bit) old.bytes.now = sym (some_is known) in
@@ -281,6 +282,36 @@ left_size o r fine = ap Some (rw fine (ap (λ w. length w) (bits_ahead o r.bytes
 pub left_known : {E : Type 0} (o : Order) (r : SliceReader E) (P : ℕ → Type 0) → r.failed ≡ false
     → P (8 * length r.bytes.now - r.bit) → IfSome (bits_left o ((memory_source o).state r)) (λ left. P (length left))
 left_known o r P fine h = subst P (sym (some_is (left_size o r fine))) h
+
+-- the bits of all bytes that were not taken, whether the reader has failed or not
+pub left_of_all : (all bytes : List ℕ) (bit : ℕ) → IsTail bytes all
+    → 8 * length all - taken_bits all bytes bit ≡ 8 * length bytes - bit
+left_of_all all bytes bit tail = let le = tail_le bytes all tail in omega (arith, le)
+
+-- all bits were taken of bytes of which none is left
+pub end_of_all : (all bytes : List ℕ) (bit : ℕ) (empty : Bool) → IsTail bytes all → (0 < bit → 1 ≤ length bytes)
+    → bit < 8 → empty ≡ (length bytes == 0) → IsTrue empty ↔ (taken_bits all bytes bit ≡ 8 * length all)
+end_of_all all bytes bit empty tail some few is =
+    let le = tail_le bytes all tail in
+    elim (eqb_tells (length bytes) 0) [
+      | inl same ↦
+          let none : length bytes ≡ 0 = same.1 in
+          let yes : empty ≡ true = is ∙ same.0 in
+          let first : bit ≡ 0 = elim (none_or_some bit) [
+            | inl zero ↦ zero
+            | inr more ↦ let there = some more in absurd (omega (arith, there, none))
+          ] in
+          ((λ _. omega (arith, none, first, le)), (λ _. yes))
+      | inr other ↦
+          let more = other.1 in
+          let no : empty ≡ false = is ∙ other.0 in
+          ((λ h. cc), (λ h. absurd (omega (arith, more, few, le, h))))
+    ]
+
+-- a call that fails at the end takes no bit
+pub stays_at_end : {E : Type 0} (o : Order) (old new : SliceReader E) → FailsAtEnd old new
+    → ((memory_source o).state new).taken ≡ ((memory_source o).state old).taken
+stays_at_end o old new h = rw (h.all, h.bytes, h.bit) refl
 
 -- no bits are left of no bytes
 pub end_known : (len bit : ℕ) (empty : Bool) → bit < 8 → empty ≡ (len == 0) → IsTrue empty ↔ (8 * len - bit ≡ 0)

@@ -70,11 +70,11 @@ bits_ahead o queued queue xs = length-append (word o queued queue) (bits o xs)
 
 pub stopped : (o : Order) (may : Refusal → Type 0) (size queued queue n m v k q l before_taken after_taken :
     ℕ) (failed : Bool) (x : Error) (old mid new : PortState) → failed ≡ false → n ≤ size → queued < n → m < n
-    → m + 8 * k < n + 8
+    → m + 8 * k < n + 8 → before_taken ≤ after_taken
     → TakesWord o queued queue old m v 0 0 mid → FetchRefused may x mid k new
     → ReadRefused o may (unsigned_entry o size n) (reader_state o old queue queued before_taken failed) (Err x)
     (reader_state o new q l after_taken true)
-stopped o may size queued queue n m v k q l before_taken after_taken failed x old mid new fine le short part more h r =
+stopped o may size queued queue n m v k q l before_taken after_taken failed x old mid new fine le short part more least h r =
     rw (unsigned-takes o size n le) (record {
       fine = fine;
       refusal = r.refusal;
@@ -86,6 +86,7 @@ stopped o may size queued queue n m v k q l before_taken after_taken failed x ol
       loses = subst (λ b. Consumes old.bytes b h.bytes) (sym r.before) h.loses;
       after = r.after;
       fetched = r.fetched ∙ h.fetched;
+      least = least;
       few =
           let sum : queued + 8 * length h.bytes ≡ m + 0 = takes_lengths o queued queue m v 0 0 h.bytes h.word in
           word_front-none n (λ w. Ok (number o w)) (word o queued queue

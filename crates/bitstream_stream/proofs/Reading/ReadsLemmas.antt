@@ -17,7 +17,7 @@ use Rattle.bitstream_order.specs.Moving.Gather.{seen}
 use Rattle.bitstream_order.specs.Fault.{read_refusal_of}
 use Rattle.bitstream_stream.proofs.Reading.EntryLemmas.{Same, chain-ok, chain-err, chain-none, chain-failed}
 use Rattle.bitstream_stream.proofs.Shared.{exit_is}
-use Rattle.bitstream_stream.specs.Reading.Reads.{ReaderState, BitSource, Demands, QueuesRest, HadFailed, ReadDone, MemoryRefused, ReadOutcome, had_failed, was_done, was_refused, memory_refused, Reads, ReadsGrowing, is_run_too_long, failed_reader}
+use Rattle.bitstream_stream.specs.Reading.Reads.{ReaderState, BitSource, Demands, QueuesRest, HadFailed, ReadDone, Took, MemoryRefused, ReadOutcome, had_failed, was_done, was_refused, memory_refused, Reads, ReadsGrowing, is_run_too_long, failed_reader}
 
 -- ---- lists
 
@@ -43,17 +43,6 @@ Consumes-known (Some x) None gone xs h e = absurd h
 Consumes-known (Some x) (Some y) gone xs h e = let same : xs ≡ x = cc in (y, refl, same ∙ h)
 
 -- ---- a word that was taken, by calls that all answered with values
-
-pub record Took (o : Order) (old : ReaderState) (word : List Bool) (new : ReaderState) : Type 0 where
-  pub fine : old.failed ≡ false
-  pub gone : List ℕ
-  pub loses : Consumes old.bytes new.bytes gone
-  pub parts : old.queue ++ bits o gone ≡ word ++ new.queue
-  pub fetched : new.fetched ≡ old.fetched + length gone
-  pub taken : new.taken ≡ old.taken + length word
-  pub refusals : new.refusals ≡ old.refusals
-  pub references : new.references ≡ old.references
-  pub failed : new.failed ≡ false
 
 pub Took-nil : (o : Order) (s : ReaderState) → s.failed ≡ false → Took o s [] s
 Took-nil o s fine = record {
@@ -270,6 +259,7 @@ Reads-behind {K = K} e d w r x s t z b behind fails passes long decides (was_ref
       loses = Consumes-trans (K.state s).bytes (K.state t).bytes h.refusal.before was.gone h.gone was.loses h.loses;
       after = h.after;
       fetched = let i = was.fetched in let j = h.fetched in let l = length-append was.gone h.gone in omega arith;
+      least = omega (arith, was.taken, h.least);
       few = ap (λ l. e.reads (K.state s).taken l) (parts_left K.order (K.state s).queue (K.state t).queue w was.gone
           h.gone was.parts) ∙ behind.short ((K.state t).queue ++ bits K.order h.gone) h.few;
       ended = λ end xs known.

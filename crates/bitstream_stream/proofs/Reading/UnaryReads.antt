@@ -176,12 +176,12 @@ module _ (o : Order) (stop : Bool) (old new : PortState) (queue queued before_ta
   }
 
   -- a byte was refused
-  pub lead_stopped : (may : Refusal → Type 0) (q : ℕ) (error : Error) → before ≡ false
+  pub lead_stopped : (may : Refusal → Type 0) (q : ℕ) (error : Error) → before ≡ false → before_taken ≤ after_taken
       → RefusesUnary may o stop (word o queued queue) old error new
       → ReadRefused o may (unary_entry stop) (reader_state o old queue queued before_taken before) (Err error)
       (reader_state o new q 0 after_taken true)
   unfolding unary_entry
-  lead_stopped may q error fine h =
+  lead_stopped may q error fine least h =
       let t = h.takes in
       let r = h.refused in
       let x = word o queued queue in
@@ -203,6 +203,7 @@ module _ (o : Order) (stop : Bool) (old new : PortState) (queue queued before_ta
         loses = subst (λ b. Consumes old.bytes b t.bytes) (sym r.before) t.loses;
         after = r.after;
         fetched = r.fetched ∙ t.fetched;
+        least = least;
         few = few;
         ended = λ end xs known.
             let lost = Consumes-known old.bytes h.mid.bytes t.bytes xs t.loses known in

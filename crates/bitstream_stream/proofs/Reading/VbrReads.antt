@@ -24,7 +24,7 @@ use Rattle.bitstream_stream.proofs.Reading.GroupLemmas.{placed_fits, placed_past
 -- ---- an answer without a call
 
 abbrev answers : {A : Type 0} → Result A Error → ReadEntry A
-answers r = record { reads = λ _ _. Takes 0 r; on_failed = r }
+answers r = record { reads = λ _ _. Takes 0 r; on_failed = r; allocates = λ _ _. false }
 
 answers-by : {R A : Type 0} {K : BitSource R} (r : Result A Error) (s : R) (v : Bool) → is_run_too_long r ≡ false
     → (K.state s).failed ≡ v → Reads K (answers r) s r s

@@ -16,7 +16,7 @@ use Rattle.bitstream_order.specs.Port.{PortState, Fetches}
 use Rattle.bitstream_order.specs.Moving.Gather.{seen}
 use Rattle.bitstream_order.proofs.Streaming.FaultLemmas.{end_few}
 use Rattle.bitstream_stream.specs.WholeBytes.ByteReader.{byte_reader_state}
-use Rattle.bitstream_stream.specs.WholeBytes.ByteReads.{ByteReaderState, ByteSource, byte_front, given_bytes, skipped_bytes, BytesTaken, ByteReadDone, ByteReadOutcome, was_done, was_refused, memory_refused, ByteReads, ByteReadsGrowing}
+use Rattle.bitstream_stream.specs.WholeBytes.ByteReads.{ByteReaderState, ByteSource, ByteReadEntry, byte_call, byte_front, given_bytes, skipped_bytes, BytesTaken, ByteReadDone, ByteReadOutcome, was_done, was_refused, memory_refused, ByteReads, ByteReadsGrowing}
 use Rattle.bitstream_stream.proofs.Reading.EntryLemmas.{word_front-some as byte_front-some, word_front-none as byte_front-none, word_needs}
 use Rattle.bitstream_stream.proofs.Reading.ReadsLemmas.{Consumes-known}
 use Rattle.bitstream_stream.proofs.Shared.{exit_is}
@@ -61,7 +61,7 @@ BytesTaken-trans x y s t u h k =
     }
 
 took_front : {A : Type 0} (n : ℕ) (g : List ℕ → Result A Error) (w : List ℕ) (s t : ByteReaderState) → length w ≡ n
-    → BytesTaken s w t → ByteReadDone (byte_front n g) s (g w) t
+    → BytesTaken s w t → ByteReadDone (byte_call (byte_front n g)) s (g w) t
 took_front n g w s t len h =
     record {
       bytes = w;
@@ -73,7 +73,7 @@ took_front n g w s t len h =
 
 -- a front of n took n bytes and has their answer
 front_took : {A : Type 0} (n : ℕ) (g : List ℕ → Result A Error) (r : Result A Error) (s t : ByteReaderState)
-    (h : ByteReadDone (byte_front n g) s r t) → (length h.bytes ≡ n) × (r ≡ g h.bytes)
+    (h : ByteReadDone (byte_call (byte_front n g)) s r t) → (length h.bytes ≡ n) × (r ≡ g h.bytes)
 front_took n g r s t h = decided n g h.bytes r (ap (byte_front n g) (sym (append-nil h.bytes)) ∙ h.decides [])
 
 -- ---- calls one after another
@@ -124,7 +124,7 @@ bytes_then {K = K} {grows = grows} a b n x y z s t u sum is h k = rw (is, ← su
 -- some bytes of n, and then a call that was refused, of a call that makes an answer of the n bytes
 stop_front : {R A : Type 0} {K : ByteSource R} {grows : Bool} (g : List ℕ → Result A Error) (a b n : ℕ)
     (x : List ℕ) (e : Error) (s t u : R) → a + b ≤ n → ByteReadOutcome K grows (given_bytes a) s (Ok x) t
-    → ByteReads K (given_bytes b) t (Err e) u → ByteReadOutcome K grows (byte_front n g) s (Err e) u
+    → ByteReads K (given_bytes b) t (Err e) u → ByteReadOutcome K grows (byte_call (byte_front n g)) s (Err e) u
 unfolding given_bytes
 stop_front {K = K} g a b n x e s t u le h (was_done k) = let p =
     (front_took b (λ w. Ok w) (Err e) (K.state t) (K.state u) k).1 in cc
@@ -237,7 +237,7 @@ byte_put {K = K} i buf x s t u fits h k =
 
 -- ---- what the exit of a `?` returns
 
-pub left_by : {R A : Type 0} {K : ByteSource R} {grows : Bool} {e : List ℕ → Front A} {x : Error} {s t : R} (r :
+pub left_by : {R A : Type 0} {K : ByteSource R} {grows : Bool} {e : ByteReadEntry A} {x : Error} {s t : R} (r :
     Result A Error) → IsErrAnd r (λ y. y ≡ x) → ByteReadOutcome K grows e s (Err x) t → ByteReadOutcome K grows e s r t
 left_by {K = K} {grows = grows} {e = e} {s = s} {t = t} r h k =
     subst (λ z. ByteReadOutcome K grows e s z t) (sym (exit_is r h)) k

@@ -12,7 +12,7 @@ pub state_demands : (o : Order) (all bytes : List ℕ) (bit : ℕ) (failed : Boo
     → Demands (memory_state o all bytes bit failed refusals)
 state_demands o all bytes bit failed refusals = refl
 
-none_or_some : (n : ℕ) → (n ≡ 0) ⊎ (0 < n)
+pub none_or_some : (n : ℕ) → (n ≡ 0) ⊎ (0 < n)
 none_or_some n = grind arith
 
 -- a byte of which bits are taken is there

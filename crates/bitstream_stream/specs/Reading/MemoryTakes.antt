@@ -1,8 +1,11 @@
 -- What is taken from bytes in memory.
-use Rattle.std.specs.Prelude.{◌≡◌, ℕ, ◌+◌, ◌*◌, ◌/◌, ◌%◌, ◌^◌, ◌<◌, ◌≤◌, ◌∷◌, true, false, length, take, drop, Some}
+use Rattle.std.specs.Prelude.{◌≡◌, ℕ, ◌+◌, ◌*◌, ◌/◌, ◌%◌, ◌^◌, ◌<◌, ◌≤◌, ◌∷◌, true, false, length, take, drop, Some, Result, Err}
+use Rattle.bitstream_count.specs.declared.error.Error.{Error}
+use Rattle.bitstream_count.specs.declared.error.Error.TheVariants.{EndOfInput}
 use Rattle.bitstream_number.specs.Word.{Order, word}
 use Rattle.bitstream_order.specs.Refusal.{Refusal}
 use Rattle.bitstream_stream.specs.Reading.Memory.{held, rest_bits, EndsInMemory}
+use Rattle.bitstream_stream.specs.Reading.MemorySource.{memory_source}
 use Rattle.bitstream_stream.specs.declared.read.slice_reader.SliceReader.{SliceReader}
 
 -- a reader goes on by n bits, which are there
@@ -27,6 +30,11 @@ pub record TakesNumber {E : Type 0} (o : Order) (n v : ℕ) (old new : SliceRead
   pub goes : GoesOn n old new
   pub word : take n (rest_bits o old.bytes.now old.bit) ≡ word o n v
   pub below : v < 2 ^ n
+
+-- a call that is one read takes no bit if too few are left
+abbrev pub StaysAtEnd : {E A : Type 0} → Order → SliceReader E → Result A Error → SliceReader E → Type 0
+StaysAtEnd o old result new =
+    result ≡ Err EndOfInput → ((memory_source o).state new).taken ≡ ((memory_source o).state old).taken
 
 -- a reader fails at the end of its bytes, and loses none
 pub record FailsAtEnd {E : Type 0} (old new : SliceReader E) : Type 0 where

@@ -1,5 +1,5 @@
 -- What one read does to a reader.
-use Rattle.std.specs.Prelude.{◌≡◌, ℕ, ◌+◌, ◌*◌, ◌/◌, Bool, true, false, if◌then◌else◌, List, [], ◌∷◌, ◌++◌, length, Option, option_map, Some, Result, Ok, Err}
+use Rattle.std.specs.Prelude.{◌≡◌, ℕ, ◌+◌, ◌*◌, ◌/◌, ◌≤◌, Bool, true, false, if◌then◌else◌, List, [], ◌∷◌, ◌++◌, length, Option, option_map, Some, Result, Ok, Err}
 use Rattle.std.specs.Borrow.{GName, MutBor}
 use Rattle.std.specs.Result.{IsErrAnd}
 use Rattle.std.specs.Io.KnownBytes.{Consumes}
@@ -84,9 +84,21 @@ pub record ReadDone {A : Type 0} (o : Order) (entry : ReadEntry A) (old : Reader
   pub references : new.references ≡ old.references
   pub failed : new.failed ≡ is_run_too_long result
 
+-- calls that all returned values took this word
+pub record Took (o : Order) (old : ReaderState) (word : List Bool) (new : ReaderState) : Type 0 where
+  pub fine : old.failed ≡ false
+  pub gone : List ℕ
+  pub loses : Consumes old.bytes new.bytes gone
+  pub parts : old.queue ++ bits o gone ≡ word ++ new.queue
+  pub fetched : new.fetched ≡ old.fetched + length gone
+  pub taken : new.taken ≡ old.taken + length word
+  pub refusals : new.refusals ≡ old.refusals
+  pub references : new.references ≡ old.references
+  pub failed : new.failed ≡ false
+
 -- A request was refused, as the stream may refuse, and the reader has failed. The queue was too short for the
 -- call, and so it was with the bytes fetched before; at a true end so were all bits left. The stream lost these
--- bytes, and is as the refusal left it.
+-- bytes, and is as the refusal left it. The reader does not move back.
 pub record ReadRefused {A : Type 0} (o : Order) (may : Refusal → Type 0) (entry : ReadEntry A)
     (old : ReaderState) (result : Result A Error) (new : ReaderState) : Type 0 where
   pub fine : old.failed ≡ false
@@ -98,6 +110,7 @@ pub record ReadRefused {A : Type 0} (o : Order) (may : Refusal → Type 0) (entr
   pub loses : Consumes old.bytes refusal.before gone
   pub after : new.bytes ≡ refusal.after
   pub fetched : new.fetched ≡ old.fetched + length gone
+  pub least : old.taken ≤ new.taken
   pub few : entry.reads old.taken (old.queue ++ bits o gone) ≡ TooFew
   pub ended : IsTrueEnd refusal → (xs : List ℕ) → old.bytes ≡ Some xs → entry.reads old.taken (old.queue ++ bits o xs)
       ≡ TooFew

@@ -1,5 +1,5 @@
 -- What one read of whole bytes does to a reader of bytes.
-use Rattle.std.specs.Prelude.{◌≡◌, ℕ, ◌+◌, Bool, true, false, List, ◌∷◌, ◌++◌, length, take, nat_le, if◌then◌else◌, Option, Some, Result, Ok, Err}
+use Rattle.std.specs.Prelude.{◌≡◌, ℕ, ◌+◌, Bool, true, false, List, ◌∷◌, ◌++◌, length, take, nat_le, nat_lt, if◌then◌else◌, Option, Some, Result, Ok, Err}
 use Rattle.std.specs.Borrow.{GName, MutBor}
 use Rattle.std.specs.Io.KnownBytes.{Consumes}
 use Rattle.bitstream_order.specs.Reference.{Reference, by_name}
@@ -27,21 +27,31 @@ pub record ByteSource (R : Type 0) : Type 1 where
   -- the refusals that its stream may make
   pub may : Refusal → Type 0
 
--- a call that reads bytes: what it finds at the front of the bytes to read
-abbrev pub ByteReadEntry : Type 0 → Type 0
-ByteReadEntry A = List ℕ → Front A
+-- a call that reads bytes: what it finds at the front of the bytes to read, and whether it may allocate once it has
+-- taken just these bytes
+pub record ByteReadEntry (A : Type 0) : Type 0 where
+  pub reads : List ℕ → Front A
+  pub allocates : List ℕ → Bool
+
+-- a call with this front, which never allocates
+abbrev pub byte_call : {A : Type 0} → (List ℕ → Front A) → ByteReadEntry A
+byte_call f = record { reads = f; allocates = λ _. false }
 
 -- n bytes, answered as g of them
-abbrev pub byte_front : {A : Type 0} → ℕ → (List ℕ → Result A Error) → ByteReadEntry A
+abbrev pub byte_front : {A : Type 0} → ℕ → (List ℕ → Result A Error) → List ℕ → Front A
 byte_front n g bytes = if nat_le n (length bytes) then Takes n (g (take n bytes)) else TooFew
 
 -- n bytes, answered as they are
 unfoldable pub given_bytes : ℕ → ByteReadEntry (List ℕ)
-given_bytes n = byte_front n (λ bytes. Ok bytes)
+given_bytes n = byte_call (byte_front n (λ bytes. Ok bytes))
+
+-- n bytes into a vector, which grows as they come
+abbrev pub vec_bytes : ℕ → ByteReadEntry (List ℕ)
+vec_bytes n = record (given_bytes n) { allocates = λ bytes. nat_lt (length bytes) n }
 
 -- n bytes, whatever they are
 unfoldable pub skipped_bytes : ℕ → ByteReadEntry (Unit {0})
-skipped_bytes n = byte_front n (λ _. Ok tt)
+skipped_bytes n = byte_call (byte_front n (λ _. Ok tt))
 
 -- these bytes were taken, and no request was refused
 pub record BytesTaken (old : ByteReaderState) (bytes : List ℕ) (new : ByteReaderState) : Type 0 where
@@ -55,8 +65,8 @@ pub record BytesTaken (old : ByteReaderState) (bytes : List ℕ) (new : ByteRead
 pub record ByteReadDone {A : Type 0} (entry : ByteReadEntry A) (old : ByteReaderState) (result : Result A Error)
     (new : ByteReaderState) : Type 0 where
   pub bytes : List ℕ
-  pub decides : (more : List ℕ) → entry (bytes ++ more) ≡ Takes (length bytes) result
-  pub needs : (front : List ℕ) (b : ℕ) (back : List ℕ) → bytes ≡ front ++ b ∷ back → entry front ≡ TooFew
+  pub decides : (more : List ℕ) → entry.reads (bytes ++ more) ≡ Takes (length bytes) result
+  pub needs : (front : List ℕ) (b : ℕ) (back : List ℕ) → bytes ≡ front ++ b ∷ back → entry.reads front ≡ TooFew
   pub took : BytesTaken old bytes new
 
 -- A request was refused, as the stream may refuse. The bytes taken before were too few for the call; at a true
@@ -70,8 +80,8 @@ pub record ByteReadRefused {A : Type 0} (may : Refusal → Type 0) (entry : Byte
   pub loses : Consumes old.bytes refusal.before gone
   pub after : new.bytes ≡ refusal.after
   pub taken : new.taken ≡ old.taken + length gone
-  pub few : entry gone ≡ TooFew
-  pub ended : IsTrueEnd refusal → (xs : List ℕ) → old.bytes ≡ Some xs → entry xs ≡ TooFew
+  pub few : entry.reads gone ≡ TooFew
+  pub ended : IsTrueEnd refusal → (xs : List ℕ) → old.bytes ≡ Some xs → entry.reads xs ≡ TooFew
   pub refusals : new.refusals ≡ refusal ∷ old.refusals
   pub references : new.references ≡ old.references
 
@@ -81,7 +91,7 @@ pub record ByteMemoryRefused {A : Type 0} (entry : ByteReadEntry A) (old : ByteR
     (result : Result A Error) (new : ByteReaderState) : Type 0 where
   pub answer : result ≡ Err OutOfMemory
   pub bytes : List ℕ
-  pub few : entry bytes ≡ TooFew
+  pub few : entry.reads bytes ≡ TooFew
   pub took : BytesTaken old bytes new
 
 -- one read of bytes, by what the call means; `grows` says whether the call asks for memory of its own

@@ -1,5 +1,5 @@
 //! A reader of the bits of bytes in memory, which knows its place, its rest and its end.
-ghost use Rattle.std.specs.Prelude.{◌≡◌, ◌+◌, ◌*◌, ◌<◌, ◌≤◌, ◌^◌, ◌↔◌, IsTrue, false, [], length, Some, IfSome};
+ghost use Rattle.std.specs.Prelude.{◌≡◌, ◌+◌, ◌-◌, ◌*◌, ◌<◌, ◌≤◌, ◌^◌, ◌↔◌, IsTrue, false, [], length, min, Some, IfSome};
 ghost use Rattle.bitstream_order.specs.Streaming.Tail.{IsTail};
 ghost use Rattle.bitstream_stream.specs.Reading.Reader.{new_reader_state};
 
@@ -84,20 +84,20 @@ impl<'a, E: Endianness> SliceReader<'a, E> {
         8 * (self.all.len() - self.bytes.len()) as u128 + self.bit as u128
     }
 
-    /// Returns how many bits were read: at most 2^64 - 1, and exactly that number if it is less.
+    /// Returns the number of bits read, or 2^64 - 1 if it is more. A call that failed because too few bits
+    /// were left counts only the parts that it had read before.
     pub fn bits_read(&self) -> u64
-        // The answer is at most the number of bits taken.
-        ensures most { result ≤ ((memory_source E.order).state self.now).taken }
-        // If that number is below 2^64, it is the answer.
-        ensures exact { ((memory_source E.order).state self.now).taken < 2 ^ 64
-            → result ≡ ((memory_source E.order).state self.now).taken }
+        ensures { result ≡ min ((memory_source E.order).state self.now).taken u64.MAX }
     {
         capped(self.taken())
     }
 
-    /// Returns how many bits are left: at most 2^64 - 1, and exactly that number if it is less. Of a
-    /// reader that has failed, those that were left before the call that was refused.
+    /// Returns the number of bits left, or 2^64 - 1 if it is more. After a failure these are the bits of
+    /// the slice after the [bits read](SliceReader::bits_read), although no call reads them.
     pub fn bits_left(&self) -> u64
+        // The bits of all bytes that were not taken, also after a failure.
+        ensures all { result
+            ≡ min (8 * length (memory_bytes self.now) - ((memory_source E.order).state self.now).taken) u64.MAX }
         // Unless the reader has failed, the answer is at most the number of bits left.
         ensures most { ((memory_source E.order).state self.now).failed ≡ false
             → IfSome (bits_left E.order ((memory_source E.order).state self.now))
@@ -110,9 +110,13 @@ impl<'a, E: Endianness> SliceReader<'a, E> {
         capped(8 * self.bytes.len() as u128 - self.bit as u128)
     }
 
-    /// Returns whether no bit is left. Of a reader that has failed, whether none was left before.
+    /// Returns true if no bit is left: all bits of the slice were read. A failure does not change that.
     pub fn is_at_end(&self) -> bool
-        ensures { ((memory_source E.order).state self.now).failed ≡ false
+        // True if and only if all bits of all bytes were taken, also after a failure.
+        ensures all { IsTrue result
+            ↔ (((memory_source E.order).state self.now).taken ≡ 8 * length (memory_bytes self.now)) }
+        // Unless the reader has failed, true if and only if no bit is left.
+        ensures left { ((memory_source E.order).state self.now).failed ≡ false
             → IfSome (bits_left E.order ((memory_source E.order).state self.now))
             (λ left. IsTrue result ↔ (length left ≡ 0)) }
     {

@@ -12,14 +12,18 @@ use bitstream_order::order::Endianness;
 
 impl<'a, E: Endianness> SliceReader<'a, E> {
     ghost use Rattle.bitstream_stream.specs.Reading.MemorySource.{memory_source};
+    ghost use Rattle.bitstream_stream.specs.Reading.MemoryTakes.{StaysAtEnd};
 
     /// Reads bytes at a byte boundary.
     #[inline(always)]
     pub(super) fn read_aligned(&mut self, buf: &mut [u8]) -> Result<(), Error>
         requires fine { self.old.failed ≡ false }
         requires none { self.old.bit ≡ 0 }
-        ensures { Reads (memory_source E.order) (bytes_entry E.order (length buf.old)) self.old
+        // Takes just the bits of the call and returns what they say, or returns an error.
+        ensures reads { Reads (memory_source E.order) (bytes_entry E.order (length buf.old)) self.old
             (seen (λ _. buf.new) result) self.new }
+        // If too few bits are left, the reader stays where it was.
+        ensures stays { StaysAtEnd E.order self.old result self.new }
     {
         let count = buf.len();
         let bytes = self.bytes;
@@ -35,8 +39,11 @@ impl<'a, E: Endianness> SliceReader<'a, E> {
     pub(super) fn read_shifted(&mut self, buf: &mut [u8]) -> Result<(), Error>
         requires fine { self.old.failed ≡ false }
         requires some { 1 ≤ self.old.bit }
-        ensures { Reads (memory_source E.order) (bytes_entry E.order (length buf.old)) self.old
+        // Takes just the bits of the call and returns what they say, or returns an error.
+        ensures reads { Reads (memory_source E.order) (bytes_entry E.order (length buf.old)) self.old
             (seen (λ _. buf.new) result) self.new }
+        // If too few bits are left, the reader stays where it was.
+        ensures stays { StaysAtEnd E.order self.old result self.new }
     {
         let count = buf.len();
         let bytes = self.bytes;

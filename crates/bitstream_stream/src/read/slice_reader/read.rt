@@ -1,8 +1,9 @@
 //! The calls of a reader of bits, over bytes in memory.
-ghost use Rattle.std.specs.Prelude.{◌≡◌, ◌==◌};
+ghost use Rattle.std.specs.Prelude.{◌≡◌, ◌==◌, length};
 ghost use Rattle.bitstream_order.specs.Moving.Gather.{seen};
+ghost use Rattle.bitstream_order.specs.Parts.{value_bytes};
 ghost use Rattle.bitstream_stream.specs.Reading.Reads.{Reads};
-ghost use Rattle.bitstream_stream.specs.Reading.ReadTable.{unsigned_entry, signed_entry, unary_entry};
+ghost use Rattle.bitstream_stream.specs.Reading.ReadTable.{bit_entry, bytes_entry, unsigned_entry, signed_entry, skip_entry, unary_entry};
 
 use super::SliceReader;
 use super::run::run_in_window;
@@ -14,11 +15,17 @@ use bitstream_order::order::Endianness;
 
 impl<'a, E: Endianness> BitRead for SliceReader<'a, E> {
     ghost use Rattle.bitstream_stream.specs.Reading.MemorySource.{memory_source};
+    ghost use Rattle.bitstream_stream.specs.Reading.MemoryTakes.{StaysAtEnd};
 
     ghost source = { memory_source E.order };
 
     #[inline(always)]
-    fn read_unsigned_counted<C: Count, U: UnsignedInteger>(&mut self, bits: C) -> Result<U, Error> {
+    fn read_unsigned_counted<C: Count, U: UnsignedInteger>(&mut self, bits: C) -> Result<U, Error>
+        ensures reads { Reads ⟦<Self as BitRead>⟧.source (unsigned_entry E.order U.BITS_SIZE (C.number bits))
+            self.old (seen U.value result) self.new }
+        // If too few bits are left, the reader stays where it was.
+        ensures stays { StaysAtEnd E.order self.old result self.new }
+    {
         self.read_word(bits.bits(), false)
     }
 
@@ -26,49 +33,83 @@ impl<'a, E: Endianness> BitRead for SliceReader<'a, E> {
     fn read_signed_counted<C: SignedCount, S: SignedInteger>(
         &mut self,
         bits: C,
-    ) -> Result<S, Error> {
+    ) -> Result<S, Error>
+        ensures reads { Reads ⟦<Self as BitRead>⟧.source (signed_entry E.order S.BITS_SIZE (C.number bits))
+            self.old (seen S.integer result) self.new }
+        // If too few bits are left, the reader stays where it was.
+        ensures stays { StaysAtEnd E.order self.old result self.new }
+    {
         self.read_signed_word(bits.bits(), false)
     }
 
     #[inline(always)]
-    fn read_bit(&mut self) -> Result<bool, Error> {
+    fn read_bit(&mut self) -> Result<bool, Error>
+        ensures reads { Reads ⟦<Self as BitRead>⟧.source bit_entry
+            self.old result self.new }
+        // If too few bits are left, the reader stays where it was.
+        ensures stays { StaysAtEnd E.order self.old result self.new }
+    {
         let bit = self.read_one()?;
         Ok(bit % 2 == 1)
     }
 
     #[inline(always)]
-    fn read_unsigned_var<U: UnsignedInteger>(&mut self, bits: u32) -> Result<U, Error> {
+    fn read_unsigned_var<U: UnsignedInteger>(&mut self, bits: u32) -> Result<U, Error>
+        ensures reads { Reads ⟦<Self as BitRead>⟧.source (unsigned_entry E.order U.BITS_SIZE bits)
+            self.old (seen U.value result) self.new }
+        // If too few bits are left, the reader stays where it was.
+        ensures stays { StaysAtEnd E.order self.old result self.new }
+    {
         self.read_word(bits, false)
     }
 
     #[inline(always)]
     fn read_unsigned<B: Width, U: UnsignedInteger>(&mut self) -> Result<U, Error>
-        ensures { Reads ⟦<Self as BitRead>⟧.source (unsigned_entry E.order U.BITS_SIZE B.BITS)
+        ensures reads { Reads ⟦<Self as BitRead>⟧.source (unsigned_entry E.order U.BITS_SIZE B.BITS)
             self.old (seen U.value result) self.new }
+        // If too few bits are left, the reader stays where it was.
+        ensures stays { StaysAtEnd E.order self.old result self.new }
     {
         self.read_word(B::BITS, true)
     }
 
     #[inline(always)]
-    fn read_signed_var<S: SignedInteger>(&mut self, bits: u32) -> Result<S, Error> {
+    fn read_signed_var<S: SignedInteger>(&mut self, bits: u32) -> Result<S, Error>
+        ensures reads { Reads ⟦<Self as BitRead>⟧.source (signed_entry E.order S.BITS_SIZE bits)
+            self.old (seen S.integer result) self.new }
+        // If too few bits are left, the reader stays where it was.
+        ensures stays { StaysAtEnd E.order self.old result self.new }
+    {
         self.read_signed_word(bits, false)
     }
 
     #[inline(always)]
     fn read_signed<B: Width, S: SignedInteger>(&mut self) -> Result<S, Error>
-        ensures { Reads ⟦<Self as BitRead>⟧.source (signed_entry E.order S.BITS_SIZE B.BITS)
+        ensures reads { Reads ⟦<Self as BitRead>⟧.source (signed_entry E.order S.BITS_SIZE B.BITS)
             self.old (seen S.integer result) self.new }
+        // If too few bits are left, the reader stays where it was.
+        ensures stays { StaysAtEnd E.order self.old result self.new }
     {
         self.read_signed_word(B::BITS, true)
     }
 
     #[inline(always)]
-    fn read_to<V: Primitive>(&mut self) -> Result<V, Error> {
+    fn read_to<V: Primitive>(&mut self) -> Result<V, Error>
+        ensures reads { Reads ⟦<Self as BitRead>⟧.source (bytes_entry E.order V.BYTES)
+            self.old (seen (value_bytes E.order V.be_bytes V.le_bytes) result) self.new }
+        // If too few bits are left, the reader stays where it was.
+        ensures stays { StaysAtEnd E.order self.old result self.new }
+    {
         self.read_as_to::<E, V>()
     }
 
     #[inline(always)]
-    fn read_as_to<F: Endianness, V: Primitive>(&mut self) -> Result<V, Error> {
+    fn read_as_to<F: Endianness, V: Primitive>(&mut self) -> Result<V, Error>
+        ensures reads { Reads ⟦<Self as BitRead>⟧.source (bytes_entry E.order V.BYTES)
+            self.old (seen (value_bytes F.order V.be_bytes V.le_bytes) result) self.new }
+        // If too few bits are left, the reader stays where it was.
+        ensures stays { StaysAtEnd E.order self.old result self.new }
+    {
         let mut bytes = V::buffer();
         self.read_bytes(V::as_bytes_mut(&mut bytes))?;
         Ok(F::value_of_bytes(bytes))
@@ -76,7 +117,9 @@ impl<'a, E: Endianness> BitRead for SliceReader<'a, E> {
 
     #[inline(always)]
     fn read_unary<S: Width>(&mut self) -> Result<u32, Error>
-        ensures { Reads ⟦<Self as BitRead>⟧.source (unary_entry (S.BITS == 1)) self.old result self.new }
+        ensures reads { Reads ⟦<Self as BitRead>⟧.source (unary_entry (S.BITS == 1)) self.old result self.new }
+        // If too few bits are left, the reader stays where it was.
+        ensures stays { StaysAtEnd E.order self.old result self.new }
     {
         let stop = S::BITS == 1;
         // Mostly the stop bit is in the next eight bytes.
@@ -92,7 +135,12 @@ impl<'a, E: Endianness> BitRead for SliceReader<'a, E> {
     }
 
     #[inline(always)]
-    fn read_bytes(&mut self, buf: &mut [u8]) -> Result<(), Error> {
+    fn read_bytes(&mut self, buf: &mut [u8]) -> Result<(), Error>
+        ensures reads { Reads ⟦<Self as BitRead>⟧.source (bytes_entry E.order (length buf.old))
+            self.old (seen (λ _. buf.new) result) self.new }
+        // If too few bits are left, the reader stays where it was.
+        ensures stays { StaysAtEnd E.order self.old result self.new }
+    {
         if self.failed {
             return Err(Error::Failed);
         }
@@ -103,7 +151,12 @@ impl<'a, E: Endianness> BitRead for SliceReader<'a, E> {
         }
     }
 
-    fn skip(&mut self, bits: u32) -> Result<(), Error> {
+    fn skip(&mut self, bits: u32) -> Result<(), Error>
+        ensures reads { Reads ⟦<Self as BitRead>⟧.source (skip_entry bits)
+            self.old result self.new }
+        // If too few bits are left, the reader stays where it was.
+        ensures stays { StaysAtEnd E.order self.old result self.new }
+    {
         if self.failed {
             return Err(Error::Failed);
         }

@@ -86,11 +86,15 @@ pub(super) fn run_length<E: Endianness>(bytes: &[u8], bit: u32, stop: bool) -> u
 
 impl<'a, E: Endianness> SliceReader<'a, E> {
     ghost use Rattle.bitstream_stream.specs.Reading.MemorySource.{memory_source};
+    ghost use Rattle.bitstream_stream.specs.Reading.MemoryTakes.{StaysAtEnd};
 
     /// Reads a run near the end, or a long one.
     #[inline(never)]
     pub(super) fn read_run(&mut self, stop: bool) -> Result<u32, Error>
-        ensures { Reads (memory_source E.order) (unary_entry stop) self.old result self.new }
+        // Takes just the bits of the call and returns what they say, or returns an error.
+        ensures reads { Reads (memory_source E.order) (unary_entry stop) self.old result self.new }
+        // If too few bits are left, the reader stays where it was.
+        ensures stays { StaysAtEnd E.order self.old result self.new }
     {
         if self.failed {
             return Err(Error::Failed);

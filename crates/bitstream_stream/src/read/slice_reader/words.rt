@@ -13,7 +13,7 @@ use bitstream_order::order::Endianness;
 
 impl<'a, E: Endianness> SliceReader<'a, E> {
     ghost use Rattle.bitstream_stream.specs.Reading.MemorySource.{memory_source};
-    ghost use Rattle.bitstream_stream.specs.Reading.MemoryTakes.{TakesNumber};
+    ghost use Rattle.bitstream_stream.specs.Reading.MemoryTakes.{StaysAtEnd, TakesNumber};
 
     /// Takes a number of at most 56 bits, which are there.
     #[inline(always)]
@@ -66,8 +66,11 @@ impl<'a, E: Endianness> SliceReader<'a, E> {
     fn read_slow<U: UnsignedInteger>(&mut self, bits: u32) -> Result<U, Error>
         requires fine { self.old.failed ≡ false }
         requires room { bits ≤ U.BITS_SIZE }
-        ensures { Reads (memory_source E.order) (unsigned_entry E.order U.BITS_SIZE bits) self.old
-            (seen U.value result) self.new }
+        // Takes just the bits of the call and returns what they say, or returns an error.
+        ensures reads { Reads (memory_source E.order) (unsigned_entry E.order U.BITS_SIZE bits)
+            self.old (seen U.value result) self.new }
+        // If too few bits are left, the reader stays where it was.
+        ensures stays { StaysAtEnd E.order self.old result self.new }
     {
         if self.has(bits) {
             Ok(self.take_word(bits))
@@ -83,8 +86,11 @@ impl<'a, E: Endianness> SliceReader<'a, E> {
         bits: u32,
         constant: bool,
     ) -> Result<U, Error>
-        ensures { Reads (memory_source E.order) (unsigned_entry E.order U.BITS_SIZE bits) self.old
-            (seen U.value result) self.new }
+        // Takes just the bits of the call and returns what they say, or returns an error.
+        ensures reads { Reads (memory_source E.order) (unsigned_entry E.order U.BITS_SIZE bits)
+            self.old (seen U.value result) self.new }
+        // If too few bits are left, the reader stays where it was.
+        ensures stays { StaysAtEnd E.order self.old result self.new }
     {
         if self.failed {
             return Err(Error::Failed);
@@ -110,7 +116,10 @@ impl<'a, E: Endianness> SliceReader<'a, E> {
     /// Reads one bit as a number.
     #[inline(always)]
     pub(super) fn read_one(&mut self) -> Result<u64, Error>
-        ensures { Reads (memory_source E.order) (unsigned_entry E.order 64 1) self.old result self.new }
+        // Takes just the bits of the call and returns what they say, or returns an error.
+        ensures reads { Reads (memory_source E.order) (unsigned_entry E.order 64 1) self.old result self.new }
+        // If too few bits are left, the reader stays where it was.
+        ensures stays { StaysAtEnd E.order self.old result self.new }
     {
         if self.failed {
             return Err(Error::Failed);
@@ -131,8 +140,11 @@ impl<'a, E: Endianness> SliceReader<'a, E> {
         bits: u32,
         constant: bool,
     ) -> Result<S, Error>
-        ensures { Reads (memory_source E.order) (signed_entry E.order S.BITS_SIZE bits) self.old
-            (seen S.integer result) self.new }
+        // Takes just the bits of the call and returns what they say, or returns an error.
+        ensures reads { Reads (memory_source E.order) (signed_entry E.order S.BITS_SIZE bits)
+            self.old (seen S.integer result) self.new }
+        // If too few bits are left, the reader stays where it was.
+        ensures stays { StaysAtEnd E.order self.old result self.new }
     {
         if self.failed {
             return Err(Error::Failed);

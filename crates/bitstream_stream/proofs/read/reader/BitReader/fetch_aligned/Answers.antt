@@ -45,6 +45,7 @@ returns-in-Err-clause-reads g c =
     stops-number o n _ _ _
     (was_refused (stopped o _ (8 * n) queued queue (8 * n) queued 0 (length c.fetch.new.buf) _ _ _ _ _ _ p p new
     c.requires.fine (omega arith) (omega (arith, few, some)) (omega (arith, few, some)) (omega (arith, few, same))
+    (omega arith)
     (record {
       bytes = nothing.bytes;
       loses = nothing.loses;

@@ -45,5 +45,6 @@ returns-in-Err-clause-reads g c =
     stops-number o n _ _ _
     (was_refused (stopped o _ (8 * n) queued queue (8 * n) queued queue (length c.fetch.new.buf) _ _ _ _ _ _ _ _ _
     c.requires.fine (omega arith) (omega (arith, few, some)) (omega (arith, few, some)) (omega (arith, few, same))
+    (omega (arith, c.add.ensures))
     (takes_none o queued queue queued _ (subst (λ q. q < 2 ^ queued) c.first-queue.ensures.value
     c.first-queue.ensures.below) refl) c.in-Err.ensures.fetches))

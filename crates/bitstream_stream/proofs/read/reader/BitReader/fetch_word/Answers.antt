@@ -19,7 +19,7 @@ returns-in_err-value-clause-reads g c =
     let queue = first_part o c.args.self.now.queue 8 queued in
     rw (seen_err g.U.UnsignedInteger.value c.from_residual.result c.from_residual.ensures.1)
     (was_refused (stopped o _ _ queued queue c.args.bits queued queue ((c.args.bits - queued + 7) / 8) _ _ _ _ _ _ p p
-    new c.requires.fine c.requires.room c.requires.more c.requires.more (omega arith)
+    new c.requires.fine c.requires.room c.requires.more c.requires.more (omega arith) (omega (arith, c.add.ensures))
     (takes_none o queued queue queued p (first_below o c.args.self.now.queue 8 queued byte (omega arith)) refl)
     c.in_err-value.ensures.takes))
 

@@ -63,4 +63,11 @@ pub returns-in-Err-clause-reads : goal.returns-in-Err-clause-reads
 returns-in-Err-clause-reads g c =
     let stop = c.BITS-stop.result == 1 in
     unary-as stop _ (ap (λ n. n == 1) c.BITS-stop.ensures)
-    (was_refused (lead_stopped g.E.Endianness.order stop _ _ _ _ _ _ _ _ _ _ c.if-self.false c.in-Err.ensures.takes))
+    (was_refused (lead_stopped g.E.Endianness.order stop _ _ _ _ _ _ _ _ _ _ c.if-self.false
+    (
+    let back = c.args.self.now.back c.if-self.false in
+    let taken = c.fetched_bits-self.ensures in
+    let more = c.in-Err.ensures.takes.takes.fetched in
+    let none = c.in-Err.ensures.takes.refused.fetched in
+    omega arith
+    ) c.in-Err.ensures.takes))

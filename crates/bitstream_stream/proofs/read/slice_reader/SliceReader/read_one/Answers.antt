@@ -6,11 +6,11 @@ use Rattle.bitstream_stream.proofs.Reading.MemoryWindows.{first_agree}
 use Rattle.bitstream_stream.proofs.Reading.MemoryWords.{fetched}
 use Rattle.bitstream_stream.proofs.read.slice_reader.SliceReader.read_one.Goals as goal
 
-pub returns-then-self : goal.returns-then-self
-returns-then-self g c = unsigned-failed _ _ _ _ c.if-self.true
+pub returns-then-self-clause-reads : goal.returns-then-self-clause-reads
+returns-then-self-clause-reads g c = unsigned-failed _ _ _ _ c.if-self.true
 
-pub returns-then-is_empty : goal.returns-then-is_empty
-returns-then-is_empty g c =
+pub returns-then-is_empty-clause-reads : goal.returns-then-is_empty-clause-reads
+returns-then-is_empty-clause-reads g c =
     let short : 8 * length c.args.self.now.bytes.now < c.args.self.now.bit + 1 =
     elim (eqb_tells (length c.args.self.now.bytes.now) 0) [
       | inl same ↦ let e = same.1 in omega arith
@@ -20,8 +20,8 @@ returns-then-is_empty g c =
     rw c.refuse.ensures.error
     (word_refused _ 64 1 c.args.self.now _ c.if-self.false (omega arith) short c.refuse.ensures.state)
 
-pub returns : goal.returns
-returns g c =
+pub returns-clause-reads : goal.returns-clause-reads
+returns-clause-reads g c =
     let few = c.args.self.now.few in
     let o = g.E.Endianness.order in
     let there : 1 ≤ length c.args.self.now.bytes.now =

@@ -3,14 +3,14 @@ use Rattle.bitstream_number.proofs.Bytes.{AreBytes-from}
 use Rattle.bitstream_stream.proofs.Reading.MemoryBytes.{bytes_read, bytes_refused, shifted_bits}
 use Rattle.bitstream_stream.proofs.read.slice_reader.SliceReader.read_shifted.Goals as goal
 
-pub returns-then-bytes-count : goal.returns-then-bytes-count
-returns-then-bytes-count g c =
+pub returns-then-bytes-count-clause-reads : goal.returns-then-bytes-count-clause-reads
+returns-then-bytes-count-clause-reads g c =
     rw c.refuse.ensures.error
     (bytes_refused g.E.Endianness.order (length c.args.buf.now) c.args.self.now _ c.requires.fine
     (omega (arith, c.if-bytes-count.true, c.requires.some)) c.refuse.ensures.state)
 
-pub returns : goal.returns
-returns g c =
+pub returns-clause-reads : goal.returns-clause-reads
+returns-clause-reads g c =
     let made = c.shift-left.new.bytes in
     let sum : length c.args.buf.now + 1 - 1 ≡ length c.args.buf.now = omega arith in
     let len = c.shift-left.ensures.len ∙ c.copy_from_slice.ensures.len in

@@ -5,18 +5,14 @@ use Rattle.bitstream_stream.proofs.Reading.SignedLemmas.{unsigned-below}
 use Rattle.bitstream_stream.proofs.Reading.TableLemmas.{bit-unsigned}
 use Rattle.bitstream_stream.proofs.read.slice_reader.read.SliceReaderBitRead.read_bit.Goals as goal
 
-pub returns-in_err-bit : goal.returns-in_err-bit
-returns-in_err-bit g c =
-    record {
-      reads = Reads-same (bit-unsigned g.E.Endianness.order 64 (omega arith))
-          (exit (λ n. gives (nat_eq n 1)) c.from_residual.result c.from_residual.ensures.1 c.in_err-bit.ensures);
-    }
+pub returns-in_err-bit-clause-reads : goal.returns-in_err-bit-clause-reads
+returns-in_err-bit-clause-reads g c =
+    Reads-same (bit-unsigned g.E.Endianness.order 64 (omega arith))
+    (exit (λ n. gives (nat_eq n 1)) c.from_residual.result c.from_residual.ensures.1 c.in_err-bit.ensures.reads)
 
-pub returns : goal.returns
-returns g c =
-    let small = unsigned-below _ _ _ _ c.in_ok-bit.ensures in
+pub returns-clause-reads : goal.returns-clause-reads
+returns-clause-reads g c =
+    let small = unsigned-below _ _ _ _ c.in_ok-bit.ensures.reads in
     let same : c.in_ok-bit.bit % 2 ≡ c.in_ok-bit.bit = omega arith in
-    record {
-      reads = rw same (Reads-same (bit-unsigned g.E.Endianness.order 64 (omega arith))
-          (Reads-chain-ok _ (λ n. gives (nat_eq n 1)) c.in_ok-bit.ensures (Reads-gives _ _)));
-    }
+    rw same (Reads-same (bit-unsigned g.E.Endianness.order 64 (omega arith))
+    (Reads-chain-ok _ (λ n. gives (nat_eq n 1)) c.in_ok-bit.ensures.reads (Reads-gives _ _)))

@@ -6,8 +6,8 @@ use Rattle.bitstream_stream.specs.Reading.MemorySource.{memory_source}
 use Rattle.bitstream_stream.proofs.Reading.MemoryLemmas.{run_read}
 use Rattle.bitstream_stream.proofs.read.slice_reader.read.SliceReaderBitRead.read_unary.Goals as goal
 
-pub returns-then-run-self-lt64 : goal.returns-then-run-self-lt64
-returns-then-run-self-lt64 g c =
+pub returns-then-run-self-lt64-clause-reads : goal.returns-then-run-self-lt64-clause-reads
+returns-then-run-self-lt64-clause-reads g c =
     let o = g.E.Endianness.order in
     let r = c.run_in_window-run.result in
     let small : r < 2 ^ 32 = omega (arith, c.run_in_window-run.ensures.most) in
