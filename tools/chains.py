@@ -55,7 +55,7 @@ NEXT = {
     },
     "GrowsOwn": {
         "read": "go_grown 1 (grown FACT)",
-        "growing": "go_grown 1 (by_reads FACT)",
+        "growing": "go_grown 1 (vec-grown 2 FACT)",
         "grown": "go_grown 1 FACT",
         "const": "next_grown_const 2 FACT",
         "signed": f"next_grown_signed 1 WIDE FACT {READ_FITS}",
@@ -92,7 +92,7 @@ STOP = {
     },
     "GrowsOwn": {
         "read": "stop_grown 1 (grown FACT) RESIDUAL",
-        "growing": "stop_grown 1 (by_reads FACT) RESIDUAL",
+        "growing": "stop_grown 1 (vec-grown 2 FACT) RESIDUAL",
         "grown": "stop_grown 1 FACT RESIDUAL",
         "const": "exit_grown_const 2 RESIDUAL FACT refl",
         "signed read of": "stop_grown 1 (grown FACT) RESIDUAL",
@@ -146,8 +146,7 @@ LEMMAS = {
     " const_alone next_const exit_const next_own_read next_own_const exit_own_read"
     " exit_own_const next_grown_signed next_grown_const exit_grown_const if_growing else_growing",
     CALLER + "EachLemmas": "grown_made",
-    CALLER + "GrowsLemmas": "go_grown stop_grown grown if_grown part_go part_stop grown_end",
-    "Rattle.bitstream_io.specs.Grows": "by_reads",
+    CALLER + "GrowsLemmas": "go_grown stop_grown grown if_grown vec-grown part_go part_stop grown_end",
     CALLER + "OwnLemmas": "is_error plainly_read plainly_written read_plainly written_plainly",
     CALLER + "OwnSteps": "if_own else_own then_own_signed then_part end_part own_end",
     CALLER + "ReadSteps": "next_signed_read",

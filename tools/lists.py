@@ -54,7 +54,8 @@ class Listed(WrittenInLoop, Line):
     more = property(lambda self: f"Fewer than 2^{self.bits_of_count}{self.each}.")
     count = property(lambda self: f"length {self.value}")
     all_items = property(lambda self: "parts_entry" if self.error else "items_entry")
-    entry = property(lambda self: f"{self.all_items} ({self.item_entry}) {self.name}_count")
+    stored = property(lambda self: self.item_entry if self.error else f"list_item ({self.item_entry})")
+    entry = property(lambda self: f"{self.all_items} ({self.stored}) {self.name}_count")
     word = property(lambda self: f"flat_map ({self.item_writes}) {self.value}")
 
     def said(self):
@@ -91,7 +92,7 @@ class Listed(WrittenInLoop, Line):
         return ("std::alloc::AllocFailed",) if self.error else ()
 
     def list_code(self, module):
-        entry = f"({self.all_items} ({placed(self.item_entry, 'R.source.order')}) count)"
+        entry = f"({self.all_items} ({placed(self.stored, 'R.source.order')}) count)"
         error = module.error if self.error else "Error"
         reads = f"GrowsOwn R.source {module.becomes_name}" if self.error else "GrowingOutcome R.source"
         last = ["/// One that is refused is the last that is read."] * bool(self.error)
@@ -121,7 +122,7 @@ class Listed(WrittenInLoop, Line):
             "abbrev pub invariant-loop : goal.invariant-loop",
             "invariant-loop g l =",
             "    let K = g.R.BitRead.source in",
-            f"    {so_far} ({placed(self.item_entry, 'K.order')}) l.counter l.initial.reader l.found.items l.reader",
+            f"    {so_far} ({placed(self.stored, 'K.order')}) l.counter l.initial.reader l.found.items l.reader",
         ]
         return {read: lines} | self.write_invariants(module)
 
@@ -138,7 +139,8 @@ class Listed(WrittenInLoop, Line):
         return {f"read_{self.name}": [goals, *found]} | self.write_answers(module)
 
     def list_answers(self):
-        pushed = "items-push _ _ {} c.loop.invariant " + self.reads.format("ok")
+        item = f"({placed(self.item_entry, 'g.R.BitRead.source.order')})"
+        pushed = f"items-push _ _ {self.pushed()} c.loop.invariant (item-read {self.reads.format('ok')})"
         residual = "c.from_residual-in_err-push"
         return [
             "",
@@ -148,16 +150,16 @@ class Listed(WrittenInLoop, Line):
             "pub returns-in_err-read : goal.returns-in_err-read",
             "returns-in_err-read g c =",
             "    grown (items-stop _ _ _ _ c.from_residual.result c.loop-test.true c.loop.invariant"
-            f" {self.reads.format('err')} c.from_residual.ensures.1)",
+            f" (item-read {self.reads.format('err')}) c.from_residual.ensures.1)",
             "",
             "pub returns-in_err-push : goal.returns-in_err-push",
+            f"unfolding {self.opened}",
             "returns-in_err-push g c =",
             f"    rw (seen_err _ {residual}.result {residual}.ensures.1)",
-            "    (items-refused _ (c.loop.counter + 1) c.args.count (omega (arith, c.loop-test.true))",
-            f"    ({pushed.format('refl')}))",
+            f"    (items-refused {item} _ c.args.count refl c.loop-test.true c.loop.invariant {self.reads.format('ok')})",
             "",
             "pub loop-preserved : goal.loop-preserved",
-            f"loop-preserved g c = {pushed.format(self.pushed())}",
+            f"loop-preserved g c = {pushed}",
             "",
             "pub returns : goal.returns",
             "returns g c =",
@@ -166,6 +168,11 @@ class Listed(WrittenInLoop, Line):
         ]
 
     COUNTED = "let all : c.loop.counter ≡ c.args.count = omega (arith, c.loop-test.false, c.loop.auto.counter-end) in"
+
+    @property
+    def opened(self):
+        """Gives what shows that an item is not read by a reader that has failed."""
+        return " ".join(dict.fromkeys(["chain", *(it for it in self.unfolds if it.endswith(("_entry", "_writes")))]))
 
     def own_read(self, arm):
         """Gives what is known of the read of an item that may be refused."""
@@ -187,10 +194,10 @@ class Listed(WrittenInLoop, Line):
             f" {self.own_read('err')})",
             "",
             "pub returns-in_err-push : goal.returns-in_err-push",
+            f"unfolding {self.opened}",
             "returns-in_err-push g c =",
             f"    {stopped.format('from_residual-in_err-push')}",
-            f"    (parts-refused {item} (c.loop.counter + 1) c.args.count (omega (arith, c.loop-test.true))",
-            f"    ({pushed.format('refl')}) refl)",
+            f"    (parts-refused {item} _ c.args.count refl c.loop-test.true c.loop.invariant {self.own_read('ok')} refl)",
             "",
             "pub loop-preserved : goal.loop-preserved",
             f"loop-preserved g c = {pushed.format(self.pushed())}",
@@ -229,8 +236,12 @@ class Numbers(Listed):
     def fits(self):
         return [(self.name, f"All (λ x. x < 2 ^ {self.wide}) {self.value}")]
 
+    each_back, each_fits = "unsigned-each", "refl"
+
     def back(self, behind):
-        return f"items-back _ _ {self.shape} _ refl refl fits.{self.name} ({behind})"
+        each = f"({self.each_back} o {self.width} {self.wide} {self.value} {self.each_fits} fits.{self.name})"
+        shape = f"({self.stored}) ({self.item_writes}) ({self.count}) {self.value}"
+        return f"each-back _ _ {shape} _ refl {each} ({behind})"
 
     def given(self, said):
         return examples.numbers(self.name, said)
@@ -266,8 +277,7 @@ class SignedNumbers(Numbers):
     def fits(self):
         return [(self.name, f"All (FitsSignedBits {self.wide}) {self.value}")]
 
-    def back(self, behind):
-        return f"signed_items-back _ _ {self.shape} _ refl refl refl fits.{self.name} ({behind})"
+    each_back, each_fits = "signed-each", "refl refl"
 
     def term(self, value):
         return list_term(value, signed_term)
@@ -286,7 +296,7 @@ class Bytes(Listed):
         self.name, self.doc = words[1], doc
 
     size = property(lambda self: f"8 * {self.count}")
-    entry = property(lambda self: f"bytes_entry o {self.name}_count")
+    entry = property(lambda self: f"vec_entry o {self.name}_count")
     word = property(lambda self: f"buffer o {self.value}")
     written = property(lambda self: f"bytes-written o ({self.count}) {self.value} refl")
 
@@ -303,7 +313,7 @@ class Bytes(Listed):
         return [(self.name, f"All (λ b. b < 256) {self.value}")]
 
     def back(self, behind):
-        return f"bytes-back _ _ o ({self.count}) {self.value} _ refl fits.{self.name} ({behind})"
+        return f"vec-back _ _ o ({self.count}) {self.value} _ refl fits.{self.name} ({behind})"
 
     def given(self, said):
         return examples.hexed(self.name, said)
@@ -343,7 +353,7 @@ class Enums(Listed, EachOfEnum):
 
     def back(self, behind):
         lemma = "each_part-back" if self.error else "each-back"
-        shape = f"({self.item_entry}) ({self.item_writes}) ({self.count}) {self.value}"
+        shape = f"({self.stored}) ({self.item_writes}) ({self.count}) {self.value}"
         return f"{lemma} _ _ {shape} _ refl (made-each {self.shape}) ({behind})"
 
     written = property(lambda self: f"packs-made {self.shape} ({self.count}) refl")
@@ -412,7 +422,7 @@ class Parts(Listed, Part):
     def back(self, behind):
         read = f"IsReadAs ({self.module}_writes o x) ({self.here}) {self.answered('x')}"
         all_back = self.each_is(read, f"λ x is. {self.is_read('x', 'is')}")
-        shape = f"({self.here}) ({self.module}_writes o) ({self.count}) {self.value}"
+        shape = f"({self.stored}) ({self.module}_writes o) ({self.count}) {self.value}"
         return f"{'each_part-back' if self.error else 'each-back'} _ _ {shape} _ refl {all_back} ({behind})"
 
     def declares(self, module):

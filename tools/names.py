@@ -33,11 +33,11 @@ Rattle.std.specs.List: All flat_map
 Rattle.std.specs.Option: ForSome
 Rattle.std.specs.Result: IsErrAnd
 Rattle.std.specs.Int.NonZero: non_zero_u8_get non_zero_u16_get non_zero_u32_get non_zero_u64_get non_zero_u128_get
-Rattle.bitstream_io.specs.Callers: ← ReadEntry WriteEntry Takes gives Error EndOfInput Order High Low bits number chain
+Rattle.bitstream_io.specs.Callers: ← ReadEntry WriteEntry Takes gives list_item Error EndOfInput Order High Low bits number chain
     signed_number FitsSignedBits word first_bit bit_entry unsigned_entry signed_entry const_entry unary_entry
-    bytes_entry bytes_of skip_entry vbr_entry any_vbr_entry signed_vbr_entry any_signed_vbr_entry items_entry
+    bytes_entry vec_entry bytes_of skip_entry vbr_entry any_vbr_entry signed_vbr_entry any_signed_vbr_entry items_entry
     option_entry plain bit unsigned signed unary_word buffer zeros align vbr signed_vbr non_zero write_run words
-    Reads ReadsOwn OwnAnswer WritesAll sure_answer GrowsOwn OutOfMemory seen
+    Reads ReadsOwn OwnAnswer WritesAll sure_answer GrowsOwn MayAllocate OutOfMemory seen
     same_error plain_reads part_then parts_entry all_ok if_any number_or_zero optional own_optional optional_writes
     optional_size
     non_zero_u8 non_zero_u16 non_zero_u32 non_zero_u64 non_zero_u128
@@ -78,7 +78,7 @@ Rattle.bitstream_io.proofs.CallerLemmas: GoesBack Finds Packs inl inr is_error o
     bit-written signed-written unsigned-written bytes-written non_zero-written const-written zeros-written
     unary-written vbr-written packs-none packs-more packs-part packs-items packs-optional
     packs-is packs-room packs-whole packs-parts packs-signed_items each-back signed_items-back signed_items-finds
-    own_grown_answered if_grown own_made parts-begin parts-push parts-stop parts-refused
+    own_grown_answered if_grown own_made item-read vec-back unsigned-each signed-each parts-begin parts-push parts-stop parts-refused
     items-begin items-push items-stop items-refused grown written-begin written-more written-stop
     non_zero_u8-again non_zero_u16-again non_zero_u32-again non_zero_u64-again non_zero_u128-again
     option_u8-again option_u16-again option_u32-again option_u64-again option_u128-again

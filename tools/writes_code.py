@@ -123,10 +123,11 @@ class Code:
         """Gives an error of the reader as the format's own, as code has it."""
         return f"Reader({error})" if self.error else error
 
-    def or_refused(self, fact):
-        """Gives what a clause says of a read: this, or that memory was refused."""
-        refused = f"({self.error}.Reader OutOfMemory)" if self.error else "OutOfMemory"
-        return f"({fact})\n            ⊎ (result ≡ Err {refused})" if self.grows else fact
+    def or_refused(self, fact, reached=""):
+        """Gives what a clause says of a read: this, or that memory was refused where the format may ask for it."""
+        lacks = f"result ≡ Err {f'({self.error}.Reader OutOfMemory)' if self.error else 'OutOfMemory'}"
+        lacks = f"({lacks})\n            × {reached}" if reached else lacks
+        return f"({fact})\n            ⊎ ({lacks})" if self.grows else fact
 
     def read_code(self):
         reads = f"ReadsOwn R.source {self.becomes_name}" if self.own else "Reads R.source"
@@ -176,11 +177,12 @@ class Code:
     def parse_code(self):
         m, t, o = self.m, self.type, self.o
         answer = f"(sure_answer (({m}_entry {o}).reads 0 (bits {o} packet.now)))"
-        told = self.or_refused(f"OwnAnswer {self.becomes_name} (λ answer. answer)\n            {answer} result")
+        reached = f"MayAllocate ({m}_entry {o}) 0 (bits {o} packet.now)"
+        told = self.or_refused(f"OwnAnswer {self.becomes_name} (λ answer. answer)\n            {answer} result", reached)
         bits, few = f"write_run ({m}_writes {o} value) 0", "if the bytes end before the fields do"
         errors = dict.fromkeys(it for line in self.lines for it in line.reader_errors)
         more = [f"    /// `{self.of_reader(error)}` {when}." for error, when in errors]
-        more += [f"    /// `{self.of_reader('OutOfMemory')}` if memory for a list is refused."] * self.grows
+        more += [f"    /// `{self.of_reader('OutOfMemory')}` if memory for an item of a list is refused."] * self.grows
         if self.sized:
             bits, few = f"{m}_bits value", f"for fewer than {self.total // 8} bytes"
         end, behind = f"`{self.of_reader('EndOfInput')}`", "\n            " if self.grows else " "

@@ -80,7 +80,7 @@ class Proofs:
         out = [f"use {self.goals}.{self.type}.parse.Goals as goal", ""] + (self.finds() if self.sized else [])
         answer = f"own_answered {over}" if self.own else "new_answer slice_ends _ _ c.over.ensures.state c.read.ensures"
         if self.grows:
-            answer = self.or_refused_term(over, "found")
+            answer = self.or_refused_term(over, "found", "(is_error _ _ lack.0, lack.1)")
         answers = [("answer", "c", answer)]
         answers += self.there(over) if self.sized else []
         back, is_ = f"c.{m}_goes_back.ensures.back {o} value 0 0 more fits", "is"
@@ -96,9 +96,9 @@ class Proofs:
             out += [f"pub {goal} : goal.{goal}", f"{goal} {given} = {term}", ""]
         return {path: self.answer_text(out)}
 
-    def or_refused_term(self, over, term):
+    def or_refused_term(self, over, term, lack="(is_error _ _ lack.0)"):
         """Gives the term that bytes answer what they say, of one for `found`, or that memory was refused."""
-        return f"elim (own_grown_answered {over}) [ | inl found ↦ inl ({term}) | inr lack ↦ inr (is_error _ _ lack) ]"
+        return f"elim (own_grown_answered {over}) [ | inl found ↦ inl ({term}) | inr lack ↦ inr {lack} ]"
 
     def finds(self):
         """Gives what the reads find, if nothing is refused, and at each line that may be."""

@@ -2,7 +2,7 @@
 use crate::asserts::{are, each_holds, ended, failed, gives, holds, same};
 use bitstream_io::{
     BE, BitRead, BitReadExt, BitReader, BitWrite, BitWriteExt, BitWriter, Bits, ByteRead,
-    ByteReader, Error, Slice,
+    ByteReader, Error, Slice, SliceReader,
 };
 use std::alloc::Global;
 use std::io::ErrorKind;
@@ -79,6 +79,18 @@ fn r14_hostile(rt: HostRuntime) {
     let mut whole = ByteReader::<_, BE>::new(Slice::new(&bytes));
     holds(&rt, ended(whole.read_to_vec(rt.alloc(), usize::MAX)));
     holds(&rt, whole.read_to_vec(rt.alloc(), 0).is_ok());
+}
+
+/// A call that is made of several reads keeps those that were done: a group of 8 bits, 4096 bytes.
+#[test]
+fn keeps_the_reads_before_a_failure(rt: HostRuntime) {
+    let mut groups = SliceReader::<BE>::over(&[0x80]);
+    let cut = ended(groups.read_unsigned_vbr::<Bits<8>, u64>());
+    holds(&rt, cut & (groups.bits_read() == 8) & groups.is_at_end());
+    let bytes = [7; 4500];
+    let mut buffer = SliceReader::<BE>::over(&bytes);
+    let short = ended(buffer.read_to_vec(rt.alloc(), 5000));
+    holds(&rt, short & (buffer.bits_read() == 32768) & (buffer.bits_left() == 3232));
 }
 
 /// A reader of one byte for ever, whose requests are counted.

@@ -1,9 +1,11 @@
 //! Types that own memory: the comment of a FLAC file and its picture, and a parameter set with a list of parts. That
 //! they are not always refused memory no clause tells; `.ci/memory` refuses each growth of a comment.
-use crate::asserts::{holds, same};
+use crate::asserts::{each_holds, holds, same};
 use bitstream_callers::block_header::BlockHeader;
+use bitstream_callers::client_hello::{ClientHello, ClientHelloError};
 use bitstream_callers::parameter_set::{OperatingPoint, ParameterSet};
 use bitstream_callers::picture::{Picture, PictureSize};
+use bitstream_callers::rtp_header::{RtpError, RtpHeader};
 use bitstream_callers::stream_info_block::StreamInfoBlock;
 use bitstream_callers::vorbis_comment::{CommentError, Text, VorbisComment};
 use bitstream_io::{
@@ -159,4 +161,80 @@ fn a_picture_goes_both_ways(rt: HostRuntime) {
         let ended = matches!(picture(rt.alloc(), &PICTURE[..len]), Err(Error::EndOfInput));
         same(&rt, (len, ended), (len, true));
     }
+}
+
+/// A ClientHello as OpenSSL sends it.
+const HELLO: [u8; 107] = [
+    0x01, 0x00, 0x00, 0x67, 0x03, 0x03, 0x1e, 0x5f, 0x1e, 0x7c, 0xbe, 0x75, 0x7b, 0xd4, 0x09,
+    0xe4, 0x12, 0x4d, 0x6b, 0xef, 0xf4, 0x50, 0x59, 0xc0, 0x41, 0x3a, 0xf2, 0xf1, 0x97, 0x27,
+    0x00, 0xb2, 0xfe, 0x9b, 0x22, 0x78, 0xd5, 0x83, 0x00, 0x00, 0x04, 0x00, 0x2f, 0x00, 0xff,
+    0x01, 0x00, 0x00, 0x3a, 0x00, 0x23, 0x00, 0x00, 0x00, 0x16, 0x00, 0x00, 0x00, 0x17, 0x00,
+    0x00, 0x00, 0x0d, 0x00, 0x2a, 0x00, 0x28, 0x04, 0x03, 0x05, 0x03, 0x06, 0x03, 0x08, 0x07,
+    0x08, 0x08, 0x08, 0x09, 0x08, 0x0a, 0x08, 0x0b, 0x08, 0x04, 0x08, 0x05, 0x08, 0x06, 0x04,
+    0x01, 0x05, 0x01, 0x06, 0x01, 0x03, 0x03, 0x03, 0x01, 0x03, 0x02, 0x04, 0x02, 0x05, 0x02,
+    0x06, 0x02,
+];
+
+/// Returns true if a packet is an RTP header with these sources.
+fn is_rtp(packet: &[u8], alloc: Global, ssrc: u32, csrc: &[u32]) -> bool {
+    matches!(RtpHeader::parse(packet, alloc),
+        Ok(header) if (header.ssrc == ssrc) & (header.csrc.as_slice() == csrc))
+}
+
+#[test]
+fn parses_headers_with_lists(rt: HostRuntime) {
+    let alloc = rt.alloc();
+    let plain = [0x80, 0x40, 0xf1, 0x7b, 0x80, 0x41, 0xf8, 0xd3, 0x55, 0x01, 0xa0, 0xb2];
+    let mixed = [
+        0x82, 0x8b, 0x00, 0x02, 0x00, 0x00, 0x00, 0xa0, 0x12, 0x34, 0x56, 0x78, 0x00, 0x00, 0x00, 0x07,
+        0xde, 0xca, 0xfb, 0xad,
+    ];
+    let hello = matches!(ClientHello::parse(&HELLO, alloc),
+        Ok(hello) if (hello.size == 0x67) & (hello.suites.as_slice() == [0x00, 0x2f, 0x00, 0xff].as_slice())
+            & (hello.extensions.len() == 58));
+    each_holds(
+        &rt,
+        &[
+            is_rtp(&plain, alloc, 0x5501a0b2, &[]),
+            is_rtp(&mixed, alloc, 0x12345678, &[7, 0xdecafbad]),
+            hello,
+        ],
+    );
+}
+
+/// Returns true if an RTP packet of any other version is refused as such.
+fn refuses_versions(alloc: Global) -> bool {
+    let mut all = true;
+    for first in [0x00, 0x40, 0xc0] {
+        let packet = [first, 0x40, 0xf1, 0x7b, 0x80, 0x41, 0xf8, 0xd3, 0x55, 0x01, 0xa0, 0xb2];
+        all &= matches!(RtpHeader::parse(&packet, alloc), Err(RtpError::WrongVersion));
+    }
+    all
+}
+
+#[test]
+fn refuses_other_headers_with_lists(rt: HostRuntime) {
+    let alloc = rt.alloc();
+    let mut other = HELLO;
+    other[0] = 2;
+    let mut squeezed = HELLO;
+    squeezed[46] = 0x40;
+    each_holds(
+        &rt,
+        &[
+            refuses_versions(alloc),
+            matches!(RtpHeader::parse(&[], alloc), Err(RtpError::Reader(Error::EndOfInput))),
+            matches!(RtpHeader::parse(&[0x81; 15], alloc), Err(RtpError::Reader(Error::EndOfInput))),
+            matches!(ClientHello::parse(&other, alloc), Err(ClientHelloError::OtherMessage)),
+            matches!(ClientHello::parse(&squeezed, alloc), Err(ClientHelloError::NoCompression)),
+            matches!(
+                ClientHello::parse(&HELLO[..106], alloc),
+                Err(ClientHelloError::Reader(Error::EndOfInput))
+            ),
+            matches!(
+                ClientHello::parse(&[], alloc),
+                Err(ClientHelloError::Reader(Error::EndOfInput))
+            ),
+        ],
+    );
 }

@@ -5,7 +5,7 @@ use Rattle.bitstream_callers.specs.declared.client_hello.ClientHello.{ClientHell
 use Rattle.bitstream_callers.specs.declared.client_hello.Compression.{Compression}
 use Rattle.bitstream_callers.specs.declared.client_hello.Compression.TheVariants.{Null, Deflate}
 use Rattle.std.proofs.Common.{◌≡◌, ◌^◌, ◌<◌, ◌++◌, ◌∷◌, [], Ok, length, refl, arith}
-use Rattle.bitstream_io.proofs.CallerLemmas.{GoesBack, Packs, unsigned-back, bytes-back, gives-back, literal-back, unsigned-written, bytes-written, const-written, packs-none, packs-more, packs-part, packs-is}
+use Rattle.bitstream_io.proofs.CallerLemmas.{GoesBack, Packs, unsigned-back, bytes-back, gives-back, literal-back, unsigned-written, bytes-written, const-written, packs-none, packs-more, packs-part, packs-is, vec-back}
 use Rattle.bitstream_io.proofs.EachLemmas.{all-made, each_part-back, made-each, packs-made}
 use Rattle.bitstream_io.specs.Callers.{Order, High, unsigned, align, write_run}
 
@@ -24,14 +24,14 @@ pub client_hello_goes : (o : Order) (value : ClientHello) → Fits value
 client_hello_goes o value fits =
     literal-back _ _ o 8 1 _ refl (unsigned-back o 24 _ _ 32 value.size _ refl fits.size (unsigned-back o 16 _ _ 16
     value.version _ refl fits.version (bytes-back _ _ o 32 value.random _ fits.random_count fits.random
-    (unsigned-back o 8 _ _ 64 (length value.session) _ refl fits.session_count (bytes-back _ _ o (length
+    (unsigned-back o 8 _ _ 64 (length value.session) _ refl fits.session_count (vec-back _ _ o (length
     value.session) value.session _ refl fits.session (unsigned-back o 16 _ _ 64 (length value.suites) _ refl
-    fits.suites_count (bytes-back _ _ o (length value.suites) value.suites _ refl fits.suites (unsigned-back o 8 _ _
+    fits.suites_count (vec-back _ _ o (length value.suites) value.suites _ refl fits.suites (unsigned-back o 8 _ _
     64 (length value.compressions) _ refl fits.compressions_count (each_part-back _ _ (compression_read o) (λ x.
     unsigned o 8 8 (compression_number x) ∷ []) (length value.compressions) value.compressions _ refl (made-each o 8
     8 compression_number compression_of (λ x. Ok x) value.compressions refl (all-made 8 compression_of
     compression_small compression_again value.compressions)) (unsigned-back o 16 _ _ 64 (length value.extensions) _
-    refl fits.extensions_count (bytes-back _ _ o (length value.extensions) value.extensions _ refl fits.extensions
+    refl fits.extensions_count (vec-back _ _ o (length value.extensions) value.extensions _ refl fits.extensions
     (gives-back _))))))))))))
 
 -- each write is accepted, and so many bits are written

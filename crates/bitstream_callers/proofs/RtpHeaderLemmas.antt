@@ -3,8 +3,8 @@
 use Rattle.bitstream_callers.specs.RtpHeader.{rtp_header_entry, rtp_header_writes, rtp_header_size, rtp_header_bits, Fits}
 use Rattle.bitstream_callers.specs.declared.rtp_header.RtpHeader.{RtpHeader}
 use Rattle.std.proofs.Common.{◌≡◌, ◌++◌, ◌∷◌, [], Ok, length, refl, arith}
-use Rattle.bitstream_io.proofs.CallerLemmas.{GoesBack, Packs, bit-back, unsigned-back, gives-back, items-back, literal-back, bit-written, unsigned-written, const-written, packs-none, packs-more, packs-part, packs-items, packs-is}
-use Rattle.bitstream_io.specs.Callers.{Order, High, align, write_run}
+use Rattle.bitstream_io.proofs.CallerLemmas.{GoesBack, Packs, bit-back, unsigned-back, gives-back, literal-back, bit-written, unsigned-written, const-written, packs-none, packs-more, packs-part, packs-items, packs-is, each-back, unsigned-each}
+use Rattle.bitstream_io.specs.Callers.{list_item, Order, High, unsigned_entry, unsigned, align, write_run}
 
 -- what was written is read back
 pub rtp_header_goes : (o : Order) (value : RtpHeader) → Fits value
@@ -14,7 +14,8 @@ rtp_header_goes o value fits =
     64 (length value.csrc) _ refl fits.csrc_count (bit-back value.marker _ _ _ (unsigned-back o 7 _ _ 8
     value.payload_type _ refl fits.payload_type (unsigned-back o 16 _ _ 16 value.sequence _ refl fits.sequence
     (unsigned-back o 32 _ _ 32 value.timestamp _ refl fits.timestamp (unsigned-back o 32 _ _ 32 value.ssrc _ refl
-    fits.ssrc (items-back _ _ o 32 32 (length value.csrc) value.csrc _ refl refl fits.csrc (gives-back _))))))))))
+    fits.ssrc (each-back _ _ (list_item (unsigned_entry o 32 32)) (λ x. unsigned o 32 32 x ∷ []) (length value.csrc)
+    value.csrc _ refl (unsigned-each o 32 32 value.csrc refl fits.csrc) (gives-back _))))))))))
 
 -- each write is accepted, and so many bits are written
 pub rtp_header_packs : (o : Order) (value : RtpHeader) → Fits value

@@ -6,7 +6,7 @@ use Rattle.bitstream_callers.specs.declared.client_hello.Compression.{Compressio
 use Rattle.bitstream_callers.specs.declared.client_hello.Compression.TheVariants.{Null, Deflate}
 use Rattle.std.specs.Prelude.{◌≡◌, ◌^◌, ◌<◌, ◌+◌, ◌*◌, ◌++◌, ◌∷◌, [], ◌==◌, if◌then◌else◌, ℕ, Bool, List, Result, Ok, Err, length}
 use Rattle.std.specs.List.{All, flat_map}
-use Rattle.bitstream_io.specs.Callers.{◌>>=◌, ReadEntry, WriteEntry, gives, Error, Order, High, chain, word, unsigned_entry, const_entry, bytes_entry, plain, unsigned, buffer, align, write_run, part_then, parts_entry}
+use Rattle.bitstream_io.specs.Callers.{◌>>=◌, ReadEntry, WriteEntry, gives, Error, Order, High, chain, word, unsigned_entry, const_entry, bytes_entry, vec_entry, plain, unsigned, buffer, align, write_run, part_then, parts_entry}
 
 -- Made by `./format` from formats/client_hello.fields: edit that file and make this one anew.
 
@@ -33,7 +33,7 @@ abbrev pub client_hello_entry_2 : Order → ℕ → ℕ → List ℕ → ℕ →
 client_hello_entry_2 o size version random session_count session suites_count suites compressions_count compressions =
     do
       extensions_count ← unsigned_entry o 64 16
-      extensions ← bytes_entry o extensions_count
+      extensions ← vec_entry o extensions_count
       gives (Ok (record {
         size = size;
         version = version;
@@ -52,9 +52,9 @@ client_hello_entry_1 o = do
   version ← unsigned_entry o 16 16
   random ← bytes_entry o 32
   session_count ← unsigned_entry o 64 8
-  session ← bytes_entry o session_count
+  session ← vec_entry o session_count
   suites_count ← unsigned_entry o 64 16
-  suites ← bytes_entry o suites_count
+  suites ← vec_entry o suites_count
   compressions_count ← unsigned_entry o 64 8
   chain (parts_entry (compression_read o) compressions_count) (part_then (λ compressions. client_hello_entry_2 o size
       version random session_count session suites_count suites compressions_count compressions))

@@ -1,7 +1,7 @@
 -- The Vorbis comment of a FLAC file, read from bits.
 use Rattle.std.specs.Prelude.{ℕ, List, if◌then◌else◌, Result, Ok, Err}
 use Rattle.std.specs.Str.{is_utf8}
-use Rattle.bitstream_io.specs.Callers.{ReadEntry, gives, bytes_entry, bytes_number, parts_entry, part_then, ◌>>=◌, Order, Low}
+use Rattle.bitstream_io.specs.Callers.{ReadEntry, gives, bytes_number, parts_entry, part_then, vec_entry, ◌>>=◌, Order, Low}
 use Rattle.bitstream_callers.specs.VorbisTexts.{Comment}
 use Rattle.bitstream_callers.specs.declared.vorbis_comment.CommentError.{CommentError}
 use Rattle.bitstream_callers.specs.declared.vorbis_comment.CommentError.TheVariants.{NotText}
@@ -10,7 +10,7 @@ use Rattle.bitstream_callers.specs.declared.vorbis_comment.CommentError.TheVaria
 abbrev pub text_reads : Order → ReadEntry (Result (List ℕ) CommentError)
 text_reads o = do
   size ← bytes_number o Low 4
-  text ← bytes_entry o size
+  text ← vec_entry o size
   gives (if is_utf8 text then Ok text else Err NotText)
 
 -- so many texts behind the vendor's

@@ -1,7 +1,7 @@
 -- The picture of a FLAC file.
 use Rattle.std.specs.Prelude.{◌<◌, ◌^◌, ℕ, List, [], ◌∷◌, ◌++◌, length, Result, Ok}
 use Rattle.std.specs.List.{All}
-use Rattle.bitstream_io.specs.Callers.{ReadEntry, WriteEntry, gives, Error, bytes_entry, unsigned_entry, ◌>>=◌, Order, buffer, unsigned}
+use Rattle.bitstream_io.specs.Callers.{ReadEntry, WriteEntry, gives, Error, unsigned_entry, vec_entry, ◌>>=◌, Order, buffer, unsigned}
 use Rattle.bitstream_io.specs.Own.{part_then}
 use Rattle.bitstream_callers.specs.declared.picture.Picture.{Picture}
 use Rattle.bitstream_callers.specs.declared.picture.PictureSize.{PictureSize}
@@ -10,7 +10,7 @@ use Rattle.bitstream_callers.specs.declared.picture.PictureSize.{PictureSize}
 abbrev pub counted_reads : Order → ReadEntry (Result (List ℕ) Error)
 counted_reads o = do
   size ← unsigned_entry o 32 32
-  bytes ← bytes_entry o size
+  bytes ← vec_entry o size
   gives (Ok bytes)
 
 -- the reads of a size, in order

@@ -4,7 +4,7 @@ use Rattle.bitstream_callers.specs.declared.rtp_header.RtpError.{RtpError}
 use Rattle.bitstream_callers.specs.declared.rtp_header.RtpError.TheVariants.{Reader, WrongVersion}
 use Rattle.std.specs.Prelude.{◌≡◌, ◌^◌, ◌<◌, ◌+◌, ◌*◌, ◌++◌, ◌∷◌, [], if◌then◌else◌, ℕ, Bool, List, Result, Ok, Err, length}
 use Rattle.std.specs.List.{All, flat_map}
-use Rattle.bitstream_io.specs.Callers.{◌>>=◌, ReadEntry, WriteEntry, gives, Error, Order, High, word, bit_entry, unsigned_entry, const_entry, items_entry, plain, bit, unsigned, align, write_run}
+use Rattle.bitstream_io.specs.Callers.{◌>>=◌, ReadEntry, WriteEntry, gives, list_item, Error, Order, High, word, bit_entry, unsigned_entry, const_entry, items_entry, plain, bit, unsigned, align, write_run}
 
 -- Made by `./format` from formats/rtp_header.fields: edit that file and make this one anew.
 
@@ -23,7 +23,7 @@ rtp_header_entry_1 o = do
   sequence ← unsigned_entry o 16 16
   timestamp ← unsigned_entry o 32 32
   ssrc ← unsigned_entry o 32 32
-  csrc ← items_entry (unsigned_entry o 32 32) csrc_count
+  csrc ← items_entry (list_item (unsigned_entry o 32 32)) csrc_count
   gives (Ok (record {
     padding = padding;
     extension = extension;

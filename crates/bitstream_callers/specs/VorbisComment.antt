@@ -3,7 +3,7 @@ use Rattle.std.specs.Prelude.{◌≡◌, ◌<◌, ◌^◌, ℕ, true, if◌then�
 use Rattle.std.specs.List.{All, flat_map}
 use Rattle.std.specs.Str.{is_utf8}
 use Rattle.bitstream_io.specs.ByteGrows.{byte_part_then, byte_parts}
-use Rattle.bitstream_io.specs.ByteReads.{ByteReadEntry, given_bytes}
+use Rattle.bitstream_io.specs.ByteReads.{ByteReadEntry, vec_bytes}
 use Rattle.bitstream_io.specs.ByteSteps.{◌>>=◌, number_bytes}
 use Rattle.bitstream_io.specs.ByteTypes.{byte_gives}
 use Rattle.bitstream_io.specs.Callers.{Error, Low, bytes}
@@ -19,7 +19,7 @@ becomes_reader error own = own ≡ Reader error
 abbrev pub text_reads : ByteReadEntry (Result (List ℕ) CommentError)
 text_reads = do
   size ← number_bytes Low 4
-  text ← given_bytes size
+  text ← vec_bytes size
   byte_gives (if is_utf8 text then Ok text else Err NotText)
 
 -- so many texts behind the vendor's

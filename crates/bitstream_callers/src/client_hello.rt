@@ -7,7 +7,7 @@ ghost use Rattle.bitstream_callers.specs.declared.client_hello.ClientHelloError.
 ghost use Rattle.bitstream_callers.specs.declared.client_hello.ClientHelloError.TheVariants.{Reader};
 ghost use Rattle.std.specs.Prelude.{◌≡◌, ◌≤◌, ◌*◌, ◌++◌, ◌∷◌, [], ◌⊎◌, ℕ, Bool, true, List, Ok, Err, length, IfOk, IsOk};
 ghost use Rattle.std.specs.List.{flat_map};
-ghost use Rattle.bitstream_io.specs.Callers.{Takes, Order, High, bits, unsigned, write_run, ReadsOwn, OwnAnswer, WritesAll, sure_answer, GrowsOwn, OutOfMemory, seen, same_error, parts_entry};
+ghost use Rattle.bitstream_io.specs.Callers.{Takes, Order, High, bits, unsigned, write_run, ReadsOwn, OwnAnswer, WritesAll, sure_answer, GrowsOwn, MayAllocate, OutOfMemory, seen, same_error, parts_entry};
 ghost use Rattle.bitstream_io.specs.SliceMut.{written_bytes};
 
 use bitstream_io::{
@@ -216,11 +216,12 @@ impl ClientHello {
     /// # Errors
     ///
     /// `OtherMessage`, `NoCompression`, `Reader(EndOfInput)` if the bytes end before the fields do.
-    /// `Reader(OutOfMemory)` if memory for a list is refused.
+    /// `Reader(OutOfMemory)` if memory for an item of a list is refused.
     pub fn parse(packet: &[u8], alloc: Global) -> Result<ClientHello, ClientHelloError>
         ensures answer { (OwnAnswer becomes_client_hello (λ answer. answer)
             (sure_answer ((client_hello_entry High).reads 0 (bits High packet.now))) result)
-            ⊎ (result ≡ Err (ClientHelloError.Reader OutOfMemory)) }
+            ⊎ ((result ≡ Err (ClientHelloError.Reader OutOfMemory))
+            × MayAllocate (client_hello_entry High) 0 (bits High packet.now)) }
         ensures back { (value : ClientHello) (more : List Bool) → Fits value
             → bits High packet.now ≡ write_run (client_hello_writes High value) 0 ++ more
             → (result ≡ Ok value)

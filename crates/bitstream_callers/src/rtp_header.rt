@@ -7,7 +7,7 @@ ghost use Rattle.bitstream_callers.specs.declared.rtp_header.RtpError.{RtpError}
 ghost use Rattle.bitstream_callers.specs.declared.rtp_header.RtpError.TheVariants.{Reader};
 ghost use Rattle.std.specs.Prelude.{◌≡◌, ◌≤◌, ◌*◌, ◌++◌, ◌∷◌, [], ◌⊎◌, ℕ, Bool, true, List, Ok, Err, length, IfOk, IsOk};
 ghost use Rattle.std.specs.List.{flat_map};
-ghost use Rattle.bitstream_io.specs.Callers.{Takes, Order, High, bits, unsigned_entry, items_entry, unsigned, write_run, OwnAnswer, WritesAll, sure_answer, GrowsOwn, OutOfMemory, seen, same_error};
+ghost use Rattle.bitstream_io.specs.Callers.{Takes, list_item, Order, High, bits, unsigned_entry, items_entry, unsigned, write_run, OwnAnswer, WritesAll, sure_answer, GrowsOwn, MayAllocate, OutOfMemory, seen, same_error};
 ghost use Rattle.bitstream_io.specs.Grows.{GrowingOutcome};
 ghost use Rattle.bitstream_io.specs.SliceMut.{written_bytes};
 
@@ -89,7 +89,7 @@ impl From<Error> for RtpError {
 
 /// Reads so many items of `csrc`. If memory for one is refused, that one is read, and no more.
 fn read_csrc<R: BitRead>(reader: &mut R, alloc: Global, count: u64) -> Result<Vec<u32>, Error>
-    ensures { GrowingOutcome R.source (items_entry (unsigned_entry R.source.order 32 32) count)
+    ensures { GrowingOutcome R.source (items_entry (list_item (unsigned_entry R.source.order 32 32)) count)
         reader.old (seen (λ found. found.items) result) reader.new }
 {
     let mut found = Vec::new(alloc);
@@ -148,11 +148,12 @@ impl RtpHeader {
     /// # Errors
     ///
     /// `WrongVersion`, `Reader(EndOfInput)` if the bytes end before the fields do.
-    /// `Reader(OutOfMemory)` if memory for a list is refused.
+    /// `Reader(OutOfMemory)` if memory for an item of a list is refused.
     pub fn parse(packet: &[u8], alloc: Global) -> Result<RtpHeader, RtpError>
         ensures answer { (OwnAnswer becomes_rtp_header (λ answer. answer)
             (sure_answer ((rtp_header_entry High).reads 0 (bits High packet.now))) result)
-            ⊎ (result ≡ Err (RtpError.Reader OutOfMemory)) }
+            ⊎ ((result ≡ Err (RtpError.Reader OutOfMemory))
+            × MayAllocate (rtp_header_entry High) 0 (bits High packet.now)) }
         ensures back { (value : RtpHeader) (more : List Bool) → Fits value
             → bits High packet.now ≡ write_run (rtp_header_writes High value) 0 ++ more
             → (result ≡ Ok value)

@@ -117,6 +117,6 @@ impl FromByteStreamUsing for VorbisComment {
 /// that the format has for it. The read takes them, and no more.
 pub fn comments_go_back()
     ensures { (comment : Comment) (more : List ℕ) → IsComment comment
-        → comment_reads (comment_bytes comment ++ more)
+        → comment_reads.reads (comment_bytes comment ++ more)
         ≡ Takes (length (comment_bytes comment)) (Ok (Ok comment)) }
 {}

@@ -34,7 +34,7 @@ use Rattle.bitstream_stream.proofs.Reading.SliceLemmas.{new_answer}
 use Rattle.bitstream_stream.proofs.Reading.TableLemmas.{unsigned-on_failed}
 use Rattle.bitstream_stream.proofs.Writing.WriteParts.{all_none, all_append, all_err, all_one, all_stop, one_of_all, flat_map-take, flat_map-split}
 use Rattle.bitstream_value.specs.Array.{items_entry, words}
-use Rattle.bitstream_value.specs.Grows.{GrowsOwn}
+use Rattle.bitstream_value.specs.Grows.{GrowsOwn, MayAllocate}
 use Rattle.bitstream_value.specs.Own.{OwnAnswer, ReadsOwn, WritesOwn, part_then, same_error}
 use Rattle.bitstream_value.proofs.ArrayLemmas.{items-start, items-stop as items-ended, items-suc}
 use Rattle.bitstream_value.proofs.BackLemmas.{signed-word}
@@ -67,7 +67,7 @@ pub use Rattle.bitstream_stream.proofs.Reading.SignedLemmas.{unsigned-below as b
 pub use Rattle.bitstream_value.proofs.BackLemmas.{GoesBack, goes_back, bit-back, gives-back, signed-back, unsigned-back}
 -- parts of which it is not known whether they ask for memory
 pub use Rattle.bitstream_value.proofs.GenericLemmas.{weaker, part_go_if, part_stop_if, end_if}
-pub use Rattle.bitstream_value.proofs.GrowsLemmas.{few_growing_reads, growth-here, grown, if_grown, own_refused, go_grown, stop_grown, then_grown_read, end_grown_read, then_growing, end_growing, part_go, part_stop, then_growing_part, end_growing_part, then_grown_part, end_grown_part, grown_end, grown_is, grow_plainly, items-refused, parts-begin, parts-push, parts-stop, parts-refused}
+pub use Rattle.bitstream_value.proofs.GrowsLemmas.{few_growing_reads, growth-here, grown, if_grown, own_refused, go_grown, stop_grown, then_grown_read, end_grown_read, vec-grown, then_growing, end_growing, part_go, part_stop, then_growing_part, end_growing_part, then_grown_part, end_grown_part, grown_end, grown_is, grow_plainly, item-read, items-refused, parts-begin, parts-push, parts-stop, parts-refused}
 pub use Rattle.bitstream_value.proofs.LengthSteps.{in_both_orders, lengths}
 pub use Rattle.bitstream_value.proofs.OwnLemmas.{is_error, plainly_read, plainly_written, read_plainly, written_plainly}
 pub use Rattle.bitstream_value.proofs.OwnSteps.{few_own_reads, few_own_writes, own_end, if_own, else_own}
@@ -75,7 +75,7 @@ pub use Rattle.bitstream_value.proofs.ReadSteps.{few_reads, reads, Finds, finds,
 pub use Rattle.bitstream_value.proofs.SureLemmas.{IsWord, items_there, unsigned-word, word_there}
 pub use Rattle.bitstream_value.proofs.WriteSteps.{few_writes, writes, packed_stream}
 pub use Rattle.bitstream_io.proofs.CallsBack.{calls_go_back, unary-back, items-read, path-read, unsigned-read}
-pub use Rattle.bitstream_io.proofs.CallsBack.{any_vbr-back, bytes-back, non_zero-back, option-back, skip-back, vbr-back}
+pub use Rattle.bitstream_io.proofs.CallsBack.{any_vbr-back, bytes-back, vec-back, non_zero-back, option-back, skip-back, vbr-back}
 pub use Rattle.bitstream_io.proofs.NonZeroBack.{non_zero_u8-again, non_zero_u16-again, non_zero_u32-again, non_zero_u64-again, non_zero_u128-again}
 pub use Rattle.bitstream_io.proofs.NonZeroBack.{option_u8-again, option_u16-again, option_u32-again, option_u64-again, option_u128-again}
 pub use Rattle.bitstream_io.proofs.PackLemmas.{IsWritten, Packs, packs, packs-none, packs-more, packs-part, packs-items, packs-signed_items, packs-parts, packs-is, packs-room, packs-whole, unsigned-written, signed-written, non_zero-written, const-written, zeros-written, bit-written, bytes-written, unary-written, vbr-written}
@@ -608,17 +608,17 @@ own_answered {becomes = becomes} {r = r} {xs = xs} {references = references} end
     new_answer ends xs references (new ∙ ap (λ z. new_reader_state z references) told) h.called in
     subst (λ z. OwnAnswer becomes (λ y. y) z r) plain h.answer
 
--- and of a type that asks for memory: that, or memory was refused
+-- and of a type that asks for memory: that, or memory was refused where the type may allocate
 pub own_grown_answered : {R A E : Type 0} {K : BitSource R} {becomes : Error → E → Type 0}
     {e : ReadEntry (Result A E)} {r : Result A E} {s t : R} {xs : List ℕ} {known : Option (List ℕ)}
     {references : List Reference} → TrueEnds K.may → K.state s ≡ new_reader_state known references → known ≡ Some xs
     → GrowsOwn K becomes e s r t → OwnAnswer becomes (λ y. y) (sure_answer (e.reads 0 (bits K.order xs))) r
-    ⊎ IsErrAnd r (becomes OutOfMemory)
+    ⊎ (IsErrAnd r (becomes OutOfMemory) × MayAllocate e 0 (bits K.order xs))
 own_grown_answered {K = K} {becomes = becomes} {e = e} {r = r} {s = s} {t = t} {xs = xs} ends new told h =
-    let front = ap (λ (z : ReaderState). e.reads z.taken (z.queue ++ bits K.order xs)) new in
     let found = own_grown-answer {s = s} {t = t} ends xs (ap (λ (z : ReaderState). z.failed) new)
     (ap (λ (z : ReaderState). z.bytes) new ∙ told) h in
-    subst (λ z. OwnAnswer becomes (λ y. y) (sure_answer z) r ⊎ IsErrAnd r (becomes OutOfMemory)) front found
+    subst (λ (z : ReaderState). OwnAnswer becomes (λ y. y) (sure_answer (e.reads z.taken (z.queue ++ bits K.order xs))) r
+    ⊎ (IsErrAnd r (becomes OutOfMemory) × MayAllocate e z.taken (z.queue ++ bits K.order xs))) new found
 
 -- if the front is known
 module _ {R A : Type 0} {K : BitSource R} {s t : R} {n : ℕ} {xs : List ℕ} {known : Option (List ℕ)}
@@ -673,16 +673,6 @@ pub last-back : {A B : Type 0} (e : ReadEntry A) (make : A → B) (ws : List Wri
     → GoesBack (chain e (λ v. gives (make v))) ws (make a)
 last-back e make ws a part = record { back = mapped-read make ws e a part }
 
--- numbers of n bits that were written one by one
-pub numbers-read : (o : Order) (size n : ℕ) (xs : List ℕ) → n ≤ size → All (λ x. x < 2 ^ n) xs
-    → IsReadAs (flat_map (λ x. unsigned o size n x ∷ []) xs) (items_entry (unsigned_entry o size n) (length xs)) xs
-numbers-read o size n xs within fit =
-    let writes = λ (x : ℕ). unsigned o size n x ∷ [] in
-    let e = unsigned_entry o size n in
-    let one = λ (x : ℕ) (small : x < 2 ^ n).
-    subst (IsReadAs (writes x) e) (value_in-fits n x small) (unsigned-read o size n x within (inl small)) in
-    items-read e writes xs (All-weaker (λ x. x < 2 ^ n) (λ x. IsReadAs (writes x) e x) one xs fit)
-
 -- a part that is there or not
 pub optional-back : {A : Type 0} (e : ReadEntry A) (ws : A → List WriteEntry) (value : Option A)
     → ForSome value (λ a. IsReadAs (ws a) e a) → IsReadAs (optional_writes ws value) (optional (is_some value) e) value
@@ -721,25 +711,44 @@ each-back es b e writes count xs f is all behind =
     subst (λ (k : ℕ). GoesBack (chain (items_entry e k) f) (ws ++ es) b) is
     (part-back (items_entry e (length xs)) f ws es xs b (items-read e writes xs all) behind)
 
+-- each number of n bits that was written by itself, unsigned and signed
+pub unsigned-each : (o : Order) (size n : ℕ) (xs : List ℕ) → nat_le n size ≡ true → All (λ x. x < 2 ^ n) xs
+    → All (λ x. IsReadAs (unsigned o size n x ∷ []) (unsigned_entry o size n) x) xs
+unsigned-each o size n xs le fit =
+    let read = λ (x : ℕ). IsReadAs (unsigned o size n x ∷ []) (unsigned_entry o size n) x in
+    let one = λ (x : ℕ) (small : x < 2 ^ n).
+    subst (IsReadAs (unsigned o size n x ∷ []) (unsigned_entry o size n)) (value_in-fits n x small)
+    (unsigned-read o size n x (within_of n size le) (inl small)) in
+    All-weaker (λ x. x < 2 ^ n) read one xs fit
+
+pub signed-each : (o : Order) (size n : ℕ) (xs : List ℤ) → nat_le 1 n ≡ true → nat_le n size ≡ true
+    → All (FitsSignedBits n) xs → All (λ x. IsReadAs (signed o size n x ∷ []) (signed_entry o size n) x) xs
+signed-each o size n xs some le fit =
+    let one = λ (x : ℤ) (fits : FitsSignedBits n x).
+    signed-read o size n x (within_of 1 n some) (within_of n size le) fits in
+    All-weaker (FitsSignedBits n) (λ x. IsReadAs (signed o size n x ∷ []) (signed_entry o size n) x) one xs fit
+
+-- numbers of n bits that were written one by one
+pub numbers-read : (o : Order) (size n : ℕ) (xs : List ℕ) → nat_le n size ≡ true → All (λ x. x < 2 ^ n) xs
+    → IsReadAs (flat_map (λ x. unsigned o size n x ∷ []) xs) (items_entry (unsigned_entry o size n) (length xs)) xs
+numbers-read o size n xs le fit =
+    items-read (unsigned_entry o size n) (λ x. unsigned o size n x ∷ []) xs (unsigned-each o size n xs le fit)
+
 -- numbers of n bits, unsigned and signed
 pub items-back : {B : Type 0} (es : List WriteEntry) (b : B) (o : Order) (size n count : ℕ) (xs : List ℕ)
     (f : List ℕ → ReadEntry B) → nat_le n size ≡ true → length xs ≡ count → All (λ x. x < 2 ^ n) xs → GoesBack (f xs) es b
     → GoesBack (chain (items_entry (unsigned_entry o size n) count) f) (flat_map (λ x. unsigned o size n x ∷ []) xs ++ es) b
 items-back es b o size n count xs f le is fit behind =
-    let ws = flat_map (λ (x : ℕ). unsigned o size n x ∷ []) xs in
-    subst (λ (k : ℕ). GoesBack (chain (items_entry (unsigned_entry o size n) k) f) (ws ++ es) b) is
-    (part-back (items_entry (unsigned_entry o size n) (length xs)) f ws es xs b
-    (numbers-read o size n xs (within_of n size le) fit) behind)
+    each-back es b (unsigned_entry o size n) (λ x. unsigned o size n x ∷ []) count xs f is
+    (unsigned-each o size n xs le fit) behind
 
 pub signed_items-back : {B : Type 0} (es : List WriteEntry) (b : B) (o : Order) (size n count : ℕ) (xs : List ℤ)
     (f : List ℤ → ReadEntry B) → nat_le 1 n ≡ true → nat_le n size ≡ true → length xs ≡ count
     → All (FitsSignedBits n) xs → GoesBack (f xs) es b
     → GoesBack (chain (items_entry (signed_entry o size n) count) f) (flat_map (λ x. signed o size n x ∷ []) xs ++ es) b
 signed_items-back es b o size n count xs f some le is fit behind =
-    let one = λ (x : ℤ) (fits : FitsSignedBits n x).
-    signed-read o size n x (within_of 1 n some) (within_of n size le) fits in
     each-back es b (signed_entry o size n) (λ x. signed o size n x ∷ []) count xs f is
-    (All-weaker (FitsSignedBits n) (λ x. IsReadAs (signed o size n x ∷ []) (signed_entry o size n) x) one xs fit) behind
+    (signed-each o size n xs some le fit) behind
 
 -- a constant whose width and value are literals
 pub literal-back : {B : Type 0} (es : List WriteEntry) (b : B) (o : Order) (n v : ℕ) (f : Bool → ReadEntry B)

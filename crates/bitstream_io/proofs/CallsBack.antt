@@ -10,10 +10,10 @@ use Rattle.std.proofs.lemmas.List.Concat.{flat_map-append}
 use Rattle.std.proofs.lemmas.List.Elements.{recursion_from_All}
 use Rattle.bitstream_number.specs.Word.{Order, FitsSignedBits, word, number, signed_word, bits, zig, count_width}
 use Rattle.bitstream_number.proofs.WordLemmas.{length-word, number-word, count_fits}
-use Rattle.bitstream_count.specs.Entry.{ReadEntry, WriteEntry, chain, gives}
+use Rattle.bitstream_count.specs.Entry.{ReadEntry, WriteEntry, chain, gives, stores}
 use Rattle.bitstream_count.specs.Vbr.{vbr_word}
 use Rattle.bitstream_count.specs.Unary.{unary}
-use Rattle.bitstream_stream.specs.Reading.ReadTable.{bit_entry, unsigned_entry, signed_entry, const_entry, unary_entry, count_entry, groups_entry, vbr_entry, any_vbr_entry, signed_groups_entry, signed_vbr_entry, any_signed_vbr_entry, bytes_entry, skip_entry}
+use Rattle.bitstream_stream.specs.Reading.ReadTable.{bit_entry, unsigned_entry, signed_entry, const_entry, unary_entry, count_entry, groups_entry, vbr_entry, any_vbr_entry, signed_groups_entry, signed_vbr_entry, any_signed_vbr_entry, bytes_entry, vec_entry, skip_entry}
 use Rattle.bitstream_stream.specs.Run.{write_run}
 use Rattle.bitstream_stream.specs.Writing.WriteTable.{plain, bit, unsigned, signed, unary_word, count, vbr, signed_vbr, buffer, zeros}
 use Rattle.bitstream_stream.proofs.Reading.ReadsLemmas.{chain_decides}
@@ -223,6 +223,14 @@ then_made-read {B = B} {E = E} e make ws a part =
     subst (λ (es : List WriteEntry). IsReadAs es (chain e behind) (Ok (make a))) (append-nil ws)
     (then-read e behind ws [] (Ok a) (Ok (make a)) part (λ len p more. refl))
 
+-- the same, stored
+stored-read : {A B E : Type 0} (e : ReadEntry (Result A E)) (make : A → B) (ws : List WriteEntry) (a : A)
+    → IsReadAs ws e (Ok a) → IsReadAs ws (chain e (part_then (λ v. stores (Ok (make v))))) (Ok (make a))
+stored-read {B = B} {E = E} e make ws a part =
+    let behind = part_then {E = E} (λ v. stores (Ok (make v))) in
+    subst (λ (es : List WriteEntry). IsReadAs es (chain e behind) (Ok (make a))) (append-nil ws)
+    (then-read e behind ws [] (Ok a) (Ok (make a)) part (λ len p more. refl))
+
 pub parts-read : {A E : Type 0} (e : ReadEntry (Result A E)) (writes : A → List WriteEntry) (xs : List A)
     → All (λ x. IsReadAs (writes x) e (Ok x)) xs → IsReadAs (flat_map writes xs) (parts_entry e (length xs)) (Ok xs)
 unfolding parts_entry
@@ -230,8 +238,8 @@ parts-read {A = A} {E = E} e writes xs all =
     let ok : List A → Result (List A) E = λ zs. Ok zs in
     let one = λ (ys : List A) (y : A) (h : AreRead writes (parts_entry e) ok (λ x. IsReadAs (writes x) e (Ok x)) ys)
     (is : IsReadAs (writes y) e (Ok y)). then-read (parts_entry e (length ys))
-    (part_then (λ items. chain e (part_then (λ item. gives (Ok (items ++ item ∷ [])))))) (flat_map writes ys) (writes y)
-    (Ok ys) (Ok (ys ++ y ∷ [])) h (then_made-read e (λ item. ys ++ item ∷ []) (writes y) y is) in
+    (part_then (λ items. chain e (part_then (λ item. stores (Ok (items ++ item ∷ [])))))) (flat_map writes ys) (writes y)
+    (Ok ys) (Ok (ys ++ y ∷ [])) h (stored-read e (λ item. ys ++ item ∷ []) (writes y) y is) in
     items-behind writes (parts_entry e) ok (λ x. IsReadAs (writes x) e (Ok x)) one [] xs (λ len p more. refl)
     (recursion_from_All (λ x. IsReadAs (writes x) e (Ok x)) xs all)
 
@@ -290,6 +298,12 @@ module _ {B : Type 0} (es : List WriteEntry) (b : B) where
     bytes-back n bytes f size fit behind =
         subst (λ (k : ℕ). GoesBack (chain (bytes_entry o k) f) (buffer o bytes ∷ es) b) size
         (next-back (bytes_entry o (length bytes)) (buffer o bytes) bytes f (bytes-read o bytes fit) behind)
+
+    pub vec-back : (n : ℕ) (bytes : List ℕ) (f : List ℕ → ReadEntry B) → length bytes ≡ n → All (λ v. v < 256) bytes
+        → GoesBack (f bytes) es b → GoesBack (chain (vec_entry o n) f) (buffer o bytes ∷ es) b
+    vec-back n bytes f size fit behind =
+        subst (λ (k : ℕ). GoesBack (chain (vec_entry o k) f) (buffer o bytes ∷ es) b) size
+        (next-back (vec_entry o (length bytes)) (buffer o bytes) bytes f (bytes-read o bytes fit) behind)
 
     -- by the strict read and by the lenient one
     groups-back : (strict : Bool) (field size v : ℕ) (f : ℕ → ReadEntry B) → nat_le 2 field ≡ true

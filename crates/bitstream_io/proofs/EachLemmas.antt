@@ -119,7 +119,7 @@ module _ {A V : Type 0} (o : Order) (size n : ℕ) (num : A → ℕ) (make : ℕ
       let ws = flat_map (λ x. unsigned o size n (num x) ∷ []) xs in
       let e = λ (k : ℕ). chain (items_entry each k) (λ v. gives (whole (map make v))) in
       let words = flat_map-map (λ k. unsigned o size n k ∷ []) num xs in
-      let read = numbers-read o size n (map num xs) (within_of n size le) (All-map (λ x. x < 2 ^ n) num xs fit) in
+      let read = numbers-read o size n (map num xs) le (All-map (λ x. x < 2 ^ n) num xs fit) in
       let long : length (map num xs) ≡ count = length-map xs num ∙ is in
       let all : IsReadAs ws (items_entry each count) (map num xs) =
       subst (λ (es : List WriteEntry). IsReadAs es (items_entry each count) (map num xs)) words

@@ -1,4 +1,5 @@
 -- Counters as sinks.
+-- A sink is a record with its laws in it: so lemmas are imported.
 use Rattle.std.specs.Prelude.{◌≡◌, ℕ, ◌+◌, ◌≤◌, Bool, false, List, [], length, None, Some, Result, Ok}
 use Rattle.std.proofs.Common.{sym, add-zero, arith, length-append}
 use Rattle.bitstream_number.specs.Word.{Order}

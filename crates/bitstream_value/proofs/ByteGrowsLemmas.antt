@@ -93,9 +93,9 @@ vec_bytes-by n r s t (memory_refused g h) = in_a_read (record {
   asked = vec_bytes-allocates n h.bytes h.few;
 })
 
-pub vec_bytes-grown : {R : Type 0} {K : ByteSource R} {n : ℕ} {r : Result (List ℕ) Error} {s t : R}
+pub vec_bytes-grown : {R : Type 0} {K : ByteSource R} (n : ℕ) {r : Result (List ℕ) Error} {s t : R}
     → ByteReadsGrowing K (given_bytes n) s r t → ByteGrowingOutcome K (vec_bytes n) s r t
-vec_bytes-grown {n = n} {r = r} {s = s} {t = t} h = vec_bytes-by n r s t h
+vec_bytes-grown n {r = r} {s = s} {t = t} h = vec_bytes-by n r s t h
 
 module _ {R A B : Type 0} {K : ByteSource R} (e : ByteReadEntry A) (f : A → ByteReadEntry B) where
   behind : {a : A} {r : Result B Error} {s t z : R} → ByteReads K e s (Ok a) t
@@ -185,21 +185,21 @@ module _ {R A B E : Type 0} {K : ByteSource R} {becomes : Error → E → Type 0
       stop_grown_bytes (bytes_grown (subst (λ x. ByteReads K e s x t) (p ∙ ap result_from_control_flow q) h)) k
 
 -- a read into a vector, whose answer is seen by a view
-module _ {R B E : Type 0} {K : ByteSource R} {becomes : Error → E → Type 0} {n : ℕ} (f : List ℕ
+module _ {R B E : Type 0} {K : ByteSource R} {becomes : Error → E → Type 0} (n : ℕ) (f : List ℕ
     → ByteReadEntry (Result B E)) {r : Result B E} {s t : R} where
   pub then_growing_bytes : {V : Type 0} (view : V → List ℕ) {z : R} {v : V} {answer : Result V Error}
       {flow : ControlFlow _ V} → ByteReadsGrowing K (given_bytes n) s (seen view answer) t
       → answer ≡ result_from_control_flow flow → flow ≡ Continue v → ByteGrowsOwn K becomes (f (view v)) t r z
       → ByteGrowsOwn K becomes (byte_chain (vec_bytes n) f) s r z
   then_growing_bytes view h p q k =
-      go_grown_bytes f (vec_bytes-grown (subst (λ x. ByteReadsGrowing K (given_bytes n) s (seen view x) t)
+      go_grown_bytes f (vec_bytes-grown n (subst (λ x. ByteReadsGrowing K (given_bytes n) s (seen view x) t)
       (p ∙ ap result_from_control_flow q) h)) k
 
   pub end_growing_bytes : {V : Type 0} (view : V → List ℕ) {answer : Result V Error} {flow : ControlFlow _ V} {x : _}
       → ByteReadsGrowing K (given_bytes n) s (seen view answer) t → answer ≡ result_from_control_flow flow
       → flow ≡ Break x → IsErrAnd r (becomes x.0) → ByteGrowsOwn K becomes (byte_chain (vec_bytes n) f) s r t
   end_growing_bytes view h p q k =
-      stop_grown_bytes f (vec_bytes-grown (subst (λ x. ByteReadsGrowing K (given_bytes n) s (seen view x) t)
+      stop_grown_bytes f (vec_bytes-grown n (subst (λ x. ByteReadsGrowing K (given_bytes n) s (seen view x) t)
       (p ∙ ap result_from_control_flow q) h)) k
 
 -- a read of a number

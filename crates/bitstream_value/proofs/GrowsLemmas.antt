@@ -121,16 +121,16 @@ refused-first o e f x s t h = record {
   took = h.took;
 }
 
-module _ {R A B : Type 0} {K : BitSource R} (e : ReadEntry A) (f : A → ReadEntry B) where
-  -- what no beginning of two words decides
-  after_first : {a : A} {s t : R} (h : ReadDone K.order e (K.state s) (Ok a) (K.state t))
-      → Behind (chain e f) (K.state s).taken h.word (f a) (K.state t).taken
-  after_first {a = a} {s = s} h = record {
-    needs = λ front b back is. chain-none e f (K.state s).taken front (h.needs front b back is);
-    short = λ more short. chain-ok e f (K.state s).taken (h.word ++ more) (length h.word) a (h.decides more)
-        ∙ rw (drop-append_seam h.word more, ← h.taken, short) refl;
-  }
+-- what no beginning of two words decides
+after_first : {A B : Type 0} (o : Order) (e : ReadEntry A) (f : A → ReadEntry B) (a : A) (s t : ReaderState)
+    (h : ReadDone o e s (Ok a) t) → Behind (chain e f) s.taken h.word (f a) t.taken
+after_first o e f a s t h = record {
+  needs = λ front b back is. chain-none e f s.taken front (h.needs front b back is);
+  short = λ more short. chain-ok e f s.taken (h.word ++ more) (length h.word) a (h.decides more)
+      ∙ rw (drop-append_seam h.word more, ← h.taken, short) refl;
+}
 
+module _ {R A B : Type 0} {K : BitSource R} (e : ReadEntry A) (f : A → ReadEntry B) where
   -- the first call was done, and then memory was refused
   refused-behind : {a : A} {r : Result B Error} {s t z : R} → Reads K e s (Ok a) t
       → GrowthRefused K.order (f a) (K.state t) r (K.state z)
@@ -142,7 +142,7 @@ module _ {R A B : Type 0} {K : BitSource R} (e : ReadEntry A) (f : A → ReadEnt
   refused-behind {a = a} {s = s} {t = t} {z = z} (was_done h) k = record {
     answer = k.answer;
     word = h.word ++ k.word;
-    needs = Behind-needs k.word (after_first {s = s} {t = t} h) k.needs;
+    needs = Behind-needs k.word (after_first K.order e f a (K.state s) (K.state t) h) k.needs;
     asked = chain-allocates_after e f (K.state s).taken (K.state t).taken h.word k.word a h.decides h.taken k.asked;
     took = Took-trans K.order h.word k.word (K.state s) (K.state t) (K.state z)
         (took K.order e a (K.state s) (K.state t) h) k.took;
@@ -168,7 +168,7 @@ module _ {R A B : Type 0} {K : BitSource R} (e : ReadEntry A) (f : A → ReadEnt
           fine = h.fine;
           answer = k.refused.answer;
           word = u ++ v;
-          few = (after_first {s = s} {t = t} h).short v k.refused.few;
+          few = (after_first o e f a (K.state s) (K.state t) h).short v k.refused.few;
           gone = was.gone ++ k.refused.gone;
           loses = Consumes-trans (K.state s).bytes (K.state t).bytes (K.state z).bytes was.gone k.refused.gone was.loses
               k.refused.loses;
@@ -231,9 +231,9 @@ vec-by o n r s t (was_refused h) = by_reads (was_refused h)
 vec-by {K = K} o n r s t (memory_refused g h) =
     in_a_read (record { refused = h; asked = vec-allocates o n (K.state s).taken h.word h.few })
 
-pub vec-grown : {R : Type 0} {K : BitSource R} {o : Order} {n : ℕ} {r : Result (List ℕ) Error} {s t : R}
+pub vec-grown : {R : Type 0} {K : BitSource R} (o : Order) (n : ℕ) {r : Result (List ℕ) Error} {s t : R}
     → ReadsGrowing K (bytes_entry o n) s r t → GrowingOutcome K (vec_entry o n) s r t
-vec-grown {o = o} {n = n} {r = r} {s = s} {t = t} h =
+vec-grown o n {r = r} {s = s} {t = t} h =
     vec-by o n r s t (Reads-same (record { reads = λ p b. refl; on_failed = refl }) h)
 
 pub if_grown : {R A E : Type 0} {K : BitSource R} {becomes : Error → E → Type 0} {e : ReadEntry (Result A E)}
@@ -269,20 +269,20 @@ module _ {R A B E : Type 0} {K : BitSource R} {becomes : Error → E → Type 0}
   end_grown_read h p q k = stop_grown (grown (subst (λ x. Reads K e s x t) (p ∙ ap result_from_control_flow q) h)) k
 
 -- a read into a vector, whose answer is seen by a view
-module _ {R B E : Type 0} {K : BitSource R} {becomes : Error → E → Type 0} {o : Order} {n : ℕ} (f : List ℕ
+module _ {R B E : Type 0} {K : BitSource R} {becomes : Error → E → Type 0} (o : Order) (n : ℕ) (f : List ℕ
     → ReadEntry (Result B E)) {r : Result B E} {s t : R} where
   pub then_growing : {V : Type 0} (view : V → List ℕ) {z : R} {v : V} {answer : Result V Error} {flow : ControlFlow _ V}
       → ReadsGrowing K (bytes_entry o n) s (seen view answer) t → answer ≡ result_from_control_flow flow
       → flow ≡ Continue v → GrowsOwn K becomes (f (view v)) t r z → GrowsOwn K becomes (chain (vec_entry o n) f) s r z
   then_growing view h p q k =
-      go_grown f (vec-grown (subst (λ x. ReadsGrowing K (bytes_entry o n) s (seen view x) t)
+      go_grown f (vec-grown o n (subst (λ x. ReadsGrowing K (bytes_entry o n) s (seen view x) t)
       (p ∙ ap result_from_control_flow q) h)) k
 
   pub end_growing : {V : Type 0} (view : V → List ℕ) {answer : Result V Error} {flow : ControlFlow _ V} {x : _}
       → ReadsGrowing K (bytes_entry o n) s (seen view answer) t → answer ≡ result_from_control_flow flow
       → flow ≡ Break x → IsErrAnd r (becomes x.0) → GrowsOwn K becomes (chain (vec_entry o n) f) s r t
   end_growing view h p q k =
-      stop_grown f (vec-grown (subst (λ x. ReadsGrowing K (bytes_entry o n) s (seen view x) t)
+      stop_grown f (vec-grown o n (subst (λ x. ReadsGrowing K (bytes_entry o n) s (seen view x) t)
       (p ∙ ap result_from_control_flow q) h)) k
 
 -- the answer behind all reads: a value, or an error of the type's own
@@ -438,11 +438,11 @@ stored_end r s = record {
   answer = refl;
 }
 
-part_fine : {R A E : Type 0} {K : BitSource R} {becomes : Error → E → Type 0} {e : ReadEntry (Result A E)} {s t : R}
+part_fine : {R A E : Type 0} {K : BitSource R} (becomes : Error → E → Type 0) {e : ReadEntry (Result A E)} {s t : R}
     (a : A) (plain : Result (Result A E) Error) → e.on_failed ≡ Err Failed → GrowingOutcome K e s plain t
     → OwnAnswer becomes (λ x. x) plain (Ok a) → (K.state t).failed ≡ false
-part_fine a (Ok v) failed h is = still_fine failed h
-part_fine a (Err x) failed h is = absurd is
+part_fine becomes a (Ok v) failed h is = still_fine failed h
+part_fine becomes a (Err x) failed h is = absurd is
 
 module _ {R A E : Type 0} {K : BitSource R} {becomes : Error → E → Type 0} (e : ReadEntry (Result A E)) where
   -- none yet
@@ -476,7 +476,7 @@ module _ {R A E : Type 0} {K : BitSource R} {becomes : Error → E → Type 0} (
       → PartsRead K becomes e k s xs t → GrowsOwn K becomes e t (Ok x) z → becomes OutOfMemory y
       → GrowsOwn K becomes (parts_entry e all) s (Err y) z
   parts-refused k all {xs = xs} {x = x} {y = y} {s = s} {z = z} failed less h read own =
-      let fine = part_fine x read.plain failed read.called read.answer in
+      let fine = part_fine becomes x read.plain failed read.called read.answer in
       let last = own_refused {becomes = becomes} (stores (Ok (xs ++ x ∷ []))) (Err y) z fine refl own in
       let next : GrowsOwn K becomes (parts_entry e (suc k)) s (Err y) z =
       rw (parts-suc e k) (part_go _ h (part_go _ read last)) in

@@ -1,4 +1,5 @@
 -- Calls for whole bytes, one after another, and with errors of their own.
+-- A sink of bytes is a record with its laws in it: so lemmas are imported.
 use Rattle.std.specs.Prelude.{◌≡◌, ◌⊎◌, ◌||◌, ℕ, ◌+◌, ◌≤◌, nat_lt, if◌then◌else◌, List, [], ◌∷◌, length, drop, None, Some, Result, Ok, Err, IsErr}
 use Rattle.std.proofs.Common.{sym, add-zero, arith, length-append}
 use Rattle.bitstream_number.specs.Word.{Order, High}

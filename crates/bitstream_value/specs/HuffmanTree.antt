@@ -1,4 +1,5 @@
 -- The tree that nodes stand for.
+-- A tree that is there has a value: so a lemma is imported.
 use Rattle.std.specs.Prelude.{◌≡◌, true, List, Option, Some, None, is_some}
 use Rattle.std.proofs.lemmas.Bool.{false≢true}
 use Rattle.bitstream_value.specs.Nodes.{nodes_tree}

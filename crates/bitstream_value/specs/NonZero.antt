@@ -1,4 +1,5 @@
 -- Values of `NonZero` types, and the numbers that stand for them.
+-- A value carries a proof that it is not 0: so lemmas are imported.
 use Rattle.std.specs.Coded.{le_prop}
 use Rattle.std.specs.Prelude.{◌≡◌, ℕ, zero, suc, ◌-◌, ◌^◌, ◌<◌, nat_lt, if◌then◌else◌, Option, Some, None, Err}
 use Rattle.std.proofs.Common.{ap, subst}

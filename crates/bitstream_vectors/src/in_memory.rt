@@ -1,4 +1,5 @@
-//! Words, runs and parts of bytes in memory, at each place in a byte, in both orders.
+//! Words, runs and parts of bytes in memory, and calls that they are too short for, at each place in a byte,
+//! in both orders.
 //!
 //! What is to be read is computed from single bits, and not by the library.
 use crate::buffers::byte_at;
@@ -221,9 +222,49 @@ fn differing_parts<E: Endianness>(bits: u32) -> u32 {
     differing
 }
 
-/// Reads all words, runs and parts. Prints how many differ, and gives it.
+/// The kinds of calls that need more bits than three bytes have.
+const TOO_LONG: u32 = 9;
+
+/// Returns the error of a call of a kind, each for more bits than three bytes of zeros have.
+fn too_long<E: Endianness>(reader: &mut SliceReader<E>, kind: u32) -> Option<Error> {
+    match kind {
+        0 => reader.skip(25).err(),
+        1 => reader.read_unsigned_var::<u32>(25).err(),
+        2 => reader.read_signed_var::<i32>(25).err(),
+        3 => reader.read_unsigned::<Bits<100>, u128>().err(),
+        4 => reader.read_signed::<Bits<32>, i32>().err(),
+        5 => reader.read_to::<u32>().err(),
+        6 => reader.read_as_to::<LE, u64>().err(),
+        7 => reader.read_bytes(&mut [0; 4]).err(),
+        _ => reader.read_unary::<Bits<1>>().err(),
+    }
+}
+
+/// Returns true if a call of a kind fails after some bits, and the reader stays there.
+fn stays_in_place<E: Endianness>(bits: u32, kind: u32) -> bool {
+    let mut reader = SliceReader::<E>::over(&[0; 3]);
+    let skipped = reader.skip(bits).is_ok();
+    let ended = matches!(too_long(&mut reader, kind), Some(Error::EndOfInput));
+    let failed = matches!(reader.read_bit(), Err(Error::Failed));
+    let place = reader.bits_read() == u64::from(bits);
+    let left = reader.bits_left() == u64::from(24u32.wrapping_sub(bits));
+    skipped & ended & failed & place & left & !reader.is_at_end()
+}
+
+/// Returns how many kinds of calls that are too long do not stay in place after some bits.
+fn moved_by_failing<E: Endianness>(bits: u32) -> u32 {
+    let mut differing = 0u32;
+    for kind in 0..TOO_LONG {
+        if !stays_in_place::<E>(bits, kind) {
+            differing = differing.saturating_add(1);
+        }
+    }
+    differing
+}
+
+/// Reads all words, runs and parts, and makes the calls that are too long. Prints how many differ, and gives it.
 pub fn play_memory_parts(rt: &impl Print) -> io::Result<u32> {
-    let (mut words, mut runs, mut parts) = (0u32, 0u32, 0u32);
+    let (mut words, mut runs, mut parts, mut moved) = (0u32, 0u32, 0u32, 0u32);
     for bits in 0..8 {
         words = words
             .saturating_add(differing_words::<BE>(Order::Big, bits))
@@ -234,9 +275,15 @@ pub fn play_memory_parts(rt: &impl Print) -> io::Result<u32> {
         parts = parts
             .saturating_add(differing_parts::<BE>(bits))
             .saturating_add(differing_parts::<LE>(bits));
+        moved = moved
+            .saturating_add(moved_by_failing::<BE>(bits))
+            .saturating_add(moved_by_failing::<LE>(bits));
     }
     println!(rt;
-        "r16_memory: {WIDTHS} widths, {RUNS} runs, 6 parts, 8 places, 2 orders: {words}, {runs} and {parts} differ"
+        "r16_memory: {WIDTHS} widths, {RUNS} runs, 6 parts, {TOO_LONG} failing calls, 8 places, 2 orders: {words}, {runs}, {parts} and {moved} differ"
     )?;
-    Ok(words.saturating_add(runs).saturating_add(parts))
+    Ok(words
+        .saturating_add(runs)
+        .saturating_add(parts)
+        .saturating_add(moved))
 }

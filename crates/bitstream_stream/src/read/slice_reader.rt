@@ -22,11 +22,15 @@ mod words;
 ///
 /// It holds no queue: its place is a bit of the bytes. So it tells how many bits were
 /// [read](SliceReader::bits_read) and are [left](SliceReader::bits_left), and the [rest](SliceReader::rest)
-/// of the bytes, and [goes](SliceReader::seek_bits) to any of their bits. It is refused only at the end of
-/// the bytes, as [`EndOfInput`](bitstream_count::error::Error). A refused call takes nothing, but for the
-/// bits up to a whole byte, which [take_bytes](SliceReader::take_bytes) and [part](SliceReader::part) drop
-/// first. The reader has failed then: each later call for a value answers `Failed`, until a seek makes
-/// it read again.
+/// of the bytes, and [goes](SliceReader::seek_bits) to any of their bits. It fails only at the end of
+/// the bytes, with [`EndOfInput`](bitstream_count::error::Error). A call that is one read takes no bit then.
+/// A call that is made of several reads keeps those that were done: the groups of a number of variable
+/// width, the items of an array, the bits of a prefix code, pieces of 4096 bytes of
+/// [read_to_vec](crate::read::BitRead::read_to_vec), and the bits up to a whole byte, which
+/// [take_bytes](SliceReader::take_bytes) and [part](SliceReader::part) drop first. The reader has failed
+/// then: each later call for a value returns `Failed`, until a seek makes it read again. The
+/// [bits read](SliceReader::bits_read), the [bits left](SliceReader::bits_left) and the rest still say where
+/// it stopped.
 ///
 /// # Examples
 ///

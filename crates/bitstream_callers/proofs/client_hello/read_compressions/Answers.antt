@@ -1,7 +1,8 @@
 use Rattle.bitstream_callers.specs.ClientHello.{compression_read}
-use Rattle.std.proofs.Common.{◌≡◌, ◌+◌, false, refl, arith}
+use Rattle.std.proofs.Common.{◌≡◌, false, refl, arith}
 use Rattle.bitstream_io.proofs.CallerLemmas.{if_grown, parts-begin, parts-push, parts-stop, parts-refused}
 use Rattle.bitstream_io.proofs.EachLemmas.{own_seen_err}
+use Rattle.bitstream_io.specs.Callers.{chain, unsigned_entry, parts_entry}
 use Rattle.bitstream_callers.proofs.client_hello.read_compressions.Goals as goal
 
 pub loop-init : goal.loop-init
@@ -14,12 +15,11 @@ returns-in_err-read g c =
     c.in_err-read.ensures))
 
 pub returns-in_err-push : goal.returns-in_err-push
+unfolding chain unsigned_entry parts_entry
 returns-in_err-push g c =
     rw (own_seen_err _ c.from_residual-in_err-push.result c.from_residual-in_err-push.ensures.1)
-    (parts-refused (compression_read g.R.BitRead.source.order) (c.loop.counter + 1) c.args.count (omega
-    (arith, c.loop-test.true))
-    (parts-push (compression_read g.R.BitRead.source.order) _ refl c.loop.invariant (if_grown false
-    c.in_ok-read.ensures)) refl)
+    (parts-refused (compression_read g.R.BitRead.source.order) _ c.args.count refl c.loop-test.true c.loop.invariant
+    (if_grown false c.in_ok-read.ensures) refl)
 
 pub loop-preserved : goal.loop-preserved
 loop-preserved g c = parts-push (compression_read g.R.BitRead.source.order) _ c.in_ok-push.ensures.items

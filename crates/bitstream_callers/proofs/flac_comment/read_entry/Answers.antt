@@ -2,9 +2,8 @@ use Rattle.std.proofs.Common.{◌≡◌, ◌<◌, true, false, refl, ap, subst}
 use Rattle.std.specs.Str.{IsUtf8, is_utf8}
 use Rattle.std.specs.String.{string_bytes}
 use Rattle.std.proofs.lemmas.Str.{IsUtf8-string_bytes, is_utf8-from_IsUtf8}
-use Rattle.bitstream_io.specs.Grows.{by_reads}
 use Rattle.bitstream_io.specs.Word.{Low}
-use Rattle.bitstream_io.proofs.CallerLemmas.{go_grown, stop_grown, grown, grown_is, bytes_number-read, bytes_number-stops}
+use Rattle.bitstream_io.proofs.CallerLemmas.{go_grown, stop_grown, grown, grown_is, vec-grown, bytes_number-read, bytes_number-stops}
 use Rattle.bitstream_io.proofs.GrowsLemmas.{is_seen_err}
 use Rattle.bitstream_callers.proofs.VorbisLemmas.{no_text}
 use Rattle.bitstream_callers.proofs.flac_comment.read_entry.Goals as goal
@@ -24,7 +23,7 @@ returns-in_err-bytes g c =
     let below : c.in_ok-size.size < 4294967296 = size.1.1.1.1.0.1 in
     record {
       reads = go_grown _ (grown (bytes_number-read o Low 4 c.in_ok-size.ensures.reads below))
-          (stop_grown _ (by_reads c.in_err-bytes.ensures.reads)
+          (stop_grown _ (vec-grown _ _ c.in_err-bytes.ensures.reads)
           (is_seen_err string_bytes _ c.from_residual-in_err-bytes.result c.from_residual-in_err-bytes.ensures.1));
     }
 
@@ -38,7 +37,7 @@ returns-in-Ok g c =
     let utf8 : is_utf8 bytes ≡ true = is_utf8-from_IsUtf8 bytes (subst IsUtf8 is (IsUtf8-string_bytes c.in-Ok.text)) in
     record {
       reads = go_grown _ (grown (bytes_number-read o Low 4 c.in_ok-size.ensures.reads below))
-          (go_grown _ (by_reads c.in_ok-bytes.ensures.reads) (grown_is (rw (utf8, is) refl)));
+          (go_grown _ (vec-grown _ _ c.in_ok-bytes.ensures.reads) (grown_is (rw (utf8, is) refl)));
     }
 
 pub returns : goal.returns
@@ -51,5 +50,5 @@ returns g c =
     in
     record {
       reads = go_grown _ (grown (bytes_number-read o Low 4 c.in_ok-size.ensures.reads below))
-          (go_grown _ (by_reads c.in_ok-bytes.ensures.reads) (grown_is (rw utf8 refl)));
+          (go_grown _ (vec-grown _ _ c.in_ok-bytes.ensures.reads) (grown_is (rw utf8 refl)));
     }

@@ -2,7 +2,7 @@ use Rattle.std.proofs.Common.{◌^◌, ◌<◌, ◌∙◌, ℕ, List, [], ◌∷
 use Rattle.std.proofs.Math.Nat.{mod-eq_of_lt}
 use Rattle.bitstream_io.specs.Callers.{Order, ReadEntry, WriteEntry, chain, number, unsigned, unsigned_entry, buffer, word}
 use Rattle.bitstream_io.proofs.BackLemmas.{word-back}
-use Rattle.bitstream_io.proofs.CallerLemmas.{GoesBack, bytes-back, gives-back, part-back, unsigned-back, unsigned-word}
+use Rattle.bitstream_io.proofs.CallerLemmas.{GoesBack, gives-back, part-back, unsigned-back, unsigned-word, vec-back}
 use Rattle.bitstream_io.proofs.WordLemmas.{length-word, number-word}
 use Rattle.bitstream_io.proofs.WriteLemmas.{unsigned-fits}
 use Rattle.bitstream_callers.specs.Picture.{counted_reads, counted_writes, size_reads, size_writes, IsCounted}
@@ -21,7 +21,7 @@ counted-back : (o : Order) (bytes : List ℕ) → IsCounted bytes
     → GoesBack (counted_reads o) (counted_writes o bytes) (Ok bytes)
 counted-back o bytes is =
     count-back o (length bytes) _ (buffer o bytes ∷ []) (Ok bytes) is.count
-    (bytes-back [] (Ok bytes) o (length bytes) bytes _ refl is.each (gives-back (Ok bytes)))
+    (vec-back [] (Ok bytes) o (length bytes) bytes _ refl is.each (gives-back (Ok bytes)))
 
 size-back : (o : Order) (size : PictureSize) → size.width < 2 ^ 32 → size.height < 2 ^ 32 → size.depth < 2 ^ 32
     → size.colors < 2 ^ 32 → GoesBack (size_reads o) (size_writes o size) (Ok size)

@@ -1,6 +1,7 @@
-use Rattle.std.proofs.Common.{◌≡◌, ◌+◌, refl, arith}
-use Rattle.bitstream_io.proofs.CallerLemmas.{items-begin, items-push, items-stop, items-refused, grown}
+use Rattle.std.proofs.Common.{◌≡◌, refl, arith}
+use Rattle.bitstream_io.proofs.CallerLemmas.{item-read, items-begin, items-push, items-stop, items-refused, grown}
 use Rattle.bitstream_io.proofs.ReadsLemmas.{seen_err}
+use Rattle.bitstream_io.specs.Callers.{chain, unsigned_entry, items_entry}
 use Rattle.bitstream_callers.proofs.rtp_header.read_csrc.Goals as goal
 
 pub loop-init : goal.loop-init
@@ -8,17 +9,18 @@ loop-init g c = items-begin _ c.new-found.ensures.items
 
 pub returns-in_err-read : goal.returns-in_err-read
 returns-in_err-read g c =
-    grown (items-stop _ _ _ _ c.from_residual.result c.loop-test.true c.loop.invariant c.in_err-read.ensures.reads
-    c.from_residual.ensures.1)
+    grown (items-stop _ _ _ _ c.from_residual.result c.loop-test.true c.loop.invariant (item-read
+    c.in_err-read.ensures.reads) c.from_residual.ensures.1)
 
 pub returns-in_err-push : goal.returns-in_err-push
+unfolding chain unsigned_entry items_entry
 returns-in_err-push g c =
     rw (seen_err _ c.from_residual-in_err-push.result c.from_residual-in_err-push.ensures.1)
-    (items-refused _ (c.loop.counter + 1) c.args.count (omega (arith, c.loop-test.true))
-    (items-push _ _ refl c.loop.invariant c.in_ok-read.ensures.reads))
+    (items-refused (unsigned_entry g.R.BitRead.source.order 32 32) _ c.args.count refl c.loop-test.true c.loop.invariant
+    c.in_ok-read.ensures.reads)
 
 pub loop-preserved : goal.loop-preserved
-loop-preserved g c = items-push _ _ c.in_ok-push.ensures.items c.loop.invariant c.in_ok-read.ensures.reads
+loop-preserved g c = items-push _ _ c.in_ok-push.ensures.items c.loop.invariant (item-read c.in_ok-read.ensures.reads)
 
 pub returns : goal.returns
 returns g c =

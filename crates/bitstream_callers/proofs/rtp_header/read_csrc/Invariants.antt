@@ -1,4 +1,4 @@
-use Rattle.bitstream_io.specs.Callers.{unsigned_entry}
+use Rattle.bitstream_io.specs.Callers.{list_item, unsigned_entry}
 use Rattle.bitstream_io.specs.Loop.{ItemsRead}
 use Rattle.bitstream_callers.proofs.rtp_header.read_csrc.Given as goal
 
@@ -6,4 +6,4 @@ use Rattle.bitstream_callers.proofs.rtp_header.read_csrc.Given as goal
 abbrev pub invariant-loop : goal.invariant-loop
 invariant-loop g l =
     let K = g.R.BitRead.source in
-    ItemsRead K (unsigned_entry K.order 32 32) l.counter l.initial.reader l.found.items l.reader
+    ItemsRead K (list_item (unsigned_entry K.order 32 32)) l.counter l.initial.reader l.found.items l.reader

@@ -4,7 +4,7 @@ use Rattle.std.specs.Prelude.{if◌then◌else◌}
 use Rattle.std.specs.Str.{is_utf8}
 use Rattle.std.proofs.lemmas.List.Elements.{All-weaker}
 use Rattle.bitstream_io.specs.ByteGrows.{byte_parts}
-use Rattle.bitstream_io.specs.ByteReads.{given_bytes}
+use Rattle.bitstream_io.specs.ByteReads.{vec_bytes}
 use Rattle.bitstream_io.specs.ByteSteps.{number_bytes}
 use Rattle.bitstream_io.specs.ByteTypes.{byte_chain, byte_gives}
 use Rattle.bitstream_io.specs.Word.{Low, bytes}
@@ -25,10 +25,10 @@ text_back : (text : List ℕ) → IsText text → BytesBack text_reads (text_byt
 unfolding checked
 text_back text is =
     let right : checked text ≡ Ok text = rw is.0 refl in
-    let behind : BytesBack (byte_chain (given_bytes (length text)) (λ t. byte_gives (checked t))) text (Ok text) =
-    subst (BytesBack (byte_chain (given_bytes (length text)) (λ t. byte_gives (checked t))) text) right
-    (made-back (given_bytes (length text)) checked text text (given-back (length text) text refl)) in
-    chain-back (number_bytes Low 4) (λ size. byte_chain (given_bytes size) (λ t. byte_gives (checked t)))
+    let behind : BytesBack (byte_chain (vec_bytes (length text)) (λ t. byte_gives (checked t))) text (Ok text) =
+    subst (BytesBack (byte_chain (vec_bytes (length text)) (λ t. byte_gives (checked t))) text) right
+    (made-back (vec_bytes (length text)) checked text text (given-back (length text) text refl)) in
+    chain-back (number_bytes Low 4) (λ size. byte_chain (vec_bytes size) (λ t. byte_gives (checked t)))
     (bytes Low 4 (length text)) text (length text) (Ok text) (length_back (length text) is.1) behind
 
 texts_back : (vendor : List ℕ) (comments : List (List ℕ)) → All IsText comments

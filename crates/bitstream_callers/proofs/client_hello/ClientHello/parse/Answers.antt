@@ -8,7 +8,7 @@ pub returns-clause-answer : goal.returns-clause-answer
 returns-clause-answer c = elim (own_grown_answered slice_ends c.over.ensures.state refl c.read.ensures) [
   | inl found ↦
       inl (found)
-  | inr lack ↦ inr (is_error _ _ lack)
+  | inr lack ↦ inr (is_error _ _ lack.0, lack.1)
 ]
 
 pub returns-clause-back : goal.returns-clause-back
@@ -18,5 +18,5 @@ returns-clause-back c = λ value more fits is.
           OwnAnswer becomes_client_hello (λ answer. answer) (sure_answer front) c.read.result) (ap ((client_hello_entry
           High).reads 0) is ∙ c.client_hello_goes_back.ensures.back High value 0 0 more fits) found)
       | inr lack ↦ inr
-          (is_error _ _ lack)
+          (is_error _ _ lack.0)
     ]

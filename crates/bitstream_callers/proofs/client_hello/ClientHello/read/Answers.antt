@@ -1,7 +1,6 @@
 use Rattle.std.proofs.Common.{refl}
 use Rattle.bitstream_io.proofs.CallerLemmas.{next_grown_const, exit_grown_const}
-use Rattle.bitstream_io.proofs.GrowsLemmas.{go_grown, stop_grown, grown, part_go, part_stop, grown_end}
-use Rattle.bitstream_io.specs.Grows.{by_reads}
+use Rattle.bitstream_io.proofs.GrowsLemmas.{go_grown, stop_grown, grown, vec-grown, part_go, part_stop, grown_end}
 use Rattle.bitstream_io.proofs.OwnLemmas.{is_error}
 use Rattle.bitstream_callers.proofs.client_hello.ClientHello.read.Goals as goal
 
@@ -31,44 +30,44 @@ returns-in_err-session_count g c = next_grown_const _ _ c.in_ok-read_const.ensur
 pub returns-in_err-session : goal.returns-in_err-session
 returns-in_err-session g c = next_grown_const _ _ c.in_ok-read_const.ensures.reads (go_grown _ (grown
     c.in_ok-size.ensures.reads) (go_grown _ (grown c.in_ok-version.ensures.reads) (go_grown _ (grown
-    c.in_ok-random.ensures.reads) (go_grown _ (grown c.in_ok-session_count.ensures.reads) (stop_grown _ (by_reads
+    c.in_ok-random.ensures.reads) (go_grown _ (grown c.in_ok-session_count.ensures.reads) (stop_grown _ (vec-grown _ _
     c.in_err-session.ensures.reads) c.from_residual-in_err-session.ensures.1)))))
 
 pub returns-in_err-suites_count : goal.returns-in_err-suites_count
 returns-in_err-suites_count g c = next_grown_const _ _ c.in_ok-read_const.ensures.reads (go_grown _ (grown
     c.in_ok-size.ensures.reads) (go_grown _ (grown c.in_ok-version.ensures.reads) (go_grown _ (grown
-    c.in_ok-random.ensures.reads) (go_grown _ (grown c.in_ok-session_count.ensures.reads) (go_grown _ (by_reads
+    c.in_ok-random.ensures.reads) (go_grown _ (grown c.in_ok-session_count.ensures.reads) (go_grown _ (vec-grown _ _
     c.in_ok-session.ensures.reads) (stop_grown _ (grown c.in_err-suites_count.ensures.reads)
     c.from_residual-in_err-suites_count.ensures.1))))))
 
 pub returns-in_err-suites : goal.returns-in_err-suites
 returns-in_err-suites g c = next_grown_const _ _ c.in_ok-read_const.ensures.reads (go_grown _ (grown
     c.in_ok-size.ensures.reads) (go_grown _ (grown c.in_ok-version.ensures.reads) (go_grown _ (grown
-    c.in_ok-random.ensures.reads) (go_grown _ (grown c.in_ok-session_count.ensures.reads) (go_grown _ (by_reads
-    c.in_ok-session.ensures.reads) (go_grown _ (grown c.in_ok-suites_count.ensures.reads) (stop_grown _ (by_reads
+    c.in_ok-random.ensures.reads) (go_grown _ (grown c.in_ok-session_count.ensures.reads) (go_grown _ (vec-grown _ _
+    c.in_ok-session.ensures.reads) (go_grown _ (grown c.in_ok-suites_count.ensures.reads) (stop_grown _ (vec-grown _ _
     c.in_err-suites.ensures.reads) c.from_residual-in_err-suites.ensures.1)))))))
 
 pub returns-in_err-compressions_count : goal.returns-in_err-compressions_count
 returns-in_err-compressions_count g c = next_grown_const _ _ c.in_ok-read_const.ensures.reads (go_grown _ (grown
     c.in_ok-size.ensures.reads) (go_grown _ (grown c.in_ok-version.ensures.reads) (go_grown _ (grown
-    c.in_ok-random.ensures.reads) (go_grown _ (grown c.in_ok-session_count.ensures.reads) (go_grown _ (by_reads
-    c.in_ok-session.ensures.reads) (go_grown _ (grown c.in_ok-suites_count.ensures.reads) (go_grown _ (by_reads
+    c.in_ok-random.ensures.reads) (go_grown _ (grown c.in_ok-session_count.ensures.reads) (go_grown _ (vec-grown _ _
+    c.in_ok-session.ensures.reads) (go_grown _ (grown c.in_ok-suites_count.ensures.reads) (go_grown _ (vec-grown _ _
     c.in_ok-suites.ensures.reads) (stop_grown _ (grown c.in_err-compressions_count.ensures.reads)
     c.from_residual-in_err-compressions_count.ensures.1))))))))
 
 pub returns-in_err-compressions : goal.returns-in_err-compressions
 returns-in_err-compressions g c = next_grown_const _ _ c.in_ok-read_const.ensures.reads (go_grown _ (grown
     c.in_ok-size.ensures.reads) (go_grown _ (grown c.in_ok-version.ensures.reads) (go_grown _ (grown
-    c.in_ok-random.ensures.reads) (go_grown _ (grown c.in_ok-session_count.ensures.reads) (go_grown _ (by_reads
-    c.in_ok-session.ensures.reads) (go_grown _ (grown c.in_ok-suites_count.ensures.reads) (go_grown _ (by_reads
+    c.in_ok-random.ensures.reads) (go_grown _ (grown c.in_ok-session_count.ensures.reads) (go_grown _ (vec-grown _ _
+    c.in_ok-session.ensures.reads) (go_grown _ (grown c.in_ok-suites_count.ensures.reads) (go_grown _ (vec-grown _ _
     c.in_ok-suites.ensures.reads) (go_grown _ (grown c.in_ok-compressions_count.ensures.reads) (part_stop _
     c.in_err-compressions.ensures (is_error _ _ c.from_residual-in_err-compressions.ensures.1))))))))))
 
 pub returns-in_err-extensions_count : goal.returns-in_err-extensions_count
 returns-in_err-extensions_count g c = next_grown_const _ _ c.in_ok-read_const.ensures.reads (go_grown _ (grown
     c.in_ok-size.ensures.reads) (go_grown _ (grown c.in_ok-version.ensures.reads) (go_grown _ (grown
-    c.in_ok-random.ensures.reads) (go_grown _ (grown c.in_ok-session_count.ensures.reads) (go_grown _ (by_reads
-    c.in_ok-session.ensures.reads) (go_grown _ (grown c.in_ok-suites_count.ensures.reads) (go_grown _ (by_reads
+    c.in_ok-random.ensures.reads) (go_grown _ (grown c.in_ok-session_count.ensures.reads) (go_grown _ (vec-grown _ _
+    c.in_ok-session.ensures.reads) (go_grown _ (grown c.in_ok-suites_count.ensures.reads) (go_grown _ (vec-grown _ _
     c.in_ok-suites.ensures.reads) (go_grown _ (grown c.in_ok-compressions_count.ensures.reads) (part_go _
     c.in_ok-compressions.ensures (stop_grown _ (grown c.in_err-extensions_count.ensures.reads)
     c.from_residual-in_err-extensions_count.ensures.1))))))))))
@@ -76,17 +75,17 @@ returns-in_err-extensions_count g c = next_grown_const _ _ c.in_ok-read_const.en
 pub returns-in_err-extensions : goal.returns-in_err-extensions
 returns-in_err-extensions g c = next_grown_const _ _ c.in_ok-read_const.ensures.reads (go_grown _ (grown
     c.in_ok-size.ensures.reads) (go_grown _ (grown c.in_ok-version.ensures.reads) (go_grown _ (grown
-    c.in_ok-random.ensures.reads) (go_grown _ (grown c.in_ok-session_count.ensures.reads) (go_grown _ (by_reads
-    c.in_ok-session.ensures.reads) (go_grown _ (grown c.in_ok-suites_count.ensures.reads) (go_grown _ (by_reads
+    c.in_ok-random.ensures.reads) (go_grown _ (grown c.in_ok-session_count.ensures.reads) (go_grown _ (vec-grown _ _
+    c.in_ok-session.ensures.reads) (go_grown _ (grown c.in_ok-suites_count.ensures.reads) (go_grown _ (vec-grown _ _
     c.in_ok-suites.ensures.reads) (go_grown _ (grown c.in_ok-compressions_count.ensures.reads) (part_go _
-    c.in_ok-compressions.ensures (go_grown _ (grown c.in_ok-extensions_count.ensures.reads) (stop_grown _ (by_reads
+    c.in_ok-compressions.ensures (go_grown _ (grown c.in_ok-extensions_count.ensures.reads) (stop_grown _ (vec-grown _ _
     c.in_err-extensions.ensures.reads) c.from_residual-in_err-extensions.ensures.1)))))))))))
 
 pub returns : goal.returns
 returns g c = next_grown_const _ _ c.in_ok-read_const.ensures.reads (go_grown _ (grown c.in_ok-size.ensures.reads)
     (go_grown _ (grown c.in_ok-version.ensures.reads) (go_grown _ (grown c.in_ok-random.ensures.reads) (go_grown _
-    (grown c.in_ok-session_count.ensures.reads) (go_grown _ (by_reads c.in_ok-session.ensures.reads) (go_grown _ (grown
-    c.in_ok-suites_count.ensures.reads) (go_grown _ (by_reads c.in_ok-suites.ensures.reads) (go_grown _ (grown
-    c.in_ok-compressions_count.ensures.reads) (part_go _ c.in_ok-compressions.ensures (go_grown _ (grown
-    c.in_ok-extensions_count.ensures.reads) (go_grown _ (by_reads c.in_ok-extensions.ensures.reads) (grown_end _
+    (grown c.in_ok-session_count.ensures.reads) (go_grown _ (vec-grown _ _ c.in_ok-session.ensures.reads) (go_grown _
+    (grown c.in_ok-suites_count.ensures.reads) (go_grown _ (vec-grown _ _ c.in_ok-suites.ensures.reads) (go_grown _
+    (grown c.in_ok-compressions_count.ensures.reads) (part_go _ c.in_ok-compressions.ensures (go_grown _ (grown
+    c.in_ok-extensions_count.ensures.reads) (go_grown _ (vec-grown _ _ c.in_ok-extensions.ensures.reads) (grown_end _
     _))))))))))))

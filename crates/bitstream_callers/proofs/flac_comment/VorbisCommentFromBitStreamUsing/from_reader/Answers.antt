@@ -2,7 +2,7 @@ use Rattle.std.proofs.Common.{◌≡◌, ◌+◌, ◌<◌, ap, ◌∙◌, arith,
 use Rattle.std.specs.Prelude.{map}
 use Rattle.std.specs.String.{string_bytes}
 use Rattle.std.proofs.lemmas.List.{map-append}
-use Rattle.bitstream_io.specs.Word.{Low}
+use Rattle.bitstream_io.specs.Callers.{Low, chain, bytes_entry}
 use Rattle.bitstream_io.proofs.CallerLemmas.{is_error, go_grown, stop_grown, grown, part_go, part_stop, parts-begin, parts-push, parts-stop, parts-refused, grown_end, bytes_number-read, bytes_number-stops}
 use Rattle.bitstream_callers.specs.FlacComment.{text_reads}
 use Rattle.bitstream_callers.proofs.flac_comment.VorbisCommentFromBitStreamUsing.from_reader.Goals as goal
@@ -37,6 +37,7 @@ returns-in_err-read_entry g c =
     }
 
 pub returns-in_err-push : goal.returns-in_err-push
+unfolding chain bytes_entry
 returns-in_err-push g c =
     let o = g.R.BitRead.source.order in
     let count = rw c.in_ok-count.is at c.branch-count.type_inv in
@@ -44,9 +45,8 @@ returns-in_err-push g c =
     record {
       reads = part_go _ c.in_ok-vendor.ensures.reads
           (go_grown _ (grown (bytes_number-read o Low 4 c.in_ok-count.ensures.reads below))
-          (part_stop _ (parts-refused (text_reads o) (c.loop.counter + 1) c.in_ok-count.count
-          (omega (arith, c.loop-test.true))
-          (parts-push (text_reads o) c.loop.counter refl c.loop.invariant c.in_ok-read_entry.ensures.reads) refl)
+          (part_stop _ (parts-refused (text_reads o) c.loop.counter c.in_ok-count.count refl c.loop-test.true
+          c.loop.invariant c.in_ok-read_entry.ensures.reads refl)
           (is_error _ _ c.from_residual-in_err-push.ensures.1)));
     }
 

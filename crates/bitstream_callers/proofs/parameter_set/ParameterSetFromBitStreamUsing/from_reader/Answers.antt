@@ -1,5 +1,6 @@
 use Rattle.bitstream_io.proofs.CallerLemmas.{◌≡◌, ◌+◌, arith, refl, is_error, few_growing_reads, then_grown_read, if_grown, part_go, part_stop, parts-begin, parts-push, parts-stop, parts-refused, grown_end}
 use Rattle.std.proofs.Common.{false}
+use Rattle.bitstream_io.specs.Callers.{chain, unsigned_entry}
 use Rattle.bitstream_callers.specs.ParameterSet.{point_reads}
 use Rattle.bitstream_callers.proofs.parameter_set.ParameterSetFromBitStreamUsing.from_reader.Goals as goal
 
@@ -23,15 +24,14 @@ returns-in_err-parse g c =
     }
 
 pub returns-in_err-push : goal.returns-in_err-push
+unfolding chain unsigned_entry
 returns-in_err-push g c =
     let o = g.R.BitRead.source.order in
     record {
       reads = then_grown_read _ c.read.ensures.reads c.branch-profile.ensures c.in_ok-profile.is
           (then_grown_read _ c.read-2.ensures.reads c.branch-count.ensures c.in_ok-count.is
-          (part_stop _ (parts-refused (point_reads o) (c.loop.counter + 1) c.in_ok-count.count
-          (omega (arith, c.loop-test.true))
-          (parts-push (point_reads o) c.loop.counter refl c.loop.invariant
-          (if_grown false c.in_ok-parse.ensures.reads)) refl)
+          (part_stop _ (parts-refused (point_reads o) c.loop.counter c.in_ok-count.count refl c.loop-test.true
+          c.loop.invariant (if_grown false c.in_ok-parse.ensures.reads) refl)
           (is_error _ _ c.from_residual-in_err-push.ensures.1)));
     }
 

@@ -16,7 +16,7 @@ returns-in_err-bytes g c =
     let below : c.in_ok-size.size < 4294967296 = size.1.1.1.1.0.1 in
     record {
       reads = then_grown_number Low 4 _ c.read_as.ensures.reads c.branch-size.ensures c.in_ok-size.is below
-          (end_growing_bytes _ _ c.read_to_vec.ensures.reads c.branch-bytes.ensures c.in_err-bytes.is
+          (end_growing_bytes _ _ _ c.read_to_vec.ensures.reads c.branch-bytes.ensures c.in_err-bytes.is
           c.from_residual-in_err-bytes.ensures.1);
     }
 
@@ -29,7 +29,7 @@ returns-in-Ok g c =
     let utf8 : is_utf8 bytes ≡ true = is_utf8-from_IsUtf8 bytes (subst IsUtf8 is (IsUtf8-string_bytes c.in-Ok.text)) in
     record {
       reads = then_grown_number Low 4 _ c.read_as.ensures.reads c.branch-size.ensures c.in_ok-size.is below
-          (then_growing_bytes _ _ c.read_to_vec.ensures.reads c.branch-bytes.ensures c.in_ok-bytes.is
+          (then_growing_bytes _ _ _ c.read_to_vec.ensures.reads c.branch-bytes.ensures c.in_ok-bytes.is
           (grown_bytes_is (rw (utf8, is) refl)));
     }
 
@@ -42,6 +42,6 @@ returns g c =
     in
     record {
       reads = then_grown_number Low 4 _ c.read_as.ensures.reads c.branch-size.ensures c.in_ok-size.is below
-          (then_growing_bytes _ _ c.read_to_vec.ensures.reads c.branch-bytes.ensures c.in_ok-bytes.is
+          (then_growing_bytes _ _ _ c.read_to_vec.ensures.reads c.branch-bytes.ensures c.in_ok-bytes.is
           (grown_bytes_is (rw utf8 refl)));
     }

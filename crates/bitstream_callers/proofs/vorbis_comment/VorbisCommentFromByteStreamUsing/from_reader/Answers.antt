@@ -32,9 +32,8 @@ returns-in_err-push g c =
     record {
       reads = then_growing_byte_part _ c.parse_using.ensures.reads c.branch-vendor.ensures c.in_ok-vendor.is
           (then_grown_number Low 4 _ c.read_as.ensures.reads c.branch-count.ensures c.in_ok-count.is below
-          (byte_part_stop _ (byte_parts-refused text_reads (c.loop.counter + 1) c.in_ok-count.count
-          (omega (arith, c.loop-test.true))
-          (byte_parts-push text_reads c.loop.counter refl c.loop.invariant c.in_ok-parse_using.ensures.reads) refl)
+          (byte_part_stop _ (byte_parts-refused text_reads c.loop.counter c.in_ok-count.count c.loop-test.true
+          c.loop.invariant c.in_ok-parse_using.ensures.reads refl)
           (is_error _ _ c.from_residual-in_err-push.ensures.1)));
     }
 
