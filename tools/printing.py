@@ -81,7 +81,7 @@ def print_into(crate, made):
     for function in made.functions():
         place = made.answers_path(function.replace("::", "/"))
         try:
-            files[place] = answers_of(crate, f"src/{made.m}.rt", function)
+            files[place] = f"-- {made.made}\n{answers_of(crate, f'src/{made.m}.rt', function)}"
         except Unknown as it:
             raise Refused(f"answers of {function}: {it}") from None
         put(crate, place, files[place])

@@ -1,5 +1,5 @@
--- What was written of an `AdtsHeader` is read back, and how many bits it takes.
 -- Made by `./format` from formats/adts.fields: edit that file and make this one anew.
+-- What was written of an `AdtsHeader` is read back, and how many bits it takes.
 use Rattle.bitstream_callers.specs.Adts.{adts_entry, adts_writes, adts_size, adts_bits, Fits}
 use Rattle.bitstream_callers.specs.declared.adts.AdtsHeader.{AdtsHeader}
 use Rattle.std.proofs.Common.{◌≡◌, ◌++◌, ◌∷◌, [], Ok, refl}

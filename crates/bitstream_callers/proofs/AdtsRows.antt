@@ -1,5 +1,5 @@
--- Worked rows of an `AdtsHeader`.
 -- Made by `./format` from formats/adts.fields: edit that file and make this one anew.
+-- Worked rows of an `AdtsHeader`.
 use Rattle.bitstream_callers.specs.Adts.{adts_entry, adts_writes}
 use Rattle.bitstream_io.specs.Entry.{chain}
 use Rattle.bitstream_io.specs.Word.{digits, digits_number}

@@ -1,5 +1,5 @@
--- What was written of a `StreamInfoBlock` is read back, and how many bits it takes.
 -- Made by `./format` from formats/stream_info_block.fields: edit that file and make this one anew.
+-- What was written of a `StreamInfoBlock` is read back, and how many bits it takes.
 use Rattle.bitstream_callers.specs.StreamInfoBlock.{stream_info_block_entry, stream_info_block_writes, stream_info_block_size, stream_info_block_bits, Fits}
 use Rattle.bitstream_callers.specs.StreamInfo.{stream_info_entry, stream_info_writes}
 use Rattle.bitstream_callers.proofs.StreamInfoLemmas.{stream_info_goes, stream_info_packs}

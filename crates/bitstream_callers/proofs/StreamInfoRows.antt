@@ -1,5 +1,5 @@
--- Worked rows of a `StreamInfo`.
 -- Made by `./format` from formats/stream_info.fields: edit that file and make this one anew.
+-- Worked rows of a `StreamInfo`.
 use Rattle.bitstream_callers.specs.StreamInfo.{stream_info_entry, stream_info_writes}
 use Rattle.bitstream_io.specs.Entry.{chain}
 use Rattle.bitstream_io.specs.Word.{digits, digits_number}

@@ -1,3 +1,4 @@
+-- Made by `./format` from formats/adts.fields: edit that file and make this one anew.
 use Rattle.bitstream_callers.proofs.AdtsLemmas.{adts_goes, adts_packs}
 use Rattle.bitstream_callers.proofs.adts.adts_goes_back.Goals as goal
 

@@ -1,3 +1,4 @@
+-- Made by `./format` from formats/stream_info_block.fields: edit that file and make this one anew.
 use Rattle.bitstream_callers.proofs.StreamInfoBlockLemmas.{stream_info_block_goes, stream_info_block_packs}
 use Rattle.bitstream_callers.proofs.stream_info_block.stream_info_block_goes_back.Goals as goal
 

@@ -1,3 +1,4 @@
+-- Made by `./format` from formats/adts.fields: edit that file and make this one anew.
 use Rattle.bitstream_callers.specs.Adts.{adts_writes}
 use Rattle.bitstream_callers.proofs.AdtsLemmas.{adts_packs, told}
 use Rattle.std.proofs.Common.{◌∙◌, refl, arith, rules}

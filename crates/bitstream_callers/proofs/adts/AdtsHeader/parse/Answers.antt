@@ -1,3 +1,4 @@
+-- Made by `./format` from formats/adts.fields: edit that file and make this one anew.
 use Rattle.bitstream_callers.specs.Adts.{adts_entry, adts_at, const_at_0, const_at_13}
 use Rattle.bitstream_callers.proofs.AdtsLemmas.{adts_packs, told}
 use Rattle.bitstream_callers.specs.declared.adts.AdtsError.TheVariants.{NoSync, UnknownLayer}

@@ -1,3 +1,4 @@
+-- Made by `./format` from formats/adts.fields: edit that file and make this one anew.
 use Rattle.bitstream_callers.proofs.adts.AdtsHeaderFromBitStream.from_reader.Goals as goal
 
 pub returns : goal.returns

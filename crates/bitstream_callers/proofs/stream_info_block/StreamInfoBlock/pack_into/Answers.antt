@@ -1,3 +1,4 @@
+-- Made by `./format` from formats/stream_info_block.fields: edit that file and make this one anew.
 use Rattle.bitstream_callers.specs.StreamInfoBlock.{stream_info_block_writes}
 use Rattle.bitstream_callers.proofs.StreamInfoBlockLemmas.{stream_info_block_packs, told}
 use Rattle.std.proofs.Common.{◌∙◌, refl, arith, rules}

@@ -1,3 +1,4 @@
+-- Made by `./format` from formats/stream_info_block.fields: edit that file and make this one anew.
 use Rattle.bitstream_io.proofs.ReadsLemmas.{Reads-chain-ok as next, Reads-gives, exit}
 use Rattle.bitstream_callers.proofs.stream_info_block.StreamInfoBlock.read.Goals as goal
 

@@ -1,3 +1,4 @@
+-- Made by `./format` from formats/stream_info_block.fields: edit that file and make this one anew.
 use Rattle.bitstream_io.proofs.OwnLemmas.{is_error}
 use Rattle.bitstream_io.proofs.WriteParts.{all_append, all_none, all_stop}
 use Rattle.bitstream_io.proofs.WriteSteps.{next_call, stop_call}
