@@ -4,8 +4,8 @@ use crate::asserts::{holds, same};
 use bitstream_callers::block_header::BlockHeader;
 use bitstream_callers::parameter_set::{OperatingPoint, ParameterSet};
 use bitstream_callers::picture::{Picture, PictureSize};
-use bitstream_callers::stream_info_block::StreamInfoBlock;
 use bitstream_callers::vorbis_comment::{CommentError, Text, VorbisComment};
+use bitstream_formats::stream_info::StreamInfo;
 use bitstream_io::{
     BE, BitRead, BitReadExt, BitReader, BitWriteExt, BitWriter, ByteRead, ByteReadExt, ByteReader,
     Error, ToBitStream,
@@ -46,7 +46,7 @@ fn is_of_the_file(answer: Result<VorbisComment, CommentError>) -> bool {
 fn goes_to_the_comment<R: BitRead>(reader: &mut R) -> bool {
     reader.skip(32).is_ok()
         & reader.parse::<BlockHeader>().is_ok()
-        & reader.parse::<StreamInfoBlock>().is_ok()
+        & reader.parse::<StreamInfo>().is_ok()
         & reader.parse::<BlockHeader>().is_ok()
 }
 
