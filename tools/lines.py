@@ -69,7 +69,6 @@ class Line:
     seen = ""  # behind its value: what contracts see of it
     kind = "ℕ"  # the type of its value in specs
     imports = ()  # paths that the code uses
-    copies = ""  # the module of `bitstream_callers` that the crate needs a copy of
     unfolds = ()  # what a worked row computes through
     reader_errors = ()  # the reader's errors that its bits answer, but for `EndOfInput`, and when
     long = 3  # how many words such a line has at most

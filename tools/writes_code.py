@@ -61,7 +61,7 @@ class Code:
         paths = {path for it in self.lines for path in it.imports}
         paths = sorted(paths | {"std::alloc::Global", "std::marker::Model"} if self.grows else paths)
         library = f"use bitstream_io::{{{', '.join(it for it in LIBRARY.split() if it in words)}}};"
-        mine = [f"use {it};" for it in paths if it.startswith("crate")]
+        mine = [f"use {it};" for it in paths if it.startswith(("crate", "bitstream_io"))]
         return [*ghosts, "", *mine, library, *(f"use {it};" for it in paths if it.startswith("std"))]
 
     def struct_code(self):

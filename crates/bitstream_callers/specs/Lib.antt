@@ -4,7 +4,6 @@ pub mod ClientHello
 pub mod ClientHelloFields
 pub mod FlacComment
 pub mod FlacStart
-pub mod Golomb
 pub mod Header
 pub mod PacketHeader
 pub mod PaddedPort

@@ -5,7 +5,6 @@
 //! - [`appending`]: a header that is written behind what a sink holds, and how long it is
 //! - [`block_header`]: the header of a block of a FLAC file
 //! - [`flac_comment`]: a FLAC file's comment, read from bits, with its texts as strings
-//! - [`golomb`]: exponential Golomb numbers, as H.264 and H.265 have them
 //! - [`header`]: what stands before a packet's bytes
 //! - [`packet_header`]: a type that says how it is read and written: the header of a packet of whole
 //!   bytes
@@ -31,7 +30,6 @@ pub mod block_header;
 pub mod client_hello;
 pub mod flac_comment;
 pub mod flac_start;
-pub mod golomb;
 pub mod header;
 pub mod packet_header;
 pub mod padded_port;

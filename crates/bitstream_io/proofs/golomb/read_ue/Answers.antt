@@ -1,5 +1,5 @@
 use Rattle.bitstream_io.proofs.CallerLemmas.{Reads-chain-ok, arith, branches, exit, few_reads, if_at_most, one_shl, reads, rules, sum_below}
-use Rattle.bitstream_callers.proofs.golomb.read_ue.Goals as goal
+use Rattle.bitstream_io.proofs.golomb.read_ue.Goals as goal
 
 pub returns-in_err-zeros-clause-reads : goal.returns-in_err-zeros-clause-reads
 returns-in_err-zeros-clause-reads g c = search few_reads depth 12

@@ -1,6 +1,6 @@
 use Rattle.bitstream_io.proofs.ReadSteps.{reads}
-use Rattle.bitstream_callers.proofs.GolombLemmas.{at_even, at_odd}
-use Rattle.bitstream_callers.proofs.golomb.read_se.Goals as goal
+use Rattle.bitstream_io.proofs.GolombLemmas.{at_even, at_odd}
+use Rattle.bitstream_io.proofs.golomb.read_se.Goals as goal
 
 pub returns-in_err-place : goal.returns-in_err-place
 returns-in_err-place g c = search (reads, c.in_err-place.ensures.reads, c.from_residual.ensures.1) depth 12

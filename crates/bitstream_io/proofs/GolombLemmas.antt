@@ -7,7 +7,7 @@ use Rattle.std.proofs.lemmas.List.{length-replicate}
 use Rattle.bitstream_io.specs.Callers.{WriteEntry}
 use Rattle.bitstream_io.specs.Unary.{unary}
 use Rattle.bitstream_io.proofs.CallerLemmas.{◌≡◌, ◌∙◌, ℕ, ◌+◌, ◌-◌, ◌^◌, ◌<◌, List, [], ◌∷◌, Order, GoesBack, Packs, ap, arith, at_most-back, computed-back, packs-is, packs-more, packs-none, last-back, refl, top, unary-back, unary-written, unsigned-written, var-back}
-use Rattle.bitstream_callers.specs.Golomb.{place_of, se_entry, se_size, se_writes, signed_at, ue_entry, ue_size, ue_word, ue_writes, zeros_of}
+use Rattle.bitstream_io.specs.Golomb.{place_of, se_entry, se_size, se_writes, signed_at, ue_entry, ue_size, ue_word, ue_writes, zeros_of}
 
 -- the writes of a number that has a word
 pub has_word : (o : Order) (v : ℕ) → v < 2 ^ 32 - 1 → ue_writes o v ≡ ue_word o v

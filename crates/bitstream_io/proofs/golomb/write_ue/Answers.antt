@@ -1,7 +1,7 @@
 use Rattle.bitstream_io.proofs.CallerLemmas.{◌+◌, arith, few_writes, one_shl, top}
-use Rattle.bitstream_callers.specs.Golomb.{zeros_of}
-use Rattle.bitstream_callers.proofs.GolombLemmas.{has_word}
-use Rattle.bitstream_callers.proofs.golomb.write_ue.Goals as goal
+use Rattle.bitstream_io.specs.Golomb.{zeros_of}
+use Rattle.bitstream_io.proofs.GolombLemmas.{has_word}
+use Rattle.bitstream_io.proofs.golomb.write_ue.Goals as goal
 
 pub returns-in_err-write_unary : goal.returns-in_err-write_unary
 returns-in_err-write_unary g c = rw (has_word _ c.args.value (omega arith)) (search few_writes depth 12)
