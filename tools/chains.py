@@ -6,6 +6,9 @@ from collections import Counter, namedtuple
 
 from source import COLUMNS, Unknown, behind, filled, read_source, split, unknown, words
 
+# The modules of the library, whose functions may be calls of a body too.
+LIBRARY = os.path.join(os.path.dirname(os.path.dirname(os.path.abspath(__file__))), "crates", "bitstream_io", "src")
+
 TRAIT = re.compile(r"(From|To)BitStream(With|Using)?$")
 SIGNED = re.compile(r"i(8|16|32|64|128|size)$")
 
@@ -677,10 +680,13 @@ def has_model(path, name):
 def functions_near(folder, path):
     """Gives the functions of the modules that a file imports from, and those of the whole crate."""
     with open(path, encoding="utf-8") as file:
-        modules = set(re.findall(r"^use crate::(\w+)", file.read(), re.MULTILINE))
+        text = file.read()
+    modules = set(re.findall(r"^use crate::(\w+)", text, re.MULTILINE))
     found = {it: read_source(it)[0] for it in sorted(glob.glob(f"{folder}/src/**/*.rt", recursive=True))}
     names = {it: os.path.relpath(it, f"{folder}/src").removesuffix(".rt").split(os.sep)[0] for it in found}
     imported = [one for it, functions in found.items() if names[it] in modules for one in functions]
+    library = [f"{LIBRARY}/{it}.rt" for it in re.findall(r"^use bitstream_io::(\w+)::", text, re.MULTILINE)]
+    imported += [one for it in dict.fromkeys(library) if os.path.exists(it) for one in read_source(it)[0]]
     return imported, [one for functions in found.values() for one in functions]
 
 

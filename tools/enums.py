@@ -72,7 +72,7 @@ class Enum(Line):
         return self.enum * (case in self.shared) + case
 
     def why(self):
-        return f"The number of {self.name} is that of no `{self.enum}`."
+        return f"`{self.name}` is not the number of a case of `{self.enum}`."
 
     def given(self, said):
         return self.case_of(said)
@@ -295,6 +295,9 @@ class EachOfEnum(WrittenInLoop, Enum):
         known = f"(all-made {self.wide} {self.s}_of {self.s}_small {self.s}_again {self.value})"
         known = f"fits.{self.name}" if self.other else known
         return f"o {self.width} {self.wide} {self.s}_number {self.s}_of {self.ok} {self.value} refl {known}"
+
+    def why(self):
+        return f"An item of `{self.name}` is not the number of a case of `{self.enum}`."
 
     def write_item(self):
         return f"writer.write::<Bits<{self.wide}>, u{self.width}>(item.number())"

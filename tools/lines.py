@@ -1,4 +1,6 @@
 """The kinds of lines of a description that have a constant number of bits: a class each."""
+import re
+
 from examples import Answer, hexed, numbers, spelled, whole
 from source import Refused, number
 
@@ -37,6 +39,17 @@ def list_term(items, term=str):
     return "".join(f"{term(it)} ∷ " for it in items) + "[]"
 
 
+def shown(sentence):
+    """Gives a comment as the text of an error: it begins in lower case and has no full stop at its end.
+
+    A first word with another capital or a digit (`MPEG`, `H.264`) stays. Quotes, backslashes and braces are escaped.
+    """
+    text = sentence.strip().removesuffix(".")
+    if not re.search(r"[A-Z0-9]", text[1:].split(" ")[0]):
+        text = text[:1].lower() + text[1:]
+    return re.sub(r'["\\]', r"\\\g<0>", text).replace("{", "{{").replace("}", "}}")
+
+
 class Line:
     """What stands at one place of a format: how it is read and written, and what is said and proved of that.
 
@@ -56,7 +69,6 @@ class Line:
     seen = ""  # behind its value: what contracts see of it
     kind = "ℕ"  # the type of its value in specs
     imports = ()  # paths that the code uses
-    copies = ""  # the module of `bitstream_callers` that the crate needs a copy of
     unfolds = ()  # what a worked row computes through
     reader_errors = ()  # the reader's errors that its bits answer, but for `EndOfInput`, and when
     long = 3  # how many words such a line has at most
@@ -129,6 +141,14 @@ class Line:
     def lets(self):
         """Gives what the proof of the law says first."""
         return []
+
+    def why(self):
+        """Gives the comment of the error's case."""
+        return self.doc
+
+    def error_text(self):
+        """Gives the text that the error's case shows, as `thiserror` has it."""
+        return shown(self.why())
 
     def label(self):
         """Gives what stands for it in the picture."""
@@ -531,9 +551,6 @@ class Const(Line):
 
     def label(self):
         return f"={self.number}"
-
-    def why(self):
-        return self.doc
 
     def let(self, error):
         return f"reader.read_const::<Bits<{self.bits}>, Bits<{self.number}>, {error}>({error}::{self.error})?;"

@@ -72,19 +72,12 @@ class Module(Code, Specs, Proofs):
         seen = [it for it in self.lines[: self.lines.index(line)] if it.name]
         return (f"{self.m}_entry_{k}" if k else f"{self.m}_entry"), seen
 
-    def copies(self):
-        """Gives the modules that the crate needs a copy of."""
-        return list(dict.fromkeys(it.copies for it in self.lines if it.copies))
-
     def listed(self):
         """Gives the lines that name the files, by the file that has them."""
-        modules = [self.m, *self.copies()]
-        specs = [spec_of(it) for it in modules]
-        fields = [f"pub mod {self.spec}Fields"] * self.grows
         return {
-            "src/lib.rt": [f"pub mod {it};" for it in modules],
-            "specs/Lib.antt": [f"pub mod {it}" for it in specs] + fields,
-            "proofs/Lib.antt": [f"pub mod {it}Lemmas" for it in specs] + [f"mod {self.spec}Rows"] * bool(self.examples),
+            "src/lib.rt": [f"pub mod {self.m};"],
+            "specs/Lib.antt": [f"pub mod {self.spec}"] + [f"pub mod {self.spec}Fields"] * self.grows,
+            "proofs/Lib.antt": [f"pub mod {self.spec}Lemmas"] + [f"mod {self.spec}Rows"] * bool(self.examples),
         }
 
     # ---- where names come from

@@ -43,6 +43,7 @@ Rattle.bitstream_io.specs.Callers: ← ReadEntry WriteEntry Takes gives list_ite
     non_zero_u8 non_zero_u16 non_zero_u32 non_zero_u64 non_zero_u128
     non_zero_u8_entry non_zero_u16_entry non_zero_u32_entry non_zero_u64_entry non_zero_u128_entry
 Rattle.bitstream_io.specs.Error.TheVariants: VariableWidthOverflow RedundantGroup
+Rattle.bitstream_io.specs.Golomb: ue_entry ue_writes ue_size se_entry se_writes se_size
 Rattle.bitstream_io.specs.Grows: GrowingOutcome PartsRead
 Rattle.bitstream_io.specs.Loop: parts_size ItemsRead ItemsWritten
 Rattle.bitstream_io.specs.SliceMut: written_bytes
@@ -84,6 +85,7 @@ Rattle.bitstream_io.proofs.CallerLemmas: GoesBack Finds Packs inl inr is_error o
     option_u8-again option_u16-again option_u32-again option_u64-again option_u128-again
 Rattle.bitstream_io.proofs.EachLemmas: all-made own_seen_err own_optional-back each_part-back made-each packs-made made_items-back
     made_items-finds part_items-finds part_items-misses all_ok-items made-put made-all made-stop
+Rattle.bitstream_io.proofs.GolombLemmas: ue-back ue-packs se-back se-packs
 Rattle.std.proofs.lemmas.List: map-id length-set
 Rattle.bitstream_io.proofs.SliceLemmas: new_answer
 Rattle.bitstream_io.proofs.ReadsLemmas: seen_err

@@ -2,7 +2,7 @@
 from enums import Enum, snake
 from examples import Answer, Some, fields, taken
 from lines import Line, starts
-from names import merged, spec_of
+from names import article, merged, spec_of
 from source import Refused, number
 
 
@@ -73,6 +73,9 @@ class Part(Line):
 
     def why(self):
         return f"An error of a `{self.part}` that is not the reader's."
+
+    def error_text(self):
+        return f"in {article(self.part)}: {{0}}"
 
     def binds(self, behind):
         return f"  chain ({self.entry}) (part_then (λ {self.name}. {behind}))" if self.stops else super().binds(behind)

@@ -1,5 +1,4 @@
 """Makes the files of a format, laid out as `rt fmt` wants them."""
-import glob
 import os
 import shutil
 import subprocess
@@ -8,11 +7,9 @@ import tempfile
 from chains import answers_of
 from description import described
 from module import Module
-from names import TAKEN, spec_of
+from names import TAKEN
 from parts import Part
 from source import Refused, Unknown
-
-CALLERS = os.path.join(os.path.dirname(os.path.dirname(os.path.abspath(__file__))), "crates", "bitstream_callers")
 
 
 def put(folder, place, text):
@@ -52,16 +49,6 @@ def module_of(description, folder, name):
     return Module(os.path.basename(os.path.abspath(folder)), name, *said)
 
 
-def copied(name, crate):
-    """Gives the texts of a module of `bitstream_callers`, as another crate has them."""
-    spec, found = spec_of(name), {}
-    places = [f"src/{name}.rt", f"specs/{spec}.antt", f"proofs/{spec}Lemmas.antt"]
-    places += glob.glob(f"proofs/{name}/**/*.antt", root_dir=CALLERS, recursive=True)
-    for place in [] if crate == os.path.basename(CALLERS) else places:
-        found[place] = text_of(CALLERS, place).replace(os.path.basename(CALLERS), crate)
-    return found
-
-
 def lay_out(crate):
     ran = subprocess.run(["rt", "fmt"], cwd=crate, capture_output=True, text=True, check=False)
     if ran.returncode:
@@ -69,19 +56,17 @@ def lay_out(crate):
 
 
 def print_into(crate, made):
-    """Puts the files of a format, and of what it needs a copy of, into a crate; gives their places."""
+    """Puts the files of a format into a crate; gives their places."""
     for it in made.lines:
         if isinstance(it, Part) and not os.path.exists(os.path.join(crate, "src", f"{it.module}.rt")):
             raise Refused(f"line {it.line}: `{it.module}` is not printed: run `./format` on `{it.module}.fields` first")
     files = made.files()
-    for name in made.copies():
-        files |= copied(name, made.crate)
     for place, text in files.items():
         put(crate, place, text)
     for function in made.functions():
         place = made.answers_path(function.replace("::", "/"))
         try:
-            files[place] = answers_of(crate, f"src/{made.m}.rt", function)
+            files[place] = f"-- {made.made}\n{answers_of(crate, f'src/{made.m}.rt', function)}"
         except Unknown as it:
             raise Refused(f"answers of {function}: {it}") from None
         put(crate, place, files[place])
@@ -97,8 +82,7 @@ def printed(descriptions, folder):
             shutil.copytree(os.path.join(folder, "src"), os.path.join(crate, "src"))
         places = [print_into(crate, it) for it in found]
         put(room, "crates.txt", f"{os.path.basename(crate)}:\n")
-        mods = dict.fromkeys(name for it in found for name in [it.m, *it.copies()])
-        put(crate, "src/lib.rt", "".join(f"pub mod {it};\n" for it in mods))
+        put(crate, "src/lib.rt", "".join(f"pub mod {it.m};\n" for it in found))
         lay_out(crate)
         return [(it, {place: text_of(crate, place) for place in named}) for it, named in zip(found, places)]
 

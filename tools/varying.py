@@ -118,16 +118,16 @@ class Leb128(Vbr):
 
 @kind("ue", form="`NAME ue`")
 class Golomb(Line):
-    """A line NAME ue: an Exp-Golomb number. The module `golomb` of `bitstream_callers` is copied for it."""
+    """A line NAME ue: an Exp-Golomb number, by `bitstream_io::golomb`."""
 
-    many, type, long, short, copies, reader_errors = True, "u32", 2, "ue", "golomb", [OVERFLOW]
+    many, type, long, short, reader_errors = True, "u32", 2, "ue", [OVERFLOW]
     more = "Below 2^32 - 1."
     unfolds = ("unary_entry", "unsigned", "unsigned_entry", "lib.Count.count_leading_zeros")
 
     def __init__(self, name, words, doc):
         self.name, self.doc = name, doc
 
-    imports = property(lambda self: (f"crate::golomb::{{read_{self.short}, write_{self.short}}}",))
+    imports = property(lambda self: (f"bitstream_io::golomb::{{read_{self.short}, write_{self.short}}}",))
     entry = property(lambda self: f"{self.short}_entry o")
     word = property(lambda self: f"{self.short}_writes o {self.value}")
     size = property(lambda self: f"{self.short}_size {self.value}")
@@ -155,12 +155,6 @@ class Golomb(Line):
             raise Answer("VariableWidthOverflow")
         return 2**zeros - 1 + row.number(zeros)
 
-    def names(self, module):
-        words = " ".join(f"{self.short}_{it}" for it in ("entry", "writes", "size"))
-        return {f"Rattle.{module.crate}.specs.Golomb": words}
-
-    def lemma_names(self, module):
-        return {f"Rattle.{module.crate}.proofs.GolombLemmas": f"{self.short}-back {self.short}-packs"}
 
 
 @kind("se", form="`NAME se`")

@@ -34,6 +34,12 @@ def first_of(piece):
     return next((it.name for it in piece if it.type), piece[0].label())
 
 
+def error_case(line):
+    """Gives the case of the error for the bits that a line refuses: its comment, its text, and what it holds."""
+    held = f"({line.theirs})" if line.theirs else ""
+    return [f"    /// {line.why()}", f'    #[error("{line.error_text()}")]', f"    {line.error}{held},"]
+
+
 class Code:
     def code(self):
         """Gives the text of the module."""
@@ -55,7 +61,7 @@ class Code:
         paths = {path for it in self.lines for path in it.imports}
         paths = sorted(paths | {"std::alloc::Global", "std::marker::Model"} if self.grows else paths)
         library = f"use bitstream_io::{{{', '.join(it for it in LIBRARY.split() if it in words)}}};"
-        mine = [f"use {it};" for it in paths if it.startswith("crate")]
+        mine = [f"use {it};" for it in paths if it.startswith(("crate", "bitstream_io"))]
         return [*ghosts, "", *mine, library, *(f"use {it};" for it in paths if it.startswith("std"))]
 
     def struct_code(self):
@@ -89,14 +95,14 @@ class Code:
         if not self.error:
             return []
         e = self.error
-        whys = {it.error: it.why() for it in reversed(self.tests)}
-        errors = {it.error: f"({it.theirs})" if it.theirs else "" for it in self.tests}
-        cases = [line for it, held in errors.items() for line in (f"    /// {whys[it]}", f"    {it}{held},")]
+        firsts = {it.error: it for it in reversed(self.tests)}
+        cases = [line for it in dict.fromkeys(it.error for it in self.tests) for line in error_case(firsts[it])]
         return [
             f"/// Why {article(self.type)} is not read.",
-            "#[derive(Debug, Drop)]",
+            "#[derive(Debug, Drop, thiserror::Error)]",
             f"pub enum {e} {{",
             "    /// An error of the reader.",
+            '    #[error("{0}")]',
             "    Reader(Error),",
             *cases,
             "}",

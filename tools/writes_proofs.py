@@ -5,10 +5,10 @@ from rows import rows
 
 class Proofs:
     def text(self, head, lines, *tables):
-        """Gives a file of proofs: its head, the imports that its lines need, the goals' import, and the rest."""
+        """Gives a file of proofs: what made it, its head, the imports that its lines need, the goals' import, and the rest."""
         goals, rest = [it for it in lines if it.startswith("use ")], [it for it in lines if not it.startswith("use ")]
         found = uses("\n".join(rest), self.own_specs(), *tables, self.types(), PROOFS)
-        return wrapped("\n".join([*head, *found, *goals, *[""] * bool(rest[0]), *rest]).rstrip()) + "\n"
+        return wrapped("\n".join([f"-- {self.made}", *head, *found, *goals, *[""] * bool(rest[0]), *rest]).rstrip()) + "\n"
 
     def answer_text(self, lines):
         return self.text([], lines, self.own_lemmas())
@@ -24,8 +24,8 @@ class Proofs:
         """Gives the text of the file of lemmas."""
         out = [line for it in self.lines for line in it.lemmas(self)]
         out += [*self.goes(), *self.packs(), *self.told()]
-        head = [f"-- What was written of {article(self.type)} is read back, and how many bits it takes.", f"-- {self.made}"]
-        return self.text(head, out, self.parts_lemmas())
+        head = f"-- What was written of {article(self.type)} is read back, and how many bits it takes."
+        return self.text([head], out, self.parts_lemmas())
 
     def goes(self):
         ok = "(Ok value)" if self.own else "value"
@@ -203,4 +203,4 @@ class Proofs:
     def rows(self):
         """Gives the text of the file of worked rows."""
         out, unfolded = rows(self)
-        return self.text([f"-- Worked rows of {article(self.type)}.", f"-- {self.made}"], out, unfolded)
+        return self.text([f"-- Worked rows of {article(self.type)}."], out, unfolded)

@@ -13,10 +13,9 @@ use bitstream_callers::reading::{Reading, ReadingError};
 use bitstream_callers::sample::Sample;
 use bitstream_callers::samples::parse_samples;
 use bitstream_callers::sensor::state_code;
-use bitstream_callers::stream_info::StreamInfo;
-use bitstream_callers::stream_info_block::StreamInfoBlock;
 use bitstream_callers::tcp_options::{TcpOptions, parse_options};
 use bitstream_callers::telemetry::heartbeat;
+use bitstream_formats::stream_info::StreamInfo;
 use bitstream_io::{
     BE, BitRead, BitReadExt, BitReader, BitWrite, BitWriteExt, BitWriter, BitsWritten, ByteRead,
     ByteReadExt, ByteReader, ByteWrite, ByteWriteExt, ByteWriter, Error, LE, Slice, SliceMut,
@@ -51,14 +50,14 @@ const WHOLE_BLOCK: [u8; 34] = [
 ];
 
 /// Whether a block goes back to the bytes.
-fn goes_back(block: &StreamInfoBlock) -> bool {
+fn goes_back(block: &StreamInfo) -> bool {
     let mut built = [0; 34];
     let mut writer = BitWriter::<_, BE>::new(SliceMut::new(&mut built));
     writer.build(block).is_ok() & (built == WHOLE_BLOCK)
 }
 
 /// Whether a block has 272 bits, which a `u8` does not hold.
-fn has_272_bits(block: &StreamInfoBlock) -> bool {
+fn has_272_bits(block: &StreamInfo) -> bool {
     gives(block.bits::<u32>(), 272)
         & gives(block.bits_len::<u32, LE>(), 272)
         & matches!(block.bits::<u8>(), Err(Error::CounterOverflow))
@@ -87,8 +86,8 @@ fn refused<T: Drop>(answer: Result<T, Error>) -> bool {
 }
 
 /// Whether a block is parsed if each request is served, and else the refusal is told, and the reader fails.
-fn parses<R: BitRead>(reader: &mut R, block: &StreamInfoBlock, served: bool) -> bool {
-    let answer: Result<StreamInfoBlock, Error> = reader.parse();
+fn parses<R: BitRead>(reader: &mut R, block: &StreamInfo, served: bool) -> bool {
+    let answer: Result<StreamInfo, Error> = reader.parse();
     if served {
         gives(answer, *block)
     } else {
@@ -97,7 +96,7 @@ fn parses<R: BitRead>(reader: &mut R, block: &StreamInfoBlock, served: bool) -> 
 }
 
 /// Whether a block is built if each request is served, and else the refusal is told, and the writer fails.
-fn builds<W: BitWrite>(writer: &mut W, block: &StreamInfoBlock, served: bool) -> bool {
+fn builds<W: BitWrite>(writer: &mut W, block: &StreamInfo, served: bool) -> bool {
     let answer = writer.build(block);
     if served {
         answer.is_ok()
@@ -108,7 +107,7 @@ fn builds<W: BitWrite>(writer: &mut W, block: &StreamInfoBlock, served: bool) ->
 
 /// Asserts that a block is parsed over a stream that drips, and takes the bytes before a request that is
 /// refused.
-fn parses_up_to_each(rt: &impl Abort, block: &StreamInfoBlock, read: &[usize]) {
+fn parses_up_to_each(rt: &impl Abort, block: &StreamInfo, read: &[usize]) {
     for (served, read) in read.iter().enumerate() {
         let mut reader = BitReader::<_, BE>::new(stream(WHOLE_BLOCK.as_slice(), served));
         let parsed = parses(&mut reader, block, served == 8);
@@ -120,7 +119,7 @@ fn parses_up_to_each(rt: &impl Abort, block: &StreamInfoBlock, read: &[usize]) {
 
 /// Asserts that a block is built over a stream that drips, and hands on the bytes before a request that is
 /// refused.
-fn builds_up_to_each(rt: &impl Abort, alloc: Global, block: &StreamInfoBlock, written: &[usize]) {
+fn builds_up_to_each(rt: &impl Abort, alloc: Global, block: &StreamInfo, written: &[usize]) {
     for (served, written) in written.iter().enumerate() {
         let mut writer = BitWriter::<_, BE>::new(stream(Vec::new(alloc), served));
         let built = builds(&mut writer, block, served == 8);
@@ -136,9 +135,9 @@ fn builds_up_to_each(rt: &impl Abort, alloc: Global, block: &StreamInfoBlock, wr
 #[test]
 fn parses_and_builds_a_stream_info(rt: HostRuntime) {
     let mut reader = BitReader::<_, BE>::new(Slice::new(&WHOLE_BLOCK));
-    let block: StreamInfoBlock = reader.parse().expect(&rt, "a block");
-    same(&rt, fields(&block.info), FIELDS);
-    are(&rt, &block.md5, &WHOLE_BLOCK[18..]);
+    let block: StreamInfo = reader.parse().expect(&rt, "a block");
+    same(&rt, fields(&block), FIELDS);
+    are(&rt, &block.checksum, &WHOLE_BLOCK[18..]);
     holds(&rt, goes_back(&block) & has_272_bits(&block));
     parses_up_to_each(&rt, &block, &READ);
     builds_up_to_each(&rt, rt.alloc(), &block, &WRITTEN);

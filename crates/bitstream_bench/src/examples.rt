@@ -80,6 +80,22 @@ fn example_of_bit_write2(rt: HostRuntime) {
 }
 
 #[test]
+fn example_of_read_ue(rt: HostRuntime) {
+    use bitstream_io::golomb::{read_se, read_ue};
+    use bitstream_io::{BE, BitReader};
+
+    // 1, 010, 00100 and 011
+    let mut reader = BitReader::<_, BE>::over(&[0xa2, 0x30]);
+    let numbers = [
+        read_ue(&mut reader).expect(&rt, "no error"),
+        read_ue(&mut reader).expect(&rt, "no error"),
+        read_ue(&mut reader).expect(&rt, "no error"),
+    ];
+    same(&rt, numbers, [0, 1, 3]);
+    same(&rt, read_se(&mut reader).expect(&rt, "no error"), -1);
+}
+
+#[test]
 fn example_of_front(rt: HostRuntime) {
     use bitstream_io::{BE, BitReadExt, BitReader, Bits};
 

@@ -3,9 +3,8 @@
 use crate::asserts::{gives, holds, same};
 use bitstream_callers::block_header::BlockHeader;
 use bitstream_callers::flac_comment::VorbisComment;
-use bitstream_callers::stream_info::StreamInfo;
-use bitstream_callers::stream_info_block::StreamInfoBlock;
 use bitstream_callers::vorbis_comment::CommentError;
+use bitstream_formats::stream_info::StreamInfo;
 use bitstream_io::{BE, BitRead, BitReadExt, BitReader, Error};
 use std::alloc::Global;
 use std::num::NonZero;
@@ -46,8 +45,8 @@ fn goes_to_the_comment<R: BitRead>(reader: &mut R) -> bool {
     );
 
     // STREAMINFO block
-    let info = match reader.parse::<StreamInfoBlock>() {
-        Ok(block) => is_the_stream(&block),
+    let info = match reader.parse::<StreamInfo>() {
+        Ok(info) => is_the_stream(&info),
         Err(_) => false,
     };
 
@@ -63,9 +62,8 @@ fn goes_to_the_comment<R: BitRead>(reader: &mut R) -> bool {
     marked & first & info & second
 }
 
-/// Whether a block says of the samples what the example's does.
-fn is_the_stream(block: &StreamInfoBlock) -> bool {
-    let info: StreamInfo = block.info;
+/// Returns true if a block has the fields of the example's.
+fn is_the_stream(info: &StreamInfo) -> bool {
     (info.minimum_block_size == 4096)
         & (info.maximum_block_size == 4096)
         & (info.minimum_frame_size == 1542)
@@ -74,7 +72,7 @@ fn is_the_stream(block: &StreamInfoBlock) -> bool {
         & (NonZero::<u8>::new(2) == Some(info.channels))
         & (NonZero::<u8>::new(16) == Some(info.bits_per_sample))
         & (info.total_samples == 304844)
-        & (block.md5 == *b"\xfa\xf2\x69\x2f\xfd\xec\x2d\x5b\x30\x01\x76\xb4\x62\x88\x7d\x92")
+        & (info.checksum == *b"\xfa\xf2\x69\x2f\xfd\xec\x2d\x5b\x30\x01\x76\xb4\x62\x88\x7d\x92")
 }
 
 /// Reads the comment behind the other blocks of a file.

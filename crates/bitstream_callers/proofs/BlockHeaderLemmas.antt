@@ -1,5 +1,5 @@
--- What was written of a `BlockHeader` is read back, and how many bits it takes.
 -- Made by `./format` from formats/block_header.fields: edit that file and make this one anew.
+-- What was written of a `BlockHeader` is read back, and how many bits it takes.
 use Rattle.bitstream_callers.specs.BlockHeader.{block_header_entry, block_header_writes, block_header_size, block_header_bits, Fits}
 use Rattle.bitstream_callers.specs.declared.block_header.BlockHeader.{BlockHeader}
 use Rattle.std.proofs.Common.{◌≡◌, ◌++◌, ◌∷◌, [], refl}

@@ -1,5 +1,5 @@
--- Worked rows of a `BlockHeader`.
 -- Made by `./format` from formats/block_header.fields: edit that file and make this one anew.
+-- Worked rows of a `BlockHeader`.
 use Rattle.bitstream_callers.specs.BlockHeader.{block_header_entry, block_header_writes}
 use Rattle.bitstream_io.specs.Entry.{chain}
 use Rattle.bitstream_io.specs.Word.{digits, digits_number}

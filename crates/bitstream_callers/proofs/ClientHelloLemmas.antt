@@ -1,5 +1,5 @@
--- What was written of a `ClientHello` is read back, and how many bits it takes.
 -- Made by `./format` from formats/client_hello.fields: edit that file and make this one anew.
+-- What was written of a `ClientHello` is read back, and how many bits it takes.
 use Rattle.bitstream_callers.specs.ClientHello.{client_hello_entry, client_hello_writes, client_hello_size, client_hello_bits, Fits, compression_of, compression_number, compression_read}
 use Rattle.bitstream_callers.specs.declared.client_hello.ClientHello.{ClientHello}
 use Rattle.bitstream_callers.specs.declared.client_hello.Compression.{Compression}

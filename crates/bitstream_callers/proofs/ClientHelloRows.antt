@@ -1,5 +1,5 @@
--- Worked rows of a `ClientHello`.
 -- Made by `./format` from formats/client_hello.fields: edit that file and make this one anew.
+-- Worked rows of a `ClientHello`.
 use Rattle.bitstream_callers.specs.ClientHello.{client_hello_entry, client_hello_writes}
 use Rattle.bitstream_io.specs.Entry.{chain}
 use Rattle.bitstream_io.specs.Word.{digits, digits_number, bytes_of}

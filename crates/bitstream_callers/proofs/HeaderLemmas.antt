@@ -1,5 +1,5 @@
--- What was written of a `Header` is read back, and how many bits it takes.
 -- Made by `./format` from formats/header.fields: edit that file and make this one anew.
+-- What was written of a `Header` is read back, and how many bits it takes.
 use Rattle.bitstream_callers.specs.Header.{header_entry, header_writes, header_size, header_bits, Fits}
 use Rattle.bitstream_callers.specs.declared.header.Header.{Header}
 use Rattle.std.proofs.Common.{◌≡◌, ◌++◌, ◌∷◌, [], refl}

@@ -1,5 +1,5 @@
--- Worked rows of a `Header`.
 -- Made by `./format` from formats/header.fields: edit that file and make this one anew.
+-- Worked rows of a `Header`.
 use Rattle.bitstream_callers.specs.Header.{header_entry, header_writes}
 use Rattle.bitstream_io.specs.Entry.{chain}
 use Rattle.bitstream_io.specs.Word.{digits, digits_number}

@@ -1,5 +1,5 @@
--- What was written of a `PrimaryHeader` is read back, and how many bits it takes.
 -- Made by `./format` from formats/primary_header.fields: edit that file and make this one anew.
+-- What was written of a `PrimaryHeader` is read back, and how many bits it takes.
 use Rattle.bitstream_callers.specs.PrimaryHeader.{primary_header_entry, primary_header_writes, primary_header_size, primary_header_bits, Fits}
 use Rattle.bitstream_callers.specs.declared.primary_header.PrimaryHeader.{PrimaryHeader}
 use Rattle.std.proofs.Common.{◌≡◌, ◌++◌, ◌∷◌, [], Ok, refl}

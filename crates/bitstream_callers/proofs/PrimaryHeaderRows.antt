@@ -1,5 +1,5 @@
--- Worked rows of a `PrimaryHeader`.
 -- Made by `./format` from formats/primary_header.fields: edit that file and make this one anew.
+-- Worked rows of a `PrimaryHeader`.
 use Rattle.bitstream_callers.specs.PrimaryHeader.{primary_header_entry, primary_header_writes}
 use Rattle.bitstream_io.specs.Entry.{chain}
 use Rattle.bitstream_io.specs.Word.{digits, digits_number}

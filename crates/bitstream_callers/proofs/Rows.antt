@@ -9,7 +9,7 @@ use Rattle.bitstream_io.specs.Array.{items_entry}
 use Rattle.bitstream_io.specs.Vbr.{groups, groups_at}
 use Rattle.bitstream_io.specs.Word.{digits, digits_number}
 use Rattle.bitstream_io.specs.WriteTable.{unsigned}
-use Rattle.bitstream_callers.specs.Golomb.{se_entry, se_writes, ue_entry, ue_writes}
+use Rattle.bitstream_io.specs.Golomb.{se_entry, se_writes, ue_entry, ue_writes}
 use Rattle.bitstream_callers.specs.Samples.{samples_entry, samples_writes}
 use Rattle.bitstream_callers.specs.Sensor.{measurement_entry, measurement_writes}
 use Rattle.bitstream_callers.specs.Sps.{sps_entry}

@@ -1,5 +1,5 @@
--- What was written of a `RtpHeader` is read back, and how many bits it takes.
 -- Made by `./format` from formats/rtp_header.fields: edit that file and make this one anew.
+-- What was written of a `RtpHeader` is read back, and how many bits it takes.
 use Rattle.bitstream_callers.specs.RtpHeader.{rtp_header_entry, rtp_header_writes, rtp_header_size, rtp_header_bits, Fits}
 use Rattle.bitstream_callers.specs.declared.rtp_header.RtpHeader.{RtpHeader}
 use Rattle.std.proofs.Common.{◌≡◌, ◌++◌, ◌∷◌, [], Ok, length, refl, arith}

@@ -1,5 +1,5 @@
--- Worked rows of a `RtpHeader`.
 -- Made by `./format` from formats/rtp_header.fields: edit that file and make this one anew.
+-- Worked rows of a `RtpHeader`.
 use Rattle.bitstream_callers.specs.RtpHeader.{rtp_header_entry, rtp_header_writes}
 use Rattle.bitstream_io.specs.Entry.{chain}
 use Rattle.bitstream_io.specs.Word.{digits, digits_number}

@@ -1,5 +1,5 @@
--- What was written of a `Sample` is read back, and how many bits it takes.
 -- Made by `./format` from formats/sample.fields: edit that file and make this one anew.
+-- What was written of a `Sample` is read back, and how many bits it takes.
 use Rattle.bitstream_callers.specs.Sample.{sample_entry, sample_writes, sample_size, sample_bits, Fits}
 use Rattle.bitstream_callers.specs.declared.sample.Sample.{Sample}
 use Rattle.std.proofs.Common.{◌≡◌, ◌++◌, ◌∷◌, [], refl}

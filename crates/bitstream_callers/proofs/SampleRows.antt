@@ -1,5 +1,5 @@
--- Worked rows of a `Sample`.
 -- Made by `./format` from formats/sample.fields: edit that file and make this one anew.
+-- Worked rows of a `Sample`.
 use Rattle.bitstream_callers.specs.Sample.{sample_entry, sample_writes}
 use Rattle.bitstream_io.specs.Entry.{chain}
 use Rattle.bitstream_io.specs.Word.{digits, digits_number}

@@ -1,10 +1,9 @@
-pub mod Adts
 pub mod Axes
 pub mod BlockHeader
 pub mod ClientHello
 pub mod ClientHelloFields
 pub mod FlacComment
-pub mod Golomb
+pub mod FlacStart
 pub mod Header
 pub mod PacketHeader
 pub mod PaddedPort
@@ -19,8 +18,6 @@ pub mod Sample
 pub mod Samples
 pub mod Sensor
 pub mod Sps
-pub mod StreamInfo
-pub mod StreamInfoBlock
 pub mod TcpOptions
 pub mod Telemetry
 pub mod VorbisComment

@@ -1,7 +1,7 @@
 -- The beginning of a sequence parameter set.
 use Rattle.std.specs.Prelude.{◌≡◌, ℕ, ◌+◌, ◌==◌, Result, Ok, Err, if◌then◌else◌}
 use Rattle.bitstream_io.specs.Callers.{ReadEntry, gives, Error, bit_entry, const_entry, unsigned_entry, ◌>>=◌, Order}
-use Rattle.bitstream_callers.specs.Golomb.{ue_entry}
+use Rattle.bitstream_io.specs.Golomb.{ue_entry}
 use Rattle.bitstream_callers.specs.declared.sps.Sps.{Sps}
 use Rattle.bitstream_callers.specs.declared.sps.SpsError.{SpsError}
 use Rattle.bitstream_callers.specs.declared.sps.SpsError.TheVariants.{Reader, OtherUnit, UnsupportedOrder}

@@ -81,13 +81,16 @@ impl Model for ClientHello {
 }
 
 /// Why a `ClientHello` is not read.
-#[derive(Debug, Drop)]
+#[derive(Debug, Drop, thiserror::Error)]
 pub enum ClientHelloError {
     /// An error of the reader.
+    #[error("{0}")]
     Reader(Error),
     /// The message is no ClientHello.
+    #[error("the message is no ClientHello")]
     OtherMessage,
-    /// The number of compressions is that of no `Compression`.
+    /// An item of `compressions` is not the number of a case of `Compression`.
+    #[error("an item of `compressions` is not the number of a case of `Compression`")]
     NoCompression,
 }
 

@@ -2,11 +2,9 @@
 //! and written, and formats that `./format` printed from the descriptions in `formats/`. The guide in
 //! `docs/GUIDE` shows most of them.
 //!
-//! - [`adts`]: the header of an ADTS frame of AAC
 //! - [`appending`]: a header that is written behind what a sink holds, and how long it is
 //! - [`block_header`]: the header of a block of a FLAC file
 //! - [`flac_comment`]: a FLAC file's comment, read from bits, with its texts as strings
-//! - [`golomb`]: exponential Golomb numbers, as H.264 and H.265 have them
 //! - [`header`]: what stands before a packet's bytes
 //! - [`packet_header`]: a type that says how it is read and written: the header of a packet of whole
 //!   bytes
@@ -20,21 +18,18 @@
 //! - [`samples`]: samples of 12 bits, in a vector
 //! - [`sensor`]: a measurement: a unary number, numbers of variable width, and a prefix code
 //! - [`sps`]: the beginning of a sequence parameter set of H.264, with errors of its own
-//! - [`stream_info`]: what a FLAC file says of its samples, without the checksum
-//! - [`stream_info_block`]: a whole STREAMINFO block of a FLAC file
 //! - [`tcp_options`]: the options of a TCP header, by a parser that holds its reader beside what it
 //!   fills
 //! - [`telemetry`]: samples of telemetry in a vector, and behind their length
 //! - [`vorbis_comment`]: types that own memory, read from whole bytes: a FLAC file's comment
 #![tactic(auto)]
 
-pub mod adts;
 pub mod appending;
 pub mod axes;
 pub mod block_header;
 pub mod client_hello;
 pub mod flac_comment;
-pub mod golomb;
+pub mod flac_start;
 pub mod header;
 pub mod packet_header;
 pub mod padded_port;
@@ -48,8 +43,6 @@ pub mod sample;
 pub mod samples;
 pub mod sensor;
 pub mod sps;
-pub mod stream_info;
-pub mod stream_info_block;
 pub mod tcp_options;
 pub mod telemetry;
 pub mod vorbis_comment;

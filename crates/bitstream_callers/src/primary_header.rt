@@ -42,11 +42,13 @@ pub struct PrimaryHeader {
 }
 
 /// Why a `PrimaryHeader` is not read.
-#[derive(Debug, Drop)]
+#[derive(Debug, Drop, thiserror::Error)]
 pub enum PrimaryHeaderError {
     /// An error of the reader.
+    #[error("{0}")]
     Reader(Error),
     /// The version is not 0.
+    #[error("the version is not 0")]
     WrongVersion,
 }
 

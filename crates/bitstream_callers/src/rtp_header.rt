@@ -71,11 +71,13 @@ impl Model for RtpHeader {
 }
 
 /// Why a `RtpHeader` is not read.
-#[derive(Debug, Drop)]
+#[derive(Debug, Drop, thiserror::Error)]
 pub enum RtpError {
     /// An error of the reader.
+    #[error("{0}")]
     Reader(Error),
     /// The version is not 2.
+    #[error("the version is not 2")]
     WrongVersion,
 }
 

@@ -2,7 +2,7 @@
 ghost use Rattle.bitstream_io.specs.Callers.{OwnAnswer, ReadsOwn, sure_answer, High, bits};
 ghost use Rattle.bitstream_callers.specs.Sps.{becomes_sps, sps_entry};
 
-use crate::golomb::read_ue;
+use bitstream_io::golomb::read_ue;
 use bitstream_io::{BE, BitRead, BitReadExt, BitReader, Bits, Error};
 
 /// What a parameter set says of the frames, up to their size.

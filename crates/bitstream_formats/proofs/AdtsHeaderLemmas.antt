@@ -1,5 +1,5 @@
--- What was written of an `AdtsHeader` is read back, and how many bits it takes.
 -- Made by `./format` from formats/adts_header.fields: edit that file and make this one anew.
+-- What was written of an `AdtsHeader` is read back, and how many bits it takes.
 use Rattle.bitstream_formats.specs.AdtsHeader.{adts_header_entry, adts_header_writes, adts_header_size, adts_header_bits, Fits}
 use Rattle.bitstream_formats.specs.declared.adts_header.AdtsHeader.{AdtsHeader}
 use Rattle.std.proofs.Common.{◌≡◌, ◌++◌, ◌∷◌, [], Ok, refl}

@@ -1,5 +1,5 @@
--- What was written of a `StreamInfo` is read back, and how many bits it takes.
 -- Made by `./format` from formats/stream_info.fields: edit that file and make this one anew.
+-- What was written of a `StreamInfo` is read back, and how many bits it takes.
 use Rattle.bitstream_formats.specs.StreamInfo.{stream_info_entry, stream_info_writes, stream_info_size, stream_info_bits, Fits}
 use Rattle.bitstream_formats.specs.declared.stream_info.StreamInfo.{StreamInfo}
 use Rattle.std.proofs.Common.{◌≡◌, ◌++◌, ◌∷◌, [], refl}

@@ -5,18 +5,12 @@ use crate::at::At;
 use crate::element::{Element, Syntax};
 use bitstream_io::{BE, BitRead, Error, SliceReader};
 
-/// Why a frame is not read.
+/// Errors of [`Frames::next_frame`].
 #[derive(Debug, Drop, thiserror::Error)]
 pub enum AdtsError {
-    /// The bits were not read.
-    #[error("{0}")]
-    Reader(Error),
-    /// There is no syncword.
-    #[error("no syncword of ADTS")]
-    NoSync,
-    /// The layer is not 0.
-    #[error("the layer is not 0")]
-    UnknownLayer,
+    /// The header was not read, or the bytes end before the frame does.
+    #[error(transparent)]
+    Header(#[from] AdtsHeaderError),
     /// The length of the frame is less than that of its header.
     #[error("the frame is shorter than its header")]
     FrameTooShort,
@@ -24,17 +18,7 @@ pub enum AdtsError {
 
 impl From<Error> for AdtsError {
     fn from(error: Error) -> AdtsError {
-        AdtsError::Reader(error)
-    }
-}
-
-impl From<AdtsHeaderError> for AdtsError {
-    fn from(error: AdtsHeaderError) -> AdtsError {
-        match error {
-            AdtsHeaderError::Reader(error) => AdtsError::Reader(error),
-            AdtsHeaderError::NoSync => AdtsError::NoSync,
-            AdtsHeaderError::UnknownLayer => AdtsError::UnknownLayer,
-        }
+        AdtsError::Header(AdtsHeaderError::Reader(error))
     }
 }
 

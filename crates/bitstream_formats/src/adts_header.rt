@@ -56,13 +56,16 @@ pub struct AdtsHeader {
 }
 
 /// Why an `AdtsHeader` is not read.
-#[derive(Debug, Drop)]
+#[derive(Debug, Drop, thiserror::Error)]
 pub enum AdtsHeaderError {
     /// An error of the reader.
+    #[error("{0}")]
     Reader(Error),
     /// The bits do not begin with the syncword.
+    #[error("the bits do not begin with the syncword")]
     NoSync,
     /// The layer is not 0.
+    #[error("the layer is not 0")]
     UnknownLayer,
 }
 

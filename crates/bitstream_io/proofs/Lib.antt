@@ -3,6 +3,7 @@ pub mod NonZeroBack
 pub mod CallsBack
 pub mod CallerLemmas
 pub mod EachLemmas
+pub mod GolombLemmas
 pub mod PackLemmas
 mod ReadBackLemmas
 mod ReadScriptLemmas

@@ -1,4 +1,5 @@
 pub mod Callers
+pub mod Golomb
 pub mod Loop
 pub mod NonZeroTypes
 pub mod Optional

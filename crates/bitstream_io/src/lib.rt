@@ -5,6 +5,7 @@
 //! The items stand in modules by subject. Most stand here too:
 //!
 //! - [`compat`]: the calls of today by their older names
+//! - [`golomb`]: exponential Golomb numbers
 //! - [`script`]: lists of calls as values, which are made one after another
 //! - [`error`]: the error of a call
 //! - [`number`]: integer types as numbers, and numbers of bits as types
@@ -33,6 +34,7 @@
 #![tactic(auto)]
 
 pub mod compat;
+pub mod golomb;
 pub mod script;
 
 /// The error of a call.
@@ -121,6 +123,7 @@ pub mod bytes {
 
 /// Laws of the definitions: one function each, whose contract is the law.
 pub mod laws {
+    pub use crate::golomb::{signed_golomb_numbers_go_back, unsigned_golomb_numbers_go_back};
     pub use crate::script::laws::{
         appending_composes, calls_have_values_of_their_types, lists_of_reads_are_known,
         played_calls_are_direct_calls, words_have_one_length, write_runs_join,

@@ -1,8 +1,7 @@
-//! Exponential Golomb numbers (section 9.1).
-ghost use Rattle.std.specs.Prelude.{◌<◌, ◌-◌, ◌^◌, IfOk};
+//! Exponential Golomb numbers (section 9.1), which are noted as elements.
 
 use crate::element::Syntax;
-use bitstream_io::{BE, BitRead, BitReadExt, Bits, Error};
+use bitstream_io::{BE, Error, golomb};
 
 /// Reads an unsigned number, `ue(v)`.
 pub(super) fn read_ue(
@@ -10,7 +9,7 @@ pub(super) fn read_ue(
     name: &'static str,
 ) -> Result<u32, Error> {
     let place = syntax.place();
-    let value = number(syntax)?;
+    let value = golomb::read_ue(syntax.reader)?;
     syntax.note(place, name, value as i64)?;
     Ok(value)
 }
@@ -21,21 +20,7 @@ pub(super) fn read_se(
     name: &'static str,
 ) -> Result<i32, Error> {
     let place = syntax.place();
-    let folded = number(syntax)?;
-    let half = (folded / 2) as i32;
-    let value = if folded % 2 == 1 { half + 1 } else { -half };
+    let value = golomb::read_se(syntax.reader)?;
     syntax.note(place, name, value as i64)?;
     Ok(value)
-}
-
-/// Reads an unsigned number, and notes nothing.
-fn number(syntax: &mut Syntax<'_, '_, '_, BE>) -> Result<u32, Error>
-    ensures { IfOk result (λ value. value < 2 ^ 32 - 1) }
-{
-    let zeros = syntax.reader.read_unary::<Bits<1>>()?;
-    if zeros > 31 {
-        return Err(Error::VariableWidthOverflow);
-    }
-    let rest: u32 = syntax.reader.read_var(zeros)?;
-    Ok((1u32 << zeros) - 1 + rest)
 }

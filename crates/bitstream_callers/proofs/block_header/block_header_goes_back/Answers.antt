@@ -1,3 +1,4 @@
+-- Made by `./format` from formats/block_header.fields: edit that file and make this one anew.
 use Rattle.bitstream_callers.proofs.BlockHeaderLemmas.{block_header_goes, block_header_packs}
 use Rattle.bitstream_callers.proofs.block_header.block_header_goes_back.Goals as goal
 

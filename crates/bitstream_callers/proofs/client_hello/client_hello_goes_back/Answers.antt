@@ -1,3 +1,4 @@
+-- Made by `./format` from formats/client_hello.fields: edit that file and make this one anew.
 use Rattle.bitstream_callers.proofs.ClientHelloLemmas.{client_hello_goes, client_hello_packs}
 use Rattle.bitstream_callers.proofs.client_hello.client_hello_goes_back.Goals as goal
 

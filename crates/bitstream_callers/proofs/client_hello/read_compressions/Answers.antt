@@ -1,3 +1,4 @@
+-- Made by `./format` from formats/client_hello.fields: edit that file and make this one anew.
 use Rattle.bitstream_callers.specs.ClientHello.{compression_read}
 use Rattle.std.proofs.Common.{◌≡◌, false, refl, arith}
 use Rattle.bitstream_io.proofs.CallerLemmas.{if_grown, parts-begin, parts-push, parts-stop, parts-refused}

@@ -1,3 +1,4 @@
+-- Made by `./format` from formats/client_hello.fields: edit that file and make this one anew.
 use Rattle.bitstream_callers.specs.ClientHello.{becomes_client_hello, compression_read}
 use Rattle.bitstream_io.specs.Grows.{PartsRead}
 use Rattle.bitstream_callers.proofs.client_hello.read_compressions.Given as goal

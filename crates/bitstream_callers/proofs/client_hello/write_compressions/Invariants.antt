@@ -1,3 +1,4 @@
+-- Made by `./format` from formats/client_hello.fields: edit that file and make this one anew.
 use Rattle.bitstream_callers.specs.ClientHello.{compression_number}
 use Rattle.std.proofs.Common.{◌∷◌, []}
 use Rattle.bitstream_io.specs.Callers.{unsigned}

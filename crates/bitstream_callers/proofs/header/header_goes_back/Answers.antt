@@ -1,3 +1,4 @@
+-- Made by `./format` from formats/header.fields: edit that file and make this one anew.
 use Rattle.bitstream_callers.proofs.HeaderLemmas.{header_goes, header_packs}
 use Rattle.bitstream_callers.proofs.header.header_goes_back.Goals as goal
 

@@ -1,3 +1,4 @@
+-- Made by `./answers` from src/picture.rt: when that changes make this one anew.
 use Rattle.bitstream_io.proofs.WriteParts.{all_one}
 use Rattle.bitstream_io.proofs.WriteSteps.{next_write, stop_write}
 use Rattle.bitstream_callers.proofs.picture.write_counted_bytes.Goals as goal

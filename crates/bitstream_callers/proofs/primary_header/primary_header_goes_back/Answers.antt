@@ -1,3 +1,4 @@
+-- Made by `./format` from formats/primary_header.fields: edit that file and make this one anew.
 use Rattle.bitstream_callers.proofs.PrimaryHeaderLemmas.{primary_header_goes, primary_header_packs}
 use Rattle.bitstream_callers.proofs.primary_header.primary_header_goes_back.Goals as goal
 

@@ -1,3 +1,4 @@
+-- Made by `./format` from formats/rtp_header.fields: edit that file and make this one anew.
 use Rattle.std.proofs.Common.{◌≡◌, refl, arith}
 use Rattle.bitstream_io.proofs.CallerLemmas.{item-read, items-begin, items-push, items-stop, items-refused, grown}
 use Rattle.bitstream_io.proofs.ReadsLemmas.{seen_err}

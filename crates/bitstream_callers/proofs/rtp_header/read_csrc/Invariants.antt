@@ -1,3 +1,4 @@
+-- Made by `./format` from formats/rtp_header.fields: edit that file and make this one anew.
 use Rattle.bitstream_io.specs.Callers.{list_item, unsigned_entry}
 use Rattle.bitstream_io.specs.Loop.{ItemsRead}
 use Rattle.bitstream_callers.proofs.rtp_header.read_csrc.Given as goal

@@ -1,3 +1,4 @@
+-- Made by `./format` from formats/rtp_header.fields: edit that file and make this one anew.
 use Rattle.bitstream_callers.proofs.RtpHeaderLemmas.{rtp_header_goes, rtp_header_packs}
 use Rattle.bitstream_callers.proofs.rtp_header.rtp_header_goes_back.Goals as goal
 

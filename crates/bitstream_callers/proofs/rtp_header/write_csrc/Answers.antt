@@ -1,3 +1,4 @@
+-- Made by `./format` from formats/rtp_header.fields: edit that file and make this one anew.
 use Rattle.std.proofs.Common.{◌∷◌, [], refl}
 use Rattle.bitstream_io.proofs.CallerLemmas.{written-begin, written-more, written-stop}
 use Rattle.bitstream_io.specs.Callers.{unsigned}

@@ -1,3 +1,4 @@
+-- Made by `./format` from formats/rtp_header.fields: edit that file and make this one anew.
 use Rattle.std.proofs.Common.{◌∷◌, []}
 use Rattle.bitstream_io.specs.Callers.{unsigned}
 use Rattle.bitstream_io.specs.Loop.{ItemsWritten}

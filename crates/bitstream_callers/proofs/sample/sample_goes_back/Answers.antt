@@ -1,3 +1,4 @@
+-- Made by `./format` from formats/sample.fields: edit that file and make this one anew.
 use Rattle.bitstream_callers.proofs.SampleLemmas.{sample_goes, sample_packs}
 use Rattle.bitstream_callers.proofs.sample.sample_goes_back.Goals as goal
 

@@ -1,3 +1,4 @@
+-- Made by `./format` from formats/adts_header.fields: edit that file and make this one anew.
 use Rattle.bitstream_formats.proofs.AdtsHeaderLemmas.{adts_header_goes, adts_header_packs}
 use Rattle.bitstream_formats.proofs.adts_header.adts_header_goes_back.Goals as goal
 

@@ -1,3 +1,4 @@
+-- Made by `./format` from formats/stream_info.fields: edit that file and make this one anew.
 use Rattle.bitstream_formats.proofs.StreamInfoLemmas.{stream_info_goes, stream_info_packs}
 use Rattle.bitstream_formats.proofs.stream_info.stream_info_goes_back.Goals as goal
 

@@ -1,3 +1,4 @@
+-- Made by `./format` from formats/block_header.fields: edit that file and make this one anew.
 use Rattle.bitstream_callers.specs.BlockHeader.{block_header_writes}
 use Rattle.bitstream_callers.proofs.BlockHeaderLemmas.{block_header_packs, told}
 use Rattle.std.proofs.Common.{◌∙◌, refl, arith, rules}

@@ -1,3 +1,4 @@
+-- Made by `./format` from formats/block_header.fields: edit that file and make this one anew.
 use Rattle.bitstream_callers.specs.BlockHeader.{block_header_entry, block_header_at}
 use Rattle.bitstream_callers.proofs.BlockHeaderLemmas.{block_header_packs, told}
 use Rattle.std.proofs.Common.{◌++◌, ◌∙◌, ℕ, List, Ok, refl, ap, sym, arith}

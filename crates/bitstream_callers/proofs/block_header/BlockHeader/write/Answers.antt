@@ -1,3 +1,4 @@
+-- Made by `./format` from formats/block_header.fields: edit that file and make this one anew.
 use Rattle.bitstream_io.proofs.WriteParts.{all_none}
 use Rattle.bitstream_io.proofs.WriteSteps.{next_call, next_write, stop_call, stop_write}
 use Rattle.bitstream_callers.proofs.block_header.BlockHeader.write.Goals as goal

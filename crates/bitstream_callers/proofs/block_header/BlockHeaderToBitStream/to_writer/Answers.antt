@@ -1,3 +1,4 @@
+-- Made by `./format` from formats/block_header.fields: edit that file and make this one anew.
 use Rattle.bitstream_io.proofs.CallerLemmas.{plainly_written}
 use Rattle.bitstream_callers.proofs.block_header.BlockHeaderToBitStream.to_writer.Goals as goal
 

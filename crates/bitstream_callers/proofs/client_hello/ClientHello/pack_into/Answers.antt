@@ -1,3 +1,4 @@
+-- Made by `./format` from formats/client_hello.fields: edit that file and make this one anew.
 use Rattle.bitstream_callers.specs.ClientHello.{client_hello_writes}
 use Rattle.bitstream_callers.proofs.ClientHelloLemmas.{client_hello_packs, told}
 use Rattle.std.proofs.Common.{◌∙◌, refl, rules}

@@ -1,3 +1,4 @@
+-- Made by `./format` from formats/client_hello.fields: edit that file and make this one anew.
 use Rattle.bitstream_callers.specs.ClientHello.{client_hello_entry, becomes_client_hello}
 use Rattle.std.proofs.Common.{◌∙◌, refl, ap, subst}
 use Rattle.bitstream_io.proofs.CallerLemmas.{inl, inr, is_error, slice_ends, own_grown_answered}

@@ -1,3 +1,4 @@
+-- Made by `./format` from formats/client_hello.fields: edit that file and make this one anew.
 use Rattle.std.proofs.Common.{refl}
 use Rattle.bitstream_io.proofs.CallerLemmas.{next_grown_const, exit_grown_const}
 use Rattle.bitstream_io.proofs.GrowsLemmas.{go_grown, stop_grown, grown, vec-grown, part_go, part_stop, grown_end}

@@ -1,3 +1,4 @@
+-- Made by `./format` from formats/client_hello.fields: edit that file and make this one anew.
 use Rattle.std.proofs.Common.{refl}
 use Rattle.bitstream_callers.proofs.client_hello.Compression.number.Goals as goal
 

@@ -1,3 +1,4 @@
+-- Made by `./format` from formats/client_hello.fields: edit that file and make this one anew.
 use Rattle.bitstream_io.proofs.CallerLemmas.{next_own_read, exit_own_read, own_end}
 use Rattle.bitstream_callers.proofs.client_hello.Compression.read.Goals as goal
 

@@ -1,3 +1,4 @@
+-- Made by `./format` from formats/header.fields: edit that file and make this one anew.
 use Rattle.bitstream_callers.specs.Header.{header_writes}
 use Rattle.bitstream_callers.proofs.HeaderLemmas.{header_packs, told}
 use Rattle.std.proofs.Common.{◌∙◌, refl, arith, rules}

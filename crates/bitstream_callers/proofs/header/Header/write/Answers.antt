@@ -1,3 +1,4 @@
+-- Made by `./format` from formats/header.fields: edit that file and make this one anew.
 use borrow.Author.Rules.{sfits_of}
 use Rattle.std.proofs.Common.{w8}
 use Rattle.bitstream_io.proofs.WriteParts.{all_none}

@@ -1,3 +1,4 @@
+-- Made by `./format` from formats/header.fields: edit that file and make this one anew.
 use Rattle.bitstream_io.proofs.CallerLemmas.{plainly_read}
 use Rattle.bitstream_callers.proofs.header.HeaderFromBitStream.from_reader.Goals as goal
 

@@ -1,3 +1,4 @@
+-- Made by `./format` from formats/header.fields: edit that file and make this one anew.
 use Rattle.bitstream_io.proofs.CallerLemmas.{plainly_written}
 use Rattle.bitstream_callers.proofs.header.HeaderToBitStream.to_writer.Goals as goal
 

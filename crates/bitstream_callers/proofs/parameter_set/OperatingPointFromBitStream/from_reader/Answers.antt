@@ -1,3 +1,4 @@
+-- Made by `./answers` from src/parameter_set.rt: when that changes make this one anew.
 use Rattle.bitstream_io.proofs.CallerLemmas.{next_own_read as next, exit_own_read as exit}
 use Rattle.bitstream_io.proofs.OwnSteps.{own_end}
 use Rattle.bitstream_callers.proofs.parameter_set.OperatingPointFromBitStream.from_reader.Goals as goal

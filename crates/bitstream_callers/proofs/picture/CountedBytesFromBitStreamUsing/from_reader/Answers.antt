@@ -1,3 +1,4 @@
+-- Made by `./answers` from src/picture.rt: when that changes make this one anew.
 use Rattle.bitstream_io.proofs.GrowsLemmas.{go_grown, stop_grown, grown, vec-grown, grown_end}
 use Rattle.bitstream_callers.proofs.picture.CountedBytesFromBitStreamUsing.from_reader.Goals as goal
 

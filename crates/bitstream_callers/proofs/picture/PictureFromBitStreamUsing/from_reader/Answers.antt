@@ -1,3 +1,4 @@
+-- Made by `./answers` from src/picture.rt: when that changes make this one anew.
 use Rattle.std.proofs.Common.{false}
 use Rattle.bitstream_io.proofs.GrowsLemmas.{go_grown, stop_grown, grown, if_grown, part_go, part_stop, grown_end}
 use Rattle.bitstream_io.proofs.OwnLemmas.{is_error}

@@ -1,3 +1,4 @@
+-- Made by `./answers` from src/picture.rt: when that changes make this one anew.
 use Rattle.bitstream_io.proofs.CallerLemmas.{next_own_read as next, exit_own_read as exit}
 use Rattle.bitstream_io.proofs.OwnSteps.{own_end}
 use Rattle.bitstream_callers.proofs.picture.PictureSizeFromBitStream.from_reader.Goals as goal

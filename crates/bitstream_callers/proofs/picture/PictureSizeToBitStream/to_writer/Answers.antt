@@ -1,3 +1,4 @@
+-- Made by `./answers` from src/picture.rt: when that changes make this one anew.
 use Rattle.bitstream_io.proofs.OwnLemmas.{plainly_written}
 use Rattle.bitstream_io.proofs.WriteSteps.{next_write, stop_write}
 use Rattle.bitstream_callers.proofs.picture.PictureSizeToBitStream.to_writer.Goals as goal

@@ -1,3 +1,4 @@
+-- Made by `./answers` from src/picture.rt: when that changes make this one anew.
 use Rattle.bitstream_io.proofs.OwnLemmas.{is_error, plainly_written, written_plainly}
 use Rattle.bitstream_io.proofs.WriteParts.{all_append, all_stop}
 use Rattle.bitstream_io.proofs.WriteSteps.{next_write, stop_write}

@@ -1,3 +1,4 @@
+-- Made by `./format` from formats/primary_header.fields: edit that file and make this one anew.
 use Rattle.bitstream_callers.specs.PrimaryHeader.{primary_header_writes}
 use Rattle.bitstream_callers.proofs.PrimaryHeaderLemmas.{primary_header_packs, told}
 use Rattle.std.proofs.Common.{◌∙◌, refl, arith, rules}

@@ -1,3 +1,4 @@
+-- Made by `./format` from formats/primary_header.fields: edit that file and make this one anew.
 use Rattle.bitstream_callers.specs.PrimaryHeader.{primary_header_entry, primary_header_at, const_at_0}
 use Rattle.bitstream_callers.proofs.PrimaryHeaderLemmas.{primary_header_packs, told}
 use Rattle.bitstream_callers.specs.declared.primary_header.PrimaryHeaderError.TheVariants.{WrongVersion}

@@ -1,3 +1,4 @@
+-- Made by `./format` from formats/primary_header.fields: edit that file and make this one anew.
 use Rattle.bitstream_io.proofs.CallerLemmas.{plainly_written}
 use Rattle.bitstream_callers.proofs.primary_header.PrimaryHeaderToBitStream.to_writer.Goals as goal
 

@@ -1,3 +1,4 @@
+-- Made by `./format` from formats/rtp_header.fields: edit that file and make this one anew.
 use Rattle.bitstream_callers.specs.RtpHeader.{rtp_header_writes}
 use Rattle.bitstream_callers.proofs.RtpHeaderLemmas.{rtp_header_packs, told}
 use Rattle.std.proofs.Common.{◌∙◌, refl, rules}

@@ -1,3 +1,4 @@
+-- Made by `./format` from formats/rtp_header.fields: edit that file and make this one anew.
 use Rattle.bitstream_callers.specs.RtpHeader.{rtp_header_entry, becomes_rtp_header}
 use Rattle.std.proofs.Common.{◌∙◌, refl, ap, subst}
 use Rattle.bitstream_io.proofs.CallerLemmas.{inl, inr, is_error, slice_ends, own_grown_answered}

@@ -1,3 +1,4 @@
+-- Made by `./format` from formats/rtp_header.fields: edit that file and make this one anew.
 use Rattle.bitstream_callers.proofs.rtp_header.RtpHeaderFromBitStreamUsing.from_reader.Goals as goal
 
 pub returns : goal.returns

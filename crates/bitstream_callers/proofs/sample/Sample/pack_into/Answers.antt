@@ -1,3 +1,4 @@
+-- Made by `./format` from formats/sample.fields: edit that file and make this one anew.
 use Rattle.bitstream_callers.specs.Sample.{sample_writes}
 use Rattle.bitstream_callers.proofs.SampleLemmas.{sample_packs, told}
 use Rattle.std.proofs.Common.{◌∙◌, refl, arith, rules}

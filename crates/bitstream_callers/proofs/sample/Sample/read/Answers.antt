@@ -1,3 +1,4 @@
+-- Made by `./format` from formats/sample.fields: edit that file and make this one anew.
 use borrow.Author.Rules.{sfits_of}
 use Rattle.bitstream_io.proofs.ReadSteps.{next_signed_read}
 use Rattle.bitstream_io.proofs.ReadsLemmas.{Reads-chain-ok as next, Reads-gives, exit}

@@ -1,3 +1,4 @@
+-- Made by `./format` from formats/adts_header.fields: edit that file and make this one anew.
 use Rattle.bitstream_formats.specs.AdtsHeader.{adts_header_writes}
 use Rattle.bitstream_formats.proofs.AdtsHeaderLemmas.{adts_header_packs, told}
 use Rattle.std.proofs.Common.{◌∙◌, refl, arith, rules}

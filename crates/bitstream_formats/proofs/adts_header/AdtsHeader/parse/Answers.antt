@@ -1,3 +1,4 @@
+-- Made by `./format` from formats/adts_header.fields: edit that file and make this one anew.
 use Rattle.bitstream_formats.specs.AdtsHeader.{adts_header_entry, adts_header_at, const_at_0, const_at_13}
 use Rattle.bitstream_formats.proofs.AdtsHeaderLemmas.{adts_header_packs, told}
 use Rattle.bitstream_formats.specs.declared.adts_header.AdtsHeaderError.TheVariants.{NoSync, UnknownLayer}

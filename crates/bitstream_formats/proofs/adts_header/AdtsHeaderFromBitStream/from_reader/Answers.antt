@@ -1,3 +1,4 @@
+-- Made by `./format` from formats/adts_header.fields: edit that file and make this one anew.
 use Rattle.bitstream_formats.proofs.adts_header.AdtsHeaderFromBitStream.from_reader.Goals as goal
 
 pub returns : goal.returns

@@ -1,3 +1,4 @@
+-- Made by `./format` from formats/stream_info.fields: edit that file and make this one anew.
 use Rattle.bitstream_formats.specs.StreamInfo.{stream_info_writes}
 use Rattle.bitstream_formats.proofs.StreamInfoLemmas.{stream_info_packs, told}
 use Rattle.std.proofs.Common.{◌∙◌, refl, arith, rules}

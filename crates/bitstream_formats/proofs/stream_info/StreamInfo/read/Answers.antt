@@ -1,3 +1,4 @@
+-- Made by `./format` from formats/stream_info.fields: edit that file and make this one anew.
 use Rattle.bitstream_io.proofs.ReadsLemmas.{Reads-chain-ok as next, Reads-gives, exit}
 use Rattle.bitstream_formats.proofs.stream_info.StreamInfo.read.Goals as goal
 

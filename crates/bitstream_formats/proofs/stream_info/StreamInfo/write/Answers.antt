@@ -1,3 +1,4 @@
+-- Made by `./format` from formats/stream_info.fields: edit that file and make this one anew.
 use Rattle.bitstream_io.proofs.WriteParts.{all_none}
 use Rattle.bitstream_io.proofs.WriteSteps.{next_call, next_write, stop_call, stop_write}
 use Rattle.bitstream_formats.proofs.stream_info.StreamInfo.write.Goals as goal

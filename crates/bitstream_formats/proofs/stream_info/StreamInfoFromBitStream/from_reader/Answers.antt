@@ -1,3 +1,4 @@
+-- Made by `./format` from formats/stream_info.fields: edit that file and make this one anew.
 use Rattle.bitstream_io.proofs.CallerLemmas.{plainly_read}
 use Rattle.bitstream_formats.proofs.stream_info.StreamInfoFromBitStream.from_reader.Goals as goal
 

@@ -1,3 +1,4 @@
+-- Made by `./format` from formats/stream_info.fields: edit that file and make this one anew.
 use Rattle.bitstream_io.proofs.CallerLemmas.{plainly_written}
 use Rattle.bitstream_formats.proofs.stream_info.StreamInfoToBitStream.to_writer.Goals as goal
 

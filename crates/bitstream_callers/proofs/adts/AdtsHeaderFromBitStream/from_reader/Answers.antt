@@ -1,4 +1,0 @@
-use Rattle.bitstream_callers.proofs.adts.AdtsHeaderFromBitStream.from_reader.Goals as goal
-
-pub returns : goal.returns
-returns g c = record { reads = c.read.ensures }

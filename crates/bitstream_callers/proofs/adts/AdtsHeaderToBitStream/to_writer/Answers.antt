@@ -1,5 +1,0 @@
-use Rattle.bitstream_io.proofs.CallerLemmas.{plainly_written}
-use Rattle.bitstream_callers.proofs.adts.AdtsHeaderToBitStream.to_writer.Goals as goal
-
-pub returns : goal.returns
-returns g c = record { writes = plainly_written _ _ _ _ _ c.write.ensures }

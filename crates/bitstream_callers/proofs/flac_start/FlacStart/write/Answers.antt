@@ -1,0 +1,16 @@
+-- Made by `./format` from formats/flac_start.fields: edit that file and make this one anew.
+use Rattle.bitstream_io.proofs.OwnLemmas.{is_error}
+use Rattle.bitstream_io.proofs.WriteParts.{all_append, all_none, all_stop}
+use Rattle.bitstream_io.proofs.WriteSteps.{next_call, stop_call}
+use Rattle.bitstream_callers.proofs.flac_start.FlacStart.write.Goals as goal
+
+pub returns-in_err-write_const : goal.returns-in_err-write_const
+returns-in_err-write_const g c = stop_call _ _ _ _ _ _ _ c.from_residual.ensures.1 c.in_err-write_const.ensures.writes
+
+pub returns-in_err-write : goal.returns-in_err-write
+returns-in_err-write g c = next_call _ _ _ _ _ _ _ c.in_ok-write_const.ensures.writes (all_stop _ _ _ _ _ _ _ (is_error
+    _ _ c.from_residual-in_err-write.ensures.1) c.in_err-write.ensures)
+
+pub returns : goal.returns
+returns g c = next_call _ _ _ _ _ _ _ c.in_ok-write_const.ensures.writes (all_append _ _ _ _ _ _ _ c.in_ok-write.ensures
+    (all_none _ _))

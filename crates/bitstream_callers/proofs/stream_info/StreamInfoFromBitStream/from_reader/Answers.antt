@@ -1,5 +1,0 @@
-use Rattle.bitstream_io.proofs.CallerLemmas.{plainly_read}
-use Rattle.bitstream_callers.proofs.stream_info.StreamInfoFromBitStream.from_reader.Goals as goal
-
-pub returns : goal.returns
-returns g c = record { reads = plainly_read c.read.ensures }

@@ -1,8 +1,0 @@
-use Rattle.bitstream_callers.proofs.StreamInfoLemmas.{stream_info_goes, stream_info_packs}
-use Rattle.bitstream_callers.proofs.stream_info.stream_info_goes_back.Goals as goal
-
-pub returns-clause-back : goal.returns-clause-back
-returns-clause-back c = λ o value at from more fits. (stream_info_goes o value fits).back at from more
-
-pub returns-clause-size : goal.returns-clause-size
-returns-clause-size c = λ o value at fits. (stream_info_packs o value fits).size at

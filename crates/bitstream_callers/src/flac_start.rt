@@ -1,0 +1,155 @@
+//! The start of a FLAC file, up to the contents of its first block.
+//!
+//! Made by `./format` from formats/flac_start.fields: edit that file and make this one anew.
+ghost use Rattle.bitstream_callers.specs.FlacStart.{flac_start_entry, flac_start_writes, flac_start_bits, flac_start_at, Fits, becomes_flac_start, const_at_0};
+ghost use Rattle.bitstream_callers.specs.declared.flac_start.FlacStart.{FlacStart};
+ghost use Rattle.bitstream_callers.specs.declared.flac_start.FlacStartError.{FlacStartError};
+ghost use Rattle.bitstream_callers.specs.declared.flac_start.FlacStartError.TheVariants.{Reader, NoFlac};
+ghost use Rattle.std.specs.Prelude.{◌≡◌, ◌≢◌, ◌<◌, ◌≤◌, ◌++◌, ℕ, Bool, List, Ok, Err, length, IfOk, IsOk};
+ghost use Rattle.bitstream_io.specs.Callers.{Takes, EndOfInput, Order, High, bits, write_run, ReadsOwn, OwnAnswer, WritesAll, sure_answer, same_error};
+ghost use Rattle.bitstream_io.specs.SliceMut.{written_bytes};
+
+use crate::block_header::BlockHeader;
+use bitstream_io::{
+    BE, BitRead, BitReadExt, BitReader, BitWrite, BitWriteExt, BitWriter, Bits, Error,
+    FromBitStream, SliceMut, ToBitStream,
+};
+
+/// The start of a FLAC file, up to the contents of its first block.
+///
+/// ```text
+///  0                   1                   2                   3
+///  0 1 2 3 4 5 6 7 8 9 0 1 2 3 4 5 6 7 8 9 0 1 2 3 4 5 6 7 8 9 0 1
+/// +-+-+-+-+-+-+-+-+-+-+-+-+-+-+-+-+-+-+-+-+-+-+-+-+-+-+-+-+-+-+-+-+
+/// |                          =1716281667                          |
+/// +-+-+-+-+-+-+-+-+-+-+-+-+-+-+-+-+-+-+-+-+-+-+-+-+-+-+-+-+-+-+-+-+
+/// |                             block                             |
+/// +-+-+-+-+-+-+-+-+-+-+-+-+-+-+-+-+-+-+-+-+-+-+-+-+-+-+-+-+-+-+-+-+
+/// ```
+#[derive(Clone, Copy, Debug, PartialEq)]
+pub struct FlacStart {
+    /// The header of the first block.
+    pub block: BlockHeader,
+}
+
+/// Why a `FlacStart` is not read.
+#[derive(Debug, Drop, thiserror::Error)]
+pub enum FlacStartError {
+    /// An error of the reader.
+    #[error("{0}")]
+    Reader(Error),
+    /// The file does not begin with `fLaC`.
+    #[error("the file does not begin with `fLaC`")]
+    NoFlac,
+}
+
+impl From<Error> for FlacStartError {
+    ghost from_gives = { becomes_flac_start };
+
+    fn from(error: Error) -> FlacStartError {
+        FlacStartError::Reader(error)
+    }
+}
+
+impl FlacStart {
+    /// Reads the fields in order.
+    ///
+    /// # Errors
+    ///
+    /// `NoFlac`, behind the bits that say so.
+    /// Else those of the reader: after each of them it has failed.
+    pub fn read<R: BitRead>(reader: &mut R) -> Result<FlacStart, FlacStartError>
+        ensures { ReadsOwn R.source becomes_flac_start (flac_start_entry R.source.order) reader.old result reader.new }
+    {
+        reader.read_const::<Bits<32>, Bits<1716281667>, FlacStartError>(FlacStartError::NoFlac)?;
+        let block = BlockHeader::read(reader)?;
+        Ok(FlacStart { block })
+    }
+
+    /// Returns what bytes begin with.
+    ///
+    /// # Errors
+    ///
+    /// `NoFlac`, `Reader(EndOfInput)` for fewer than 8 bytes.
+    pub fn parse(packet: &[u8]) -> Result<FlacStart, FlacStartError>
+        ensures answer { OwnAnswer becomes_flac_start (λ answer. answer)
+            (sure_answer ((flac_start_entry High).reads 0 (bits High packet.now))) result }
+        ensures there { 8 ≤ length packet.now → const_at_0 (bits High packet.now) ≡ 1716281667
+            → result ≡ Ok (flac_start_at (bits High packet.now)) }
+        ensures short { length packet.now < 8
+            → (4 ≤ length packet.now → const_at_0 (bits High packet.now) ≡ 1716281667)
+            → result ≡ Err (FlacStartError.Reader EndOfInput) }
+        ensures no_flac { 4 ≤ length packet.now → const_at_0 (bits High packet.now) ≢ 1716281667
+            → result ≡ Err (FlacStartError.NoFlac) }
+        ensures back { (value : FlacStart) (more : List Bool) → Fits value
+            → bits High packet.now ≡ flac_start_bits value ++ more → result ≡ Ok value }
+    {
+        flac_start_goes_back();
+        FlacStart::read(&mut BitReader::<_, BE>::over(packet))
+    }
+
+    /// Writes the fields in order.
+    ///
+    /// # Errors
+    ///
+    /// `Checked` for a field that does not fit its bits. The fields before it are written then.
+    /// Else those of the sink.
+    pub fn write<W: BitWrite>(&self, writer: &mut W) -> Result<(), Error>
+        ensures { WritesAll W.sink (flac_start_writes W.sink.order self.now) writer.old result writer.new }
+    {
+        writer.write_const::<Bits<32>, Bits<1716281667>>()?;
+        self.block.write(writer)?;
+        Ok(())
+    }
+
+    /// Writes the fields to the first bytes of a buffer, and returns what was written. No write
+    /// fails if each field fits its bits and the buffer has 8 bytes. No memory is asked for.
+    ///
+    /// # Errors
+    ///
+    /// `Checked` for a field that does not fit its bits, or `Stream(WriteZero)` if the buffer is too
+    /// short.
+    pub fn pack_into<'a>(&self, buffer: &'a mut [u8]) -> Result<SliceMut<'a>, Error>
+        ensures packed { IfOk result (λ packed. bits High (written_bytes packed) ≡ flac_start_bits self.now) }
+        ensures room { Fits self.now → 8 ≤ length buffer.old → IsOk result }
+    {
+        let mut writer = BitWriter::<_, BE>::over(buffer);
+        self.write(&mut writer)?;
+        writer.byte_align()?;
+        Ok(writer.into_writer())
+    }
+}
+
+impl FromBitStream for FlacStart {
+    type Error = FlacStartError;
+
+    ghost becomes = { becomes_flac_start };
+
+    ghost reads = { flac_start_entry };
+
+    fn from_reader<R: BitRead>(reader: &mut R) -> Result<FlacStart, FlacStartError> {
+        FlacStart::read(reader)
+    }
+}
+
+impl ToBitStream for FlacStart {
+    type Error = Error;
+
+    ghost becomes = { same_error };
+
+    ghost writes = { flac_start_writes };
+
+    fn to_writer<W: BitWrite>(&self, writer: &mut W) -> Result<(), Error> {
+        self.write(writer)
+    }
+}
+
+/// What fits its bits is read back as it was written, in either order of bits, wherever it stands.
+/// The read takes the bits that were written, and no more: 64 bits.
+pub fn flac_start_goes_back()
+    ensures back { (o : Order) (value : FlacStart) (at from : ℕ) (more : List Bool) → Fits value
+        → let written = write_run (flac_start_writes o value) at in
+        (flac_start_entry o).reads from (written ++ more) ≡ Takes (length written) (Ok (Ok value)) }
+    ensures size { (o : Order) (value : FlacStart) (at : ℕ) → Fits value
+        → length (write_run (flac_start_writes o value) at) ≡ 64 }
+{}
