@@ -1,20 +1,25 @@
 -- The references through which a stream is reached.
-use Rattle.std.specs.Prelude.{ℕ, List, [], ◌∷◌, Option, Some, None}
+use Rattle.std.specs.Prelude.{ℕ, List, [], ◌∷◌, length, Option, Some, None}
 use Rattle.std.specs.Borrow.{GName}
 
--- A reference through which a stream is reached: its name, and the number of bytes that it leads to, if they are a
--- slice's. No request changes either.
+-- A reference through which a stream is reached: its name and, if it leads to a slice, the bytes that the slice held
+-- when the stream was made. No request changes either.
 pub record Reference : Type 0 where
   pub name : GName
-  pub len : Option ℕ
+  pub was : Option (List ℕ)
 
 -- a reference of this name, not to a slice
 abbrev pub by_name : GName → Reference
-by_name name = record { name = name; len = None }
+by_name name = record { name = name; was = None }
 
--- a reference of this name to a slice of so many bytes
-abbrev pub to_slice : GName → ℕ → Reference
-to_slice name len = record { name = name; len = Some len }
+-- a reference of this name to a slice that held these bytes
+abbrev pub to_slice : GName → List ℕ → Reference
+to_slice name was = record { name = name; was = Some was }
+
+-- the number of bytes, if they are known
+abbrev pub count_told : Option (List ℕ) → Option ℕ
+count_told (Some bytes) = Some (length bytes)
+count_told None = None
 
 -- the first of two numbers that is told
 abbrev pub first_told : Option ℕ → Option ℕ → Option ℕ
@@ -24,4 +29,4 @@ first_told None other = other
 -- how many bytes a stream can hold that is reached through these references: as many as the slice to which one leads
 abbrev pub capacity_of : List Reference → Option ℕ
 capacity_of [] = None
-capacity_of (reference ∷ others) = first_told reference.len (capacity_of others)
+capacity_of (reference ∷ others) = first_told (count_told reference.was) (capacity_of others)

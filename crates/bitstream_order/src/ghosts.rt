@@ -1,4 +1,4 @@
-//! What only contracts see: a count, and the refusals of a stream. They take no memory.
+//! What only contracts see: a count, the refusals of a stream, and bytes as they were. They take no memory.
 ghost use Rattle.std.specs.Prelude.{◌≡◌, ℕ, ◌+◌, ◌*◌, List, [], ◌∷◌};
 ghost use Rattle.std.specs.Borrow.{ftrue};
 ghost use Rattle.bitstream_order.specs.Refusal.{Refusal};
@@ -100,4 +100,55 @@ impl GhostRefusals {
         ghost by: { Refusal }
         ensures { self.new.list ≡ by ∷ self.old.list }
     {}
+}
+
+/// The bytes that a slice held, which only contracts see.
+#[derive(Drop)]
+pub struct GhostBytes {
+    seal: (),
+    pub ghost list: { List ℕ },
+}
+
+impl Model for GhostBytes {
+    ghost also_owns = { λ _. ftrue };
+}
+
+// A struct with `also_owns` is neither `Send` nor `Sync` by itself. This one owns nothing.
+unsafe impl Send for GhostBytes {}
+
+unsafe impl Sync for GhostBytes {}
+
+const _: () = prove!(size_of::<GhostBytes>() == 0);
+
+impl GhostBytes {
+    /// Returns an empty list.
+    fn new() -> GhostBytes
+        ensures { result.list ≡ [] }
+    {
+        GhostBytes { seal: () }
+    }
+
+    /// Does nothing at run time. The caller's proof says what the list becomes.
+    fn set(&mut self, _n: u64)
+        ghost by: { List ℕ }
+        ensures { self.new.list ≡ by }
+    {}
+
+    /// Does nothing at run time. The list becomes the bytes of the slice.
+    fn set_to(&mut self, _bytes: &[u8])
+        ghost by: { List ℕ }
+        requires { by ≡ _bytes.now }
+        ensures { self.new.list ≡ by }
+    {
+        self.set(0)
+    }
+
+    /// Returns the bytes of a slice as they are now.
+    pub(crate) fn of(bytes: &[u8]) -> GhostBytes
+        ensures { result.list ≡ bytes.now }
+    {
+        let mut list = GhostBytes::new();
+        list.set_to(bytes);
+        list
+    }
 }

@@ -1,5 +1,5 @@
 //! Readers and writers over bytes in memory.
-ghost use Rattle.std.specs.Prelude.{◌≡◌, ◌∷◌, [], length, Some};
+ghost use Rattle.std.specs.Prelude.{◌≡◌, ◌∷◌, [], Some};
 ghost use Rattle.bitstream_order.specs.Reference.{to_slice};
 ghost use Rattle.bitstream_order.specs.Port.{new_port_state};
 
@@ -56,7 +56,8 @@ impl<'a, E: Endianness> BitWriter<SliceMut<'a>, E> {
     ghost use Rattle.bitstream_order.specs.Streaming.SliceMut.{slice_mut_stream};
     ghost use Rattle.bitstream_stream.specs.Writing.Writer.{writer_state, new_writer_state};
 
-    /// Returns a writer to bytes in memory, from their front, as a [`SliceMut`].
+    /// Returns a writer to bytes in memory, from their front, as a [`SliceMut`]. It changes none of them
+    /// yet.
     ///
     /// # Examples
     ///
@@ -73,7 +74,7 @@ impl<'a, E: Endianness> BitWriter<SliceMut<'a>, E> {
     /// ```
     pub fn over(bytes: &'a mut [u8]) -> BitWriter<SliceMut<'a>, E>
         ensures { writer_state slice_mut_stream result
-            ≡ new_writer_state (Some []) (to_slice bytes.entry.ghost_name (length bytes.old) ∷ []) }
+            ≡ new_writer_state (Some []) (to_slice bytes.entry.ghost_name bytes.old ∷ []) }
     {
         BitWriter::new(SliceMut::new(bytes))
     }
@@ -83,10 +84,11 @@ impl<'a, E: Endianness> ByteWriter<SliceMut<'a>, E> {
     ghost use Rattle.bitstream_order.specs.Streaming.SliceMut.{slice_mut_stream};
     ghost use Rattle.bitstream_stream.specs.WholeBytes.ByteWriter.{byte_writer_state};
 
-    /// Returns a writer of whole bytes to bytes in memory, from their front, as a [`SliceMut`].
+    /// Returns a writer of whole bytes to bytes in memory, from their front, as a [`SliceMut`]. It changes
+    /// none of them yet.
     pub fn over(bytes: &'a mut [u8]) -> ByteWriter<SliceMut<'a>, E>
         ensures { byte_writer_state slice_mut_stream result
-            ≡ new_port_state (Some []) (to_slice bytes.entry.ghost_name (length bytes.old) ∷ []) }
+            ≡ new_port_state (Some []) (to_slice bytes.entry.ghost_name bytes.old ∷ []) }
     {
         ByteWriter::new(SliceMut::new(bytes))
     }

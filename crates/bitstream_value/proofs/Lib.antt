@@ -13,6 +13,7 @@ pub mod WalkLemmas
 pub mod WriteSteps
 pub mod OwnLemmas
 pub mod LengthLemmas
+pub mod PackIntoLemmas
 pub mod ByteTypeLemmas
 pub mod OwnSteps
 pub mod ByteSteps

@@ -14,3 +14,4 @@ pub mod ByteTypes
 pub mod Grows
 pub mod ByteGrows
 pub mod SymbolWords
+pub mod PackInto

@@ -10,6 +10,7 @@
 //! - [`huffman`]: prefix codes: each symbol is a word of bits, and no word is the beginning of another
 //! - [`integer`]: integers, `bool`, `NonZero` types and arrays as bits
 //! - [`laws`]: laws of prefix codes, and of the lengths of users' types
+//! - [`pack`]: values that are packed into a buffer
 //! - [`parse`]: types whose values are read from bits
 //! - [`read`]: calls that read values of any type
 //! - [`write`]: calls that write values of any type
@@ -27,6 +28,7 @@ pub mod checked;
 pub mod huffman;
 pub mod integer;
 pub mod laws;
+pub mod pack;
 pub mod parse;
 pub mod read;
 mod refuse;

@@ -1,5 +1,5 @@
 -- How bytes in memory are written.
-use Rattle.std.specs.Prelude.{◌≡◌, ℕ, ◌+◌, ◌<◌, List, [], ◌∷◌, length, take, Option, Some}
+use Rattle.std.specs.Prelude.{◌≡◌, ℕ, ◌+◌, ◌<◌, List, [], ◌∷◌, ◌++◌, length, take, drop, Option, Some}
 use Rattle.std.specs.Borrow.{GName}
 use Rattle.std.specs.declared.io.ErrorKind.{ErrorKind}
 use Rattle.std.specs.declared.io.ErrorKind.TheVariants.{WriteZero}
@@ -19,13 +19,27 @@ written_contents s = Some (written_bytes s)
 abbrev pub slice_capacity : SliceMut → ℕ
 slice_capacity s = length s.bytes.now
 
+-- all bytes of the slice, written or free
+abbrev pub slice_bytes : SliceMut → List ℕ
+slice_bytes s = s.bytes.now
+
+-- the bytes of the slice as they were when the target was made
+abbrev pub slice_was : SliceMut → List ℕ
+slice_was s = s.was.list
+
 -- the name of the reference to the bytes
 abbrev pub slice_name : SliceMut → GName
 slice_name s = s.bytes.ghost_name
 
--- the reference to the bytes
+-- the reference to the bytes, with what they were
 abbrev pub slice_reference : SliceMut → Reference
-slice_reference s = to_slice (slice_name s) (slice_capacity s)
+slice_reference s = to_slice (slice_name s) (slice_was s)
+
+-- A target that reaches a slice by the reference of this name: the bytes that were written are the slice's first ones,
+-- and the others are as they were.
+pub record HoldsFirst (name : GName) (was : List ℕ) (s : SliceMut) : Type 0 where
+  pub reached : slice_name s ≡ name
+  pub bytes : slice_bytes s ≡ written_bytes s ++ drop (length (written_bytes s)) was
 
 -- a request is refused exactly if fewer bytes are free than it has, as no room, and changes nothing
 abbrev pub slice_refuses_write : SliceMut → ℕ → ErrorKind → SliceMut → Type 0

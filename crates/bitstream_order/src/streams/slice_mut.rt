@@ -1,13 +1,15 @@
 //! Bytes in memory, as a target that refuses a write only if it has no room for it.
-ghost use Rattle.std.specs.Prelude.{◌≡◌, ◌-◌, ◌≤◌, [], length};
+ghost use Rattle.std.specs.Prelude.{◌≡◌, ◌-◌, ◌≤◌, [], drop, length};
 
+use crate::ghosts::GhostBytes;
 use crate::kernels::copy::copy;
 use crate::streams::target::Target;
 use std::io;
 use std::io::ErrorKind;
 
-/// Bytes in memory, which are written from their front. A request is refused exactly if fewer bytes
-/// are free than it has: as `WriteZero`, and without writing any. So a program packs into a buffer of
+/// Bytes in memory, which are written from their front. Bytes that are not written yet stay as they
+/// were. A request is refused exactly if fewer bytes are free than it has: as `WriteZero`, and without
+/// writing any. So a program packs into a buffer of
 /// its own, with no allocator, and its writer fails for want of room alone. (Of a `&mut [u8]` that is
 /// written to as a stream std does not tell this.)
 ///
@@ -29,11 +31,15 @@ pub struct SliceMut<'a> {
     bytes: &'a mut [u8],
     // How many of them are written.
     written: usize,
+    // The bytes as they were at first.
+    was: GhostBytes,
     ghost room: { written ≤ length bytes.now },
+    ghost len: { length bytes.now ≡ length was.list },
+    ghost free: { drop written bytes.now ≡ drop written was.list },
 }
 
 impl<'a> SliceMut<'a> {
-    ghost use Rattle.bitstream_order.specs.Streaming.SliceMut.{slice_capacity, slice_name, written_bytes};
+    ghost use Rattle.bitstream_order.specs.Streaming.SliceMut.{slice_bytes, slice_capacity, slice_name, slice_was, written_bytes};
 
     /// Returns a target that writes to these bytes, from their front.
     pub fn new(bytes: &'a mut [u8]) -> SliceMut<'a>
@@ -41,10 +47,19 @@ impl<'a> SliceMut<'a> {
         ensures written { written_bytes result ≡ [] }
         // It can hold as many bytes as the slice has.
         ensures capacity { slice_capacity result ≡ length bytes.old }
+        // The bytes of the slice are as they were.
+        ensures bytes { slice_bytes result ≡ bytes.old }
+        // The target knows them.
+        ensures was { slice_was result ≡ bytes.old }
         // It reaches the bytes by this very reference.
         ensures name { slice_name result ≡ bytes.entry.ghost_name }
     {
-        SliceMut { bytes, written: 0 }
+        let was = GhostBytes::of(bytes);
+        SliceMut {
+            bytes,
+            written: 0,
+            was,
+        }
     }
 
     /// Returns the bytes that were written.

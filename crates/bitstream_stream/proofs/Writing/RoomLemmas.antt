@@ -161,21 +161,21 @@ run_before (e ∷ es) n =
       length-append x (write_run (es ++ align ∷ []) (n + length x)),
     )
 
--- a new writer of so many bytes has room for their bits
-new_room : (s : WriterState) (name : GName) (len n : ℕ) → s ≡ new_writer_state (Some []) (to_slice name len ∷ [])
-    → n ≤ 8 * len → HasRoom s n
-new_room s name len n fresh room = rw fresh (record {
+-- a new writer to a slice has room for the bits of its bytes
+new_room : (s : WriterState) (name : GName) (was : List ℕ) (n : ℕ)
+    → s ≡ new_writer_state (Some []) (to_slice name was ∷ []) → n ≤ 8 * length was → HasRoom s n
+new_room s name was n fresh room = rw fresh (record {
   held = [];
-  most = len;
+  most = length was;
   told = refl;
   capacity = refl;
   room = omega arith;
 })
 
-module _ {E : Type 0} (o : Order) (es : List WriteEntry) (a : BitWriter SliceMut E) {name : GName} {len : ℕ}
+module _ {E : Type 0} (o : Order) (es : List WriteEntry) (a : BitWriter SliceMut E) {name : GName} {was : List ℕ}
     (fresh : writer_state slice_mut_stream a
-    ≡ new_writer_state (Some []) (to_slice name len ∷ [])) (all : AllAccepted es 0)
-    (room : length (write_run (es ++ align ∷ []) 0) ≤ 8 * len) where
+    ≡ new_writer_state (Some []) (to_slice name was ∷ [])) (all : AllAccepted es 0)
+    (room : length (write_run (es ++ align ∷ []) 0) ≤ 8 * length was) where
   abbrev slice_sink : Sink (BitWriter SliceMut E)
   slice_sink = writer_sink slice_mut_stream o
 
@@ -183,13 +183,13 @@ module _ {E : Type 0} (o : Order) (es : List WriteEntry) (a : BitWriter SliceMut
   started = ap (λ (s : WriterState). 8 * s.port.sent + s.queued) fresh
 
   calls_done : (fs : List WriteEntry) (b : BitWriter SliceMut E) (r : Result (Unit {0}) Error) → AllAccepted fs 0
-      → length (write_run fs 0) ≤ 8 * len → WritesAll slice_sink fs a r b → r ≡ Ok tt
+      → length (write_run fs 0) ≤ 8 * length was → WritesAll slice_sink fs a r b → r ≡ Ok tt
   calls_done fs b r good few h =
       room-all (writer_state slice_mut_stream)
       (MayRefuseWrite slice_mut_stream) o fs a b r slice_lacks_room
       (ap (λ (s : WriterState). s.failed) fresh) (subst (AllAccepted fs) (sym started) good)
       (subst (λ n. HasRoom (writer_state slice_mut_stream a)
-      (length (write_run fs n))) (sym started) (new_room _ name len (length (write_run fs 0)) fresh few)) h
+      (length (write_run fs n))) (sym started) (new_room _ name was (length (write_run fs 0)) fresh few)) h
 
   -- accepted calls on a new writer, over bytes with room for them and for an alignment behind them, are done
   pub calls_with_room : (b : BitWriter SliceMut E) (r : Result (Unit {0}) Error) → WritesAll slice_sink es a r b

@@ -1,0 +1,110 @@
+//! Values that are packed into a buffer.
+ghost use Rattle.std.specs.Prelude.{◌≡◌, ◌∷◌, ◌++◌, [], Ok};
+ghost use Rattle.bitstream_count.specs.declared.error.Error.{Error};
+ghost use Rattle.bitstream_stream.specs.Writing.Sink.{WritesAll};
+ghost use Rattle.bitstream_stream.specs.Writing.WriteTable.{align};
+ghost use Rattle.bitstream_value.specs.Lengths.{run_length};
+ghost use Rattle.bitstream_value.specs.PackInto.{PacksInto, error_or};
+
+use crate::build::ToBitStream;
+use bitstream_count::error::Error;
+use bitstream_order::order::Endianness;
+use bitstream_order::streams::slice_mut::SliceMut;
+use bitstream_order::streams::target::Target;
+use bitstream_stream::write::BitWrite;
+use bitstream_stream::write::writer::BitWriter;
+use std::io;
+
+/// A target that takes all bytes and keeps none.
+#[derive(Drop)]
+struct Discard {}
+
+impl Target for Discard {
+    ghost use Rattle.bitstream_value.specs.PackInto.{discard_stream};
+
+    ghost stream = { discard_stream };
+
+    fn write_all(&mut self, _bytes: &[u8]) -> io::Result<()> {
+        Ok(())
+    }
+
+    fn flush(&mut self) -> io::Result<()> {
+        Ok(())
+    }
+}
+
+/// Writes a value, and then zeros up to a whole byte.
+#[inline(always)]
+fn write_whole<T: ToBitStream<Error = Error>, W: BitWrite>(
+    value: &T,
+    writer: &mut W,
+) -> Result<(), Error>
+    requires same { (error own : Error) → T.becomes error own → own ≡ error }
+    requires plain { T.answers value.now ≡ Ok tt }
+    ensures writes { WritesAll W.sink (T.writes W.sink.order value.now ++ align ∷ [])
+        writer.old result writer.new }
+{
+    value.to_writer(writer)?;
+    writer.byte_align()
+}
+
+/// Returns the first error that a write of the value has where there is room for all bits, or the other
+/// error if there is none.
+#[inline(never)]
+fn misfit_or<E: Endianness, T: ToBitStream<Error = Error>>(value: &T, other: Error) -> Error
+    requires same { (error own : Error) → T.becomes error own → own ≡ error }
+    requires plain { T.answers value.now ≡ Ok tt }
+    ensures { result ≡ error_or (run_length (T.writes E.order value.now) 0) other }
+{
+    let mut writer = BitWriter::<_, E>::new(Discard {});
+    match value.to_writer(&mut writer) {
+        Ok(()) => other,
+        Err(misfit) => misfit,
+    }
+}
+
+/// Writes a value to the first bytes of a buffer, and zeros up to a whole byte. The other bytes of the
+/// buffer stay as they were. No memory is asked for.
+///
+/// # Errors
+///
+/// The first error that a part of the value has, as `Checked` for a number that does not fit its bits, no
+/// matter how long the buffer is. If all parts fit, `Stream(WriteZero)` if the buffer is too short. Bytes
+/// of the buffer may be written then.
+///
+/// # Examples
+///
+/// ```
+/// use bitstream_io::{BE, BitWrite, BitWriteExt, Bits, Error, ToBitStream, pack_into};
+///
+/// struct Version(u8);
+///
+/// impl ToBitStream for Version {
+///     type Error = Error;
+///
+///     fn to_writer<W: BitWrite>(&self, writer: &mut W) -> Result<(), Error> {
+///         writer.write::<Bits<3>, u8>(self.0)
+///     }
+/// }
+///
+/// let mut buffer = [0u8; 4];
+/// let packed = pack_into::<BE, _>(&Version(5), &mut buffer)?;
+/// assert_eq!(rt; packed.as_slice(), [0xa0].as_slice());
+/// ```
+#[inline(always)]
+pub fn pack_into<'a, E: Endianness, T: ToBitStream<Error = Error>>(
+    value: &T,
+    buffer: &'a mut [u8],
+) -> Result<SliceMut<'a>, Error>
+    // The type's errors are those of the sink.
+    requires same { (error own : Error) → T.becomes error own → own ≡ error }
+    // It has none of its own.
+    requires plain { T.answers value.now ≡ Ok tt }
+    ensures { PacksInto E.order (T.writes E.order value.now) buffer.entry.ghost_name buffer.old result }
+{
+    let mut writer = BitWriter::<_, E>::over(buffer);
+    match write_whole(value, &mut writer) {
+        Ok(()) => Ok(writer.into_writer()),
+        Err(error) => Err(misfit_or::<E, T>(value, error)),
+    }
+}
