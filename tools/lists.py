@@ -32,6 +32,9 @@ class Count(Line):
     def fits(self):
         return [(self.name, f"{self.length} < 2 ^ {self.bits}")]
 
+    def accepted(self, term):
+        return [f"unsigned-accepted o 64 {self.bits} ({self.length}) _ refl ({term})"]
+
     def back(self, behind):
         return f"unsigned-back o {self.bits} _ _ 64 ({self.length}) _ refl fits.{self.name} ({behind})"
 
@@ -229,6 +232,9 @@ class Numbers(Listed):
     def fits(self):
         return [(self.name, f"All (λ x. x < 2 ^ {self.wide}) {self.value}")]
 
+    def accepted(self, term):
+        return [f"items-accepted o {self.width} {self.wide} {self.value} _ refl ({term})"]
+
     def back(self, behind):
         return f"items-back _ _ {self.shape} _ refl refl fits.{self.name} ({behind})"
 
@@ -265,6 +271,9 @@ class SignedNumbers(Numbers):
 
     def fits(self):
         return [(self.name, f"All (FitsSignedBits {self.wide}) {self.value}")]
+
+    def accepted(self, term):
+        return [f"signed_{super().accepted(term)[0]}"]
 
     def back(self, behind):
         return f"signed_items-back _ _ {self.shape} _ refl refl refl fits.{self.name} ({behind})"

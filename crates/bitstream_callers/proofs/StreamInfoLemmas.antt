@@ -2,10 +2,10 @@
 -- Made by `./format` from formats/stream_info.fields: edit that file and make this one anew.
 use Rattle.bitstream_callers.specs.StreamInfo.{stream_info_entry, stream_info_writes, stream_info_size, stream_info_bits, Fits}
 use Rattle.bitstream_callers.specs.declared.stream_info.StreamInfo.{StreamInfo}
-use Rattle.std.proofs.Common.{◌≡◌, ◌++◌, ◌∷◌, [], refl}
-use Rattle.bitstream_io.proofs.CallerLemmas.{GoesBack, Packs, unsigned-back, non_zero-back, gives-back, unsigned-written, non_zero-written, packs-none, packs-more, non_zero_u8-again}
+use Rattle.std.proofs.Common.{◌≡◌, ◌++◌, ◌∷◌, [], ℕ, refl}
+use Rattle.bitstream_io.proofs.CallerLemmas.{GoesBack, Packs, unsigned-accepted, non_zero-accepted, unsigned-back, non_zero-back, gives-back, unsigned-written, non_zero-written, packs-none, packs-more, non_zero_u8-again}
 use Rattle.std.specs.Int.NonZero.{non_zero_u8_get}
-use Rattle.bitstream_io.specs.Callers.{Order, High, align, write_run, non_zero_u8}
+use Rattle.bitstream_io.specs.Callers.{Order, High, align, write_run, AllAccepted, non_zero_u8}
 
 -- what was written is read back
 pub stream_info_goes : (o : Order) (value : StreamInfo) → Fits value
@@ -31,6 +31,25 @@ stream_info_packs o value fits =
     refl fits.sample_rate) (packs-more (non_zero-written o 8 3 (non_zero_u8_get value.channels) refl fits.channels)
     (packs-more (non_zero-written o 8 5 (non_zero_u8_get value.bits_per_sample) refl fits.bits_per_sample)
     (packs-more (unsigned-written o 64 36 value.total_samples refl fits.total_samples) (packs-none))))))))
+
+-- each field fits if each write is accepted
+pub stream_info_fits : (o : Order) (value : StreamInfo) (at : ℕ) → AllAccepted (stream_info_writes o value) at → Fits
+    value
+stream_info_fits o value at all = record {
+  minimum_block_size = unsigned-accepted o 16 16 value.minimum_block_size _
+      refl (all.0);
+  maximum_block_size = unsigned-accepted o 16 16 value.maximum_block_size _ refl (all.1.0);
+  minimum_frame_size = unsigned-accepted o 32 24 value.minimum_frame_size _ refl (all.1.1.0);
+  maximum_frame_size =
+      unsigned-accepted o 32 24 value.maximum_frame_size _ refl (all.1.1.1.0);
+  sample_rate = unsigned-accepted o 32 20
+      value.sample_rate _ refl (all.1.1.1.1.0);
+  channels = non_zero-accepted o 8 3 (non_zero_u8_get value.channels) _ refl
+      refl (all.1.1.1.1.1.0);
+  bits_per_sample = non_zero-accepted o 8 5 (non_zero_u8_get value.bits_per_sample) _ refl
+      refl (all.1.1.1.1.1.1.0);
+  total_samples = unsigned-accepted o 64 36 value.total_samples _ refl (all.1.1.1.1.1.1.1.0);
+}
 
 -- the bits, of which a search is to see no part
 pub told : (value : StreamInfo)
