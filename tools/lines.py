@@ -115,6 +115,10 @@ class Line:
         """Gives the fields of `Fits`."""
         return []
 
+    def accepted(self, term):
+        """Gives the terms for the fields of `Fits`, of one that its writes are accepted; None if `Fits` says more."""
+        return None if self.fits() else []
+
     def let(self, error):
         return f"let {self.name} = {self.read(error)}?;"
 
@@ -223,6 +227,9 @@ class Unsigned(Number):
     def fits(self):
         return [(self.name, f"{self.value} < 2 ^ {self.bits}")]
 
+    def accepted(self, term):
+        return [f"unsigned-accepted o {self.width} {self.bits} {self.value} _ refl ({term})"]
+
     def place(self, bits):
         return f"number {self.order} ({bits})"
 
@@ -248,6 +255,9 @@ class Signed(Number):
 
     def fits(self):
         return [(self.name, f"FitsSignedBits {self.bits} {self.value}")]
+
+    def accepted(self, term):
+        return [f"signed-accepted {self.shape} _ refl ({term})"]
 
     def place(self, bits):
         return f"signed_number {self.order} ({bits})"
@@ -291,6 +301,9 @@ class Items(Unsigned):
     def fits(self):
         count = (f"{self.name}_count", f"length {self.value} ≡ {self.count}")
         return [count, (self.name, f"All (λ x. x < 2 ^ {self.each}) {self.value}")]
+
+    def accepted(self, term):
+        return None
 
     def place(self, bits):
         return f"map (number {self.order}) (words {self.each} {self.count} ({bits}))"
@@ -489,6 +502,9 @@ class NonZero(Named):
     def fits(self):
         return [(self.name, f"{self.number} - 1 < 2 ^ {self.bits}")]
 
+    def accepted(self, term):
+        return [f"non_zero-accepted {self.made} _ refl refl ({term})"]
+
     def place(self, bits):
         return f"non_zero_{self.base} (number {self.order} ({bits}))"
 
@@ -521,6 +537,9 @@ class OptionNonZero(Named):
 
     def fits(self):
         return [(self.name, f"{self.number} < 2 ^ {self.bits}")]
+
+    def accepted(self, term):
+        return [f"unsigned-accepted {self.made} _ refl ({term})"]
 
     def place(self, bits):
         return f"if_any non_zero_{self.base} (number {self.order} ({bits}))"

@@ -32,6 +32,9 @@ class Count(Line):
     def fits(self):
         return [(self.name, f"{self.length} < 2 ^ {self.bits}")]
 
+    def accepted(self, term):
+        return [f"unsigned-accepted o 64 {self.bits} ({self.length}) _ refl ({term})"]
+
     def back(self, behind):
         return f"unsigned-back o {self.bits} _ _ 64 ({self.length}) _ refl fits.{self.name} ({behind})"
 
@@ -238,6 +241,9 @@ class Numbers(Listed):
 
     each_back, each_fits = "unsigned-each", "refl"
 
+    def accepted(self, term):
+        return [f"items-accepted o {self.width} {self.wide} {self.value} _ refl ({term})"]
+
     def back(self, behind):
         each = f"({self.each_back} o {self.width} {self.wide} {self.value} {self.each_fits} fits.{self.name})"
         shape = f"({self.stored}) ({self.item_writes}) ({self.count}) {self.value}"
@@ -278,6 +284,9 @@ class SignedNumbers(Numbers):
         return [(self.name, f"All (FitsSignedBits {self.wide}) {self.value}")]
 
     each_back, each_fits = "signed-each", "refl refl"
+
+    def accepted(self, term):
+        return [f"signed_{super().accepted(term)[0]}"]
 
     def term(self, value):
         return list_term(value, signed_term)

@@ -20,6 +20,7 @@ class Module(Code, Specs, Proofs):
         self.own, self.sized, self.e = bool(self.error) or self.grows, self.total is not None, self.error or "Error"
         self.becomes_name = f"becomes_{module}" if self.error else "same_error"
         self.fields, self.tests = [it for it in lines if it.type], [it for it in lines if it.error]
+        self.fitting = all(it.accepted("") is not None for it in lines)  # whether what is accepted fits its bits
         self.result = f"(Result {self.type} {self.e})" if self.own else self.type
         self.spec = spec_of(module)
         self.declared = f"Rattle.{crate}.specs.declared.{module}"
@@ -111,5 +112,5 @@ class Module(Code, Specs, Proofs):
         return {module: names for module, names in found.items() if module != self.lemmas_path}
 
     def own_lemmas(self):
-        own = {self.lemmas_path: f"{self.m}_goes {self.m}_packs told"}
+        own = {self.lemmas_path: f"{self.m}_goes {self.m}_packs{f' {self.m}_fits' * self.fitting} told"}
         return merged(own, *[it.lemma_names(self) for it in self.lines])

@@ -32,12 +32,13 @@ Rattle.std.specs.Prelude: ≡ ≢ ^ < ≤ + - * ++ ∷ [] == ⊎ if ℕ ℤ Bool
 Rattle.std.specs.List: All flat_map
 Rattle.std.specs.Option: ForSome
 Rattle.std.specs.Result: IsErrAnd
+Rattle.std.specs.declared.io.ErrorKind.TheVariants: WriteZero
 Rattle.std.specs.Int.NonZero: non_zero_u8_get non_zero_u16_get non_zero_u32_get non_zero_u64_get non_zero_u128_get
 Rattle.bitstream_io.specs.Callers: ← ReadEntry WriteEntry Takes gives list_item Error EndOfInput Order High Low bits number chain
     signed_number FitsSignedBits word first_bit bit_entry unsigned_entry signed_entry const_entry unary_entry
     bytes_entry vec_entry bytes_of skip_entry vbr_entry any_vbr_entry signed_vbr_entry any_signed_vbr_entry items_entry
     option_entry plain bit unsigned signed unary_word buffer zeros align vbr signed_vbr non_zero write_run words
-    Reads ReadsOwn OwnAnswer WritesAll sure_answer GrowsOwn MayAllocate OutOfMemory seen
+    Reads ReadsOwn OwnAnswer WritesAll AllAccepted run_length sure_answer GrowsOwn MayAllocate OutOfMemory Stream seen
     same_error plain_reads part_then parts_entry all_ok if_any number_or_zero optional own_optional optional_writes
     optional_size
     non_zero_u8 non_zero_u16 non_zero_u32 non_zero_u64 non_zero_u128
@@ -46,7 +47,7 @@ Rattle.bitstream_io.specs.Error.TheVariants: VariableWidthOverflow RedundantGrou
 Rattle.bitstream_io.specs.Golomb: ue_entry ue_writes ue_size se_entry se_writes se_size
 Rattle.bitstream_io.specs.Grows: GrowingOutcome PartsRead
 Rattle.bitstream_io.specs.Loop: parts_size ItemsRead ItemsWritten
-Rattle.bitstream_io.specs.SliceMut: written_bytes
+Rattle.bitstream_io.specs.SliceMut: HoldsFirst written_bytes
 Rattle.bitstream_io.specs.ReadBack: IsReadAs
 Rattle.bitstream_io.specs.Unary: unary
 Rattle.bitstream_io.specs.Vbr: vbr_word
@@ -69,8 +70,10 @@ Rattle.bitstream_io.proofs.WriteSteps: signed_value
 Rattle.std.proofs.lemmas.Bool: eq-eqb ne_eqb cases_lt
 Rattle.std.proofs.lemmas.Bool.Decides: eqb_tells
 Rattle.bitstream_io.proofs.CallerLemmas: GoesBack Finds Packs inl inr is_error own_answered own_fields_there own_fields_short
-    own_front_answered fields_there fields_short front_answered slice_ends packed_stream calls_with_room
-    align_with_room
+    own_front_answered fields_there fields_short front_answered slice_ends
+    packed-bits packed-accepted packed-room packed-short
+    unsigned-accepted signed-accepted non_zero-accepted items-accepted signed_items-accepted
+    accepted-first accepted-second
     next_own_read exit_own_read Reads-chain-ok Reads-gives exit own_end plainly_read plainly_written
     bit-back signed-back unsigned-back any_vbr-back bytes-back non_zero-back option-back skip-back unary-back vbr-back
     gives-back items-back made-back literal-back part-back optional-back
@@ -78,7 +81,7 @@ Rattle.bitstream_io.proofs.CallerLemmas: GoesBack Finds Packs inl inr is_error o
     gives-finds chain-finds items-finds made-finds part-finds part-misses
     bit-written signed-written unsigned-written bytes-written non_zero-written const-written zeros-written
     unary-written vbr-written packs-none packs-more packs-part packs-items packs-optional
-    packs-is packs-room packs-whole packs-parts packs-signed_items each-back signed_items-back signed_items-finds
+    packs-is packs-whole packs-parts packs-signed_items each-back signed_items-back signed_items-finds
     own_grown_answered if_grown own_made item-read vec-back unsigned-each signed-each parts-begin parts-push parts-stop parts-refused
     items-begin items-push items-stop items-refused grown written-begin written-more written-stop
     non_zero_u8-again non_zero_u16-again non_zero_u32-again non_zero_u64-again non_zero_u128-again

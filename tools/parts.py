@@ -83,6 +83,15 @@ class Part(Line):
     def fits(self):
         return [(self.name, f"{self.part}Fits {self.value}")]
 
+    def fitting(self):
+        """Tells whether its lemmas say that it fits if its writes are accepted."""
+        return all(it.accepted("") is not None for it in self.described)
+
+    def accepted(self, term):
+        # of others `Fits` says more than of the part
+        plain = type(self) is Part and self.fitting()
+        return [f"{self.module}_fits o {self.value} _ ({term})"] if plain else None
+
     def answered(self, value):
         """Gives what its read answers, of what was written."""
         return f"(Ok {value})" if self.stops else value
@@ -164,7 +173,7 @@ class Part(Line):
 
     def lemma_names(self, module):
         path = f"Rattle.{module.crate}.proofs.{spec_of(self.module)}Lemmas"
-        return {path: f"{self.module}_goes {self.module}_packs"}
+        return {path: f"{self.module}_goes {self.module}_packs{f' {self.module}_fits' * self.fitting()}"}
 
 
     # ---- of a part that has errors of its own: those of the reader are the reader's here too

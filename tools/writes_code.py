@@ -5,7 +5,7 @@ from names import SPECS, article, uses
 from picture import picture
 
 LIBRARY = """BE LE BitRead BitReadExt BitReader BitWrite BitWriteExt BitWriter Bits Error FromBitStream
-    FromBitStreamUsing SliceMut ToBitStream"""
+    FromBitStreamUsing SliceMut ToBitStream pack_into"""
 
 
 def clauses(code):
@@ -274,27 +274,37 @@ class Code:
             ]
         return out
 
+    @property
+    def accepts_clause(self):
+        """Gives the name of the clause that says what holds of the fields if a pack succeeds."""
+        return "fits" if self.fitting else "accepted"
+
     def pack_code(self):
         m, o = self.m, self.o
-        room, has = f"{m}_size {o} self.now ≤ 8 * length buffer.old", "has room for their bits"
+        size, length, few = f"{m}_size {o} self.now", "8 * length buffer.old", "is too short for the bits"
         if self.sized:
-            room, has = f"{self.total // 8} ≤ length buffer.old", f"has {self.total // 8} bytes"
+            size, length = str(self.total // 8), "length buffer.old"
+            few = f"has fewer than {size} bytes" if size != "1" else "is empty"
+        holds = "Fits self.now" if self.fitting else f"AllAccepted ({m}_writes {o} self.now) 0"
+        misfit = [f"(error : Error) → run_length ({m}_writes {o} self.now) 0 ≡ Err error"]
         return [
-            "    /// Writes the fields to the first bytes of a buffer, and returns what was written. No write",
-            f"    /// fails if each field fits its bits and the buffer {has}. No memory is asked for.",
+            "    /// Writes the fields to the first bytes of a buffer, and returns what was written. The other bytes",
+            "    /// stay as they were. No memory is asked for.",
             "    ///",
             "    /// # Errors",
             "    ///",
-            "    /// `Checked` for a field that does not fit its bits, or `Stream(WriteZero)` if the buffer is too",
-            "    /// short.",
+            "    /// `Checked` for the first field that does not fit its bits, however long the buffer is.",
+            f"    /// `Stream(WriteZero)` if all fields fit, and the buffer {few}.",
+            "    /// The first bytes of the buffer may be changed then.",
             "    pub fn pack_into<'a>(&self, buffer: &'a mut [u8]) -> Result<SliceMut<'a>, Error>",
             f"        ensures packed {{ IfOk result (λ packed. bits {o} (written_bytes packed) ≡ {m}_bits self.now) }}",
-            f"        ensures room {{ Fits self.now → {room} → IsOk result }}",
+            "        ensures first { IfOk result (HoldsFirst buffer.entry.ghost_name buffer.old) }",
+            f"        ensures {self.accepts_clause} {{ IsOk result → {holds} }}",
+            *clause("misfit", misfit, "result ≡ Err error"),
+            *clause("room", ["Fits self.now", f"{size} ≤ {length}"], "IsOk result"),
+            *clause("short", ["Fits self.now", f"{length} < {size}"], "result ≡ Err (Stream WriteZero)"),
             "    {",
-            f"        let mut writer = BitWriter::<_, {self.order}>::over(buffer);",
-            "        self.write(&mut writer)?;",
-            "        writer.byte_align()?;",
-            "        Ok(writer.into_writer())",
+            f"        pack_into::<{self.order}, {self.type}>(self, buffer)",
             "    }",
         ]
 

@@ -23,7 +23,7 @@ class Proofs:
     def lemmas(self):
         """Gives the text of the file of lemmas."""
         out = [line for it in self.lines for line in it.lemmas(self)]
-        out += [*self.goes(), *self.packs(), *self.told()]
+        out += [*self.goes(), *self.packs(), *self.accepts(), *self.told()]
         head = f"-- What was written of {article(self.type)} is read back, and how many bits it takes."
         return self.text([head], out, self.parts_lemmas())
 
@@ -52,6 +52,21 @@ class Proofs:
             f"    → Packs ({self.m}_writes o value) ({self.m}_size o value)",
             f"{self.m}_packs o value fits =",
             f"    {term}" if self.sized else f"    packs-is ({term}) (omega arith)",
+            "",
+        ]
+
+    def accepts(self):
+        if not self.fitting:
+            return []
+        m, fields, term = self.m, [], "all"
+        for it, behind in zip(self.lines, self.writes_behind()):
+            here = f"accepted-first ({it.word}) ({behind}) _ ({term})" if it.many else f"{term}.0"
+            fields += [f"{name} = {says}" for (name, _), says in zip(it.fits(), it.accepted(here) or [])]
+            term = f"(accepted-second ({it.word}) ({behind}) _ ({term}))" if it.many else f"{term}.1"
+        return [
+            "-- each field fits if each write is accepted",
+            f"pub {m}_fits : (o : Order) (value : {self.type}) (at : ℕ) → AllAccepted ({m}_writes o value) at → Fits value",
+            f"{m}_fits o value at all = record {{{f' {one} ' if (one := '; '.join(fields)) else ''}}}",
             "",
         ]
 
@@ -167,25 +182,18 @@ class Proofs:
         return found | self.answer(f"{self.type}ToBitStream/to_writer", ("returns", "g c", write))
 
     def pack_answers(self):
-        m, o, v = self.m, self.o, "c.args.self.now"
-        over = f"{o} ({m}_writes {o} {v}) c.over-writer.result c.over-writer.ensures"
-        enough = "(omega arith)" if self.sized else "enough"
-        asked = f"let all = {m}_packs {o} _ fits in"
-        room = f"(all.accepted 0) (packs-room all _ {enough}) _ _"
-        packed = f"""let whole = (packed_stream _ _ ({m}_writes {o} {v}) c.over-writer.result (cc) c.over-writer.ensures
-    c.in_ok-write.ensures c.in_ok-byte_align.ensures.writes).whole refl ∙ told {v} in
-    search rules"""
-        written = f"""λ fits enough. {asked}
-    let done = calls_with_room {over} {room} c.in_err-write.ensures in
-    cc"""
-        aligned = f"""λ fits enough. {asked}
-    let done = align_with_room {over} {room} _ c.in_ok-write.ensures c.in_err-byte_align.ensures.writes in
-    cc"""
+        m, o, v, packs = self.m, self.o, "c.args.self.now", "c.pack_into.ensures"
+        length = f"({m}_packs {o} {v} fits)"
+        enough, few = ("(omega arith)", "(omega arith)") if self.sized else ("enough", "few")
+        fits = f"{m}_fits {o} {v} 0 (packed-accepted {packs} done)" if self.fitting else f"packed-accepted {packs} done"
         return self.answer(
             f"{self.type}/pack_into",
-            ("returns-clause-packed", "c", packed),
-            ("returns-in_err-write-clause-room", "c", written),
-            ("returns-in_err-byte_align-clause-room", "c", aligned),
+            ("returns-clause-packed", "c", f"packed-bits {packs} (told {v})"),
+            ("returns-clause-first", "c", f"{packs}.first"),
+            (f"returns-clause-{self.accepts_clause}", "c", f"λ done. {fits}"),
+            ("returns-clause-misfit", "c", f"{packs}.misfit"),
+            ("returns-clause-room", "c", f"λ fits enough. packed-room {packs} {length} {enough}"),
+            ("returns-clause-short", "c", f"λ fits few. packed-short {packs} {length} {few}"),
         )
 
     def line_invariants(self):

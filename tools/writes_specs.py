@@ -70,6 +70,16 @@ class Specs:
             out = [*head, f"{name} o value =", *self.written_list(piece, behind), "", *out]
         return out
 
+    def writes_behind(self):
+        """Gives for each line the writes of those that follow it."""
+        found, pieces = [], self.pieces()
+        for k, piece in enumerate(pieces):
+            behind = f"{self.m}_writes_{k + 2} o value" if k + 1 < len(pieces) else "[]"
+            for n in range(len(piece)):
+                rest = self.written_list(piece[n + 1 :], behind) if piece[n + 1 :] else [f"    {behind}"]
+                found.append(" ".join(it.strip() for it in rest))
+        return found
+
     def written_list(self, lines, behind):
         """Gives the writes of some lines, and of what follows them."""
         # `++` goes to the left: what stands behind one that others follow is in brackets

@@ -2,9 +2,9 @@
 -- What was written of a `BlockHeader` is read back, and how many bits it takes.
 use Rattle.bitstream_callers.specs.BlockHeader.{block_header_entry, block_header_writes, block_header_size, block_header_bits, Fits}
 use Rattle.bitstream_callers.specs.declared.block_header.BlockHeader.{BlockHeader}
-use Rattle.std.proofs.Common.{◌≡◌, ◌++◌, ◌∷◌, [], refl}
-use Rattle.bitstream_io.proofs.CallerLemmas.{GoesBack, Packs, bit-back, unsigned-back, gives-back, bit-written, unsigned-written, packs-none, packs-more}
-use Rattle.bitstream_io.specs.Callers.{Order, High, align, write_run}
+use Rattle.std.proofs.Common.{◌≡◌, ◌++◌, ◌∷◌, [], ℕ, refl}
+use Rattle.bitstream_io.proofs.CallerLemmas.{GoesBack, Packs, unsigned-accepted, bit-back, unsigned-back, gives-back, bit-written, unsigned-written, packs-none, packs-more}
+use Rattle.bitstream_io.specs.Callers.{Order, High, align, write_run, AllAccepted}
 
 -- what was written is read back
 pub block_header_goes : (o : Order) (value : BlockHeader) → Fits value
@@ -19,6 +19,15 @@ pub block_header_packs : (o : Order) (value : BlockHeader) → Fits value
 block_header_packs o value fits =
     packs-more (bit-written value.last) (packs-more (unsigned-written o 8 7 value.kind refl fits.kind) (packs-more
     (unsigned-written o 32 24 value.size refl fits.size) (packs-none)))
+
+-- each field fits if each write is accepted
+pub block_header_fits : (o : Order) (value : BlockHeader) (at : ℕ) → AllAccepted (block_header_writes o value) at → Fits
+    value
+block_header_fits o value at all = record {
+  kind = unsigned-accepted o 8 7 value.kind _ refl (all.1.0);
+  size =
+      unsigned-accepted o 32 24 value.size _ refl (all.1.1.0);
+}
 
 -- the bits, of which a search is to see no part
 pub told : (value : BlockHeader)

@@ -2,11 +2,11 @@
 -- What was written of a `FlacStart` is read back, and how many bits it takes.
 use Rattle.bitstream_callers.specs.FlacStart.{flac_start_entry, flac_start_writes, flac_start_size, flac_start_bits, Fits}
 use Rattle.bitstream_callers.specs.BlockHeader.{block_header_entry, block_header_writes}
-use Rattle.bitstream_callers.proofs.BlockHeaderLemmas.{block_header_goes, block_header_packs}
+use Rattle.bitstream_callers.proofs.BlockHeaderLemmas.{block_header_goes, block_header_packs, block_header_fits}
 use Rattle.bitstream_callers.specs.declared.flac_start.FlacStart.{FlacStart}
-use Rattle.std.proofs.Common.{◌≡◌, ◌++◌, ◌∷◌, [], Ok, refl}
-use Rattle.bitstream_io.proofs.CallerLemmas.{GoesBack, Packs, gives-back, literal-back, part-back, const-written, packs-none, packs-more, packs-part}
-use Rattle.bitstream_io.specs.Callers.{Order, High, align, write_run}
+use Rattle.std.proofs.Common.{◌≡◌, ◌++◌, ◌∷◌, [], ℕ, Ok, refl}
+use Rattle.bitstream_io.proofs.CallerLemmas.{GoesBack, Packs, accepted-first, gives-back, literal-back, part-back, const-written, packs-none, packs-more, packs-part}
+use Rattle.bitstream_io.specs.Callers.{Order, High, align, write_run, AllAccepted}
 
 -- what was written is read back
 pub flac_start_goes : (o : Order) (value : FlacStart) → Fits value
@@ -20,6 +20,13 @@ pub flac_start_packs : (o : Order) (value : FlacStart) → Fits value
     → Packs (flac_start_writes o value) (flac_start_size o value)
 flac_start_packs o value fits =
     packs-more (const-written o 32 1716281667) (packs-part (block_header_packs o value.block fits.block) (packs-none))
+
+-- each field fits if each write is accepted
+pub flac_start_fits : (o : Order) (value : FlacStart) (at : ℕ) → AllAccepted (flac_start_writes o value) at → Fits value
+flac_start_fits o value at all = record {
+  block = block_header_fits o value.block _ (accepted-first (block_header_writes
+      o value.block) ([]) _ (all.1));
+}
 
 -- the bits, of which a search is to see no part
 pub told : (value : FlacStart)

@@ -2,9 +2,9 @@
 -- What was written of a `Header` is read back, and how many bits it takes.
 use Rattle.bitstream_callers.specs.Header.{header_entry, header_writes, header_size, header_bits, Fits}
 use Rattle.bitstream_callers.specs.declared.header.Header.{Header}
-use Rattle.std.proofs.Common.{◌≡◌, ◌++◌, ◌∷◌, [], refl}
-use Rattle.bitstream_io.proofs.CallerLemmas.{GoesBack, Packs, bit-back, signed-back, unsigned-back, gives-back, bit-written, signed-written, unsigned-written, packs-none, packs-more}
-use Rattle.bitstream_io.specs.Callers.{Order, High, align, write_run}
+use Rattle.std.proofs.Common.{◌≡◌, ◌++◌, ◌∷◌, [], ℕ, refl}
+use Rattle.bitstream_io.proofs.CallerLemmas.{GoesBack, Packs, unsigned-accepted, signed-accepted, bit-back, signed-back, unsigned-back, gives-back, bit-written, signed-written, unsigned-written, packs-none, packs-more}
+use Rattle.bitstream_io.specs.Callers.{Order, High, align, write_run, AllAccepted}
 
 -- what was written is read back
 pub header_goes : (o : Order) (value : Header) → Fits value
@@ -21,6 +21,16 @@ header_packs o value fits =
     packs-more (unsigned-written o 8 3 value.version refl fits.version) (packs-more (bit-written value.acknowledge)
     (packs-more (signed-written o 8 4 value.priority refl refl fits.priority) (packs-more (unsigned-written o 16 16
     value.length refl fits.length) (packs-none))))
+
+-- each field fits if each write is accepted
+pub header_fits : (o : Order) (value : Header) (at : ℕ) → AllAccepted (header_writes o value) at → Fits value
+header_fits o value at all = record {
+  version = unsigned-accepted o 8 3 value.version _ refl (all.0);
+  priority =
+      signed-accepted o 8 4 value.priority _ refl (all.1.1.0);
+  length = unsigned-accepted o 16 16 value.length _ refl
+      (all.1.1.1.0);
+}
 
 -- the bits, of which a search is to see no part
 pub told : (value : Header)

@@ -2,9 +2,9 @@
 -- What was written of a `PrimaryHeader` is read back, and how many bits it takes.
 use Rattle.bitstream_callers.specs.PrimaryHeader.{primary_header_entry, primary_header_writes, primary_header_size, primary_header_bits, Fits}
 use Rattle.bitstream_callers.specs.declared.primary_header.PrimaryHeader.{PrimaryHeader}
-use Rattle.std.proofs.Common.{◌≡◌, ◌++◌, ◌∷◌, [], Ok, refl}
-use Rattle.bitstream_io.proofs.CallerLemmas.{GoesBack, Packs, bit-back, unsigned-back, gives-back, literal-back, bit-written, unsigned-written, const-written, packs-none, packs-more}
-use Rattle.bitstream_io.specs.Callers.{Order, High, align, write_run}
+use Rattle.std.proofs.Common.{◌≡◌, ◌++◌, ◌∷◌, [], ℕ, Ok, refl}
+use Rattle.bitstream_io.proofs.CallerLemmas.{GoesBack, Packs, unsigned-accepted, bit-back, unsigned-back, gives-back, literal-back, bit-written, unsigned-written, const-written, packs-none, packs-more}
+use Rattle.bitstream_io.specs.Callers.{Order, High, align, write_run, AllAccepted}
 
 -- what was written is read back
 pub primary_header_goes : (o : Order) (value : PrimaryHeader) → Fits value
@@ -23,6 +23,18 @@ primary_header_packs o value fits =
     value.secondary) (packs-more (unsigned-written o 16 11 value.apid refl fits.apid) (packs-more (unsigned-written
     o 8 2 value.sequence refl fits.sequence) (packs-more (unsigned-written o 16 14 value.count refl fits.count)
     (packs-more (unsigned-written o 16 16 value.length refl fits.length) (packs-none)))))))
+
+-- each field fits if each write is accepted
+pub primary_header_fits : (o : Order) (value : PrimaryHeader) (at : ℕ) → AllAccepted (primary_header_writes o value) at
+    → Fits value
+primary_header_fits o value at all = record {
+  apid = unsigned-accepted o 16 11 value.apid _ refl (all.1.1.1.0);
+  sequence
+      = unsigned-accepted o 8 2 value.sequence _ refl (all.1.1.1.1.0);
+  count = unsigned-accepted o 16 14 value.count _
+      refl (all.1.1.1.1.1.0);
+  length = unsigned-accepted o 16 16 value.length _ refl (all.1.1.1.1.1.1.0);
+}
 
 -- the bits, of which a search is to see no part
 pub told : (value : PrimaryHeader)

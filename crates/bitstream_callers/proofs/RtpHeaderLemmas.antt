@@ -2,9 +2,10 @@
 -- What was written of a `RtpHeader` is read back, and how many bits it takes.
 use Rattle.bitstream_callers.specs.RtpHeader.{rtp_header_entry, rtp_header_writes, rtp_header_size, rtp_header_bits, Fits}
 use Rattle.bitstream_callers.specs.declared.rtp_header.RtpHeader.{RtpHeader}
-use Rattle.std.proofs.Common.{◌≡◌, ◌++◌, ◌∷◌, [], Ok, length, refl, arith}
-use Rattle.bitstream_io.proofs.CallerLemmas.{GoesBack, Packs, bit-back, unsigned-back, gives-back, literal-back, bit-written, unsigned-written, const-written, packs-none, packs-more, packs-part, packs-items, packs-is, each-back, unsigned-each}
-use Rattle.bitstream_io.specs.Callers.{list_item, Order, High, unsigned_entry, unsigned, align, write_run}
+use Rattle.std.proofs.Common.{◌≡◌, ◌++◌, ◌∷◌, [], ℕ, Ok, length, refl, arith}
+use Rattle.bitstream_io.proofs.CallerLemmas.{GoesBack, Packs, unsigned-accepted, items-accepted, accepted-first, bit-back, unsigned-back, gives-back, literal-back, bit-written, unsigned-written, const-written, packs-none, packs-more, packs-part, packs-items, packs-is, each-back, unsigned-each}
+use Rattle.std.specs.List.{flat_map}
+use Rattle.bitstream_io.specs.Callers.{list_item, Order, High, unsigned_entry, unsigned, align, write_run, AllAccepted}
 
 -- what was written is read back
 pub rtp_header_goes : (o : Order) (value : RtpHeader) → Fits value
@@ -28,6 +29,22 @@ rtp_header_packs o value fits =
     value.timestamp refl fits.timestamp) (packs-more (unsigned-written o 32 32 value.ssrc refl fits.ssrc)
     (packs-part (packs-items o 32 32 (length value.csrc) value.csrc refl refl fits.csrc) (packs-none)))))))))))
     (omega arith)
+
+-- each field fits if each write is accepted
+pub rtp_header_fits : (o : Order) (value : RtpHeader) (at : ℕ) → AllAccepted (rtp_header_writes o value) at → Fits value
+rtp_header_fits o value at all = record {
+  csrc_count = unsigned-accepted o 64 4 (length value.csrc) _ refl
+      (all.1.1.1.0);
+  payload_type = unsigned-accepted o 8 7 value.payload_type _ refl (all.1.1.1.1.1.0);
+  sequence =
+      unsigned-accepted o 16 16 value.sequence _ refl (all.1.1.1.1.1.1.0);
+  timestamp = unsigned-accepted o 32 32
+      value.timestamp _ refl (all.1.1.1.1.1.1.1.0);
+  ssrc = unsigned-accepted o 32 32 value.ssrc _ refl
+      (all.1.1.1.1.1.1.1.1.0);
+  csrc = items-accepted o 32 32 value.csrc _ refl (accepted-first (flat_map (λ x. unsigned o
+      32 32 x ∷ []) value.csrc) ([]) _ (all.1.1.1.1.1.1.1.1.1));
+}
 
 -- the bits, of which a search is to see no part
 pub told : (value : RtpHeader)

@@ -2,9 +2,9 @@
 -- What was written of a `Sample` is read back, and how many bits it takes.
 use Rattle.bitstream_callers.specs.Sample.{sample_entry, sample_writes, sample_size, sample_bits, Fits}
 use Rattle.bitstream_callers.specs.declared.sample.Sample.{Sample}
-use Rattle.std.proofs.Common.{◌≡◌, ◌++◌, ◌∷◌, [], refl}
-use Rattle.bitstream_io.proofs.CallerLemmas.{GoesBack, Packs, bit-back, signed-back, unsigned-back, gives-back, bit-written, signed-written, unsigned-written, packs-none, packs-more}
-use Rattle.bitstream_io.specs.Callers.{Order, High, align, write_run}
+use Rattle.std.proofs.Common.{◌≡◌, ◌++◌, ◌∷◌, [], ℕ, refl}
+use Rattle.bitstream_io.proofs.CallerLemmas.{GoesBack, Packs, unsigned-accepted, signed-accepted, bit-back, signed-back, unsigned-back, gives-back, bit-written, signed-written, unsigned-written, packs-none, packs-more}
+use Rattle.bitstream_io.specs.Callers.{Order, High, align, write_run, AllAccepted}
 
 -- what was written is read back
 pub sample_goes : (o : Order) (value : Sample) → Fits value
@@ -21,6 +21,16 @@ sample_packs o value fits =
     packs-more (unsigned-written o 32 20 value.seconds refl fits.seconds) (packs-more (bit-written value.running)
     (packs-more (signed-written o 16 9 value.temperature refl refl fits.temperature) (packs-more (unsigned-written o
     32 18 value.pressure refl fits.pressure) (packs-none))))
+
+-- each field fits if each write is accepted
+pub sample_fits : (o : Order) (value : Sample) (at : ℕ) → AllAccepted (sample_writes o value) at → Fits value
+sample_fits o value at all = record {
+  seconds = unsigned-accepted o 32 20 value.seconds _ refl (all.0);
+  temperature =
+      signed-accepted o 16 9 value.temperature _ refl (all.1.1.0);
+  pressure = unsigned-accepted o 32 18 value.pressure _
+      refl (all.1.1.1.0);
+}
 
 -- the bits, of which a search is to see no part
 pub told : (value : Sample)

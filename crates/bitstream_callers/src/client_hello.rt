@@ -5,14 +5,15 @@ ghost use Rattle.bitstream_callers.specs.ClientHello.{client_hello_entry, client
 ghost use Rattle.bitstream_callers.specs.declared.client_hello.ClientHello.{ClientHello};
 ghost use Rattle.bitstream_callers.specs.declared.client_hello.ClientHelloError.{ClientHelloError};
 ghost use Rattle.bitstream_callers.specs.declared.client_hello.ClientHelloError.TheVariants.{Reader};
-ghost use Rattle.std.specs.Prelude.{◌≡◌, ◌≤◌, ◌*◌, ◌++◌, ◌∷◌, [], ◌⊎◌, ℕ, Bool, true, List, Ok, Err, length, IfOk, IsOk};
+ghost use Rattle.std.specs.Prelude.{◌≡◌, ◌<◌, ◌≤◌, ◌*◌, ◌++◌, ◌∷◌, [], ◌⊎◌, ℕ, Bool, true, List, Ok, Err, length, IfOk, IsOk};
 ghost use Rattle.std.specs.List.{flat_map};
-ghost use Rattle.bitstream_io.specs.Callers.{Takes, Order, High, bits, unsigned, write_run, ReadsOwn, OwnAnswer, WritesAll, sure_answer, GrowsOwn, MayAllocate, OutOfMemory, seen, same_error, parts_entry};
-ghost use Rattle.bitstream_io.specs.SliceMut.{written_bytes};
+ghost use Rattle.std.specs.declared.io.ErrorKind.TheVariants.{WriteZero};
+ghost use Rattle.bitstream_io.specs.Callers.{Takes, Error, Order, High, bits, unsigned, write_run, ReadsOwn, OwnAnswer, WritesAll, AllAccepted, run_length, sure_answer, GrowsOwn, MayAllocate, OutOfMemory, Stream, seen, same_error, parts_entry};
+ghost use Rattle.bitstream_io.specs.SliceMut.{HoldsFirst, written_bytes};
 
 use bitstream_io::{
-    BE, BitRead, BitReadExt, BitReader, BitWrite, BitWriteExt, BitWriter, Bits, Error,
-    FromBitStreamUsing, SliceMut, ToBitStream,
+    BE, BitRead, BitReadExt, BitReader, BitWrite, BitWriteExt, Bits, Error, FromBitStreamUsing,
+    SliceMut, ToBitStream, pack_into,
 };
 use std::alloc::{AllocFailed, Global};
 use std::marker::Model;
@@ -258,21 +259,26 @@ impl ClientHello {
         Ok(())
     }
 
-    /// Writes the fields to the first bytes of a buffer, and returns what was written. No write
-    /// fails if each field fits its bits and the buffer has room for their bits. No memory is asked for.
+    /// Writes the fields to the first bytes of a buffer, and returns what was written. The other bytes
+    /// stay as they were. No memory is asked for.
     ///
     /// # Errors
     ///
-    /// `Checked` for a field that does not fit its bits, or `Stream(WriteZero)` if the buffer is too
-    /// short.
+    /// `Checked` for the first field that does not fit its bits, however long the buffer is.
+    /// `Stream(WriteZero)` if all fields fit, and the buffer is too short for the bits.
+    /// The first bytes of the buffer may be changed then.
     pub fn pack_into<'a>(&self, buffer: &'a mut [u8]) -> Result<SliceMut<'a>, Error>
         ensures packed { IfOk result (λ packed. bits High (written_bytes packed) ≡ client_hello_bits self.now) }
-        ensures room { Fits self.now → client_hello_size High self.now ≤ 8 * length buffer.old → IsOk result }
+        ensures first { IfOk result (HoldsFirst buffer.entry.ghost_name buffer.old) }
+        ensures accepted { IsOk result → AllAccepted (client_hello_writes High self.now) 0 }
+        ensures misfit { (error : Error) → run_length (client_hello_writes High self.now) 0 ≡ Err error
+            → result ≡ Err error }
+        ensures room { Fits self.now → client_hello_size High self.now ≤ 8 * length buffer.old
+            → IsOk result }
+        ensures short { Fits self.now → 8 * length buffer.old < client_hello_size High self.now
+            → result ≡ Err (Stream WriteZero) }
     {
-        let mut writer = BitWriter::<_, BE>::over(buffer);
-        self.write(&mut writer)?;
-        writer.byte_align()?;
-        Ok(writer.into_writer())
+        pack_into::<BE, ClientHello>(self, buffer)
     }
 }
 

@@ -6,13 +6,14 @@ ghost use Rattle.bitstream_callers.specs.declared.flac_start.FlacStart.{FlacStar
 ghost use Rattle.bitstream_callers.specs.declared.flac_start.FlacStartError.{FlacStartError};
 ghost use Rattle.bitstream_callers.specs.declared.flac_start.FlacStartError.TheVariants.{Reader, NoFlac};
 ghost use Rattle.std.specs.Prelude.{◌≡◌, ◌≢◌, ◌<◌, ◌≤◌, ◌++◌, ℕ, Bool, List, Ok, Err, length, IfOk, IsOk};
-ghost use Rattle.bitstream_io.specs.Callers.{Takes, EndOfInput, Order, High, bits, write_run, ReadsOwn, OwnAnswer, WritesAll, sure_answer, same_error};
-ghost use Rattle.bitstream_io.specs.SliceMut.{written_bytes};
+ghost use Rattle.std.specs.declared.io.ErrorKind.TheVariants.{WriteZero};
+ghost use Rattle.bitstream_io.specs.Callers.{Takes, Error, EndOfInput, Order, High, bits, write_run, ReadsOwn, OwnAnswer, WritesAll, run_length, sure_answer, Stream, same_error};
+ghost use Rattle.bitstream_io.specs.SliceMut.{HoldsFirst, written_bytes};
 
 use crate::block_header::BlockHeader;
 use bitstream_io::{
-    BE, BitRead, BitReadExt, BitReader, BitWrite, BitWriteExt, BitWriter, Bits, Error,
-    FromBitStream, SliceMut, ToBitStream,
+    BE, BitRead, BitReadExt, BitReader, BitWrite, BitWriteExt, Bits, Error, FromBitStream,
+    SliceMut, ToBitStream, pack_into,
 };
 
 /// The start of a FLAC file, up to the contents of its first block.
@@ -102,21 +103,24 @@ impl FlacStart {
         Ok(())
     }
 
-    /// Writes the fields to the first bytes of a buffer, and returns what was written. No write
-    /// fails if each field fits its bits and the buffer has 8 bytes. No memory is asked for.
+    /// Writes the fields to the first bytes of a buffer, and returns what was written. The other bytes
+    /// stay as they were. No memory is asked for.
     ///
     /// # Errors
     ///
-    /// `Checked` for a field that does not fit its bits, or `Stream(WriteZero)` if the buffer is too
-    /// short.
+    /// `Checked` for the first field that does not fit its bits, however long the buffer is.
+    /// `Stream(WriteZero)` if all fields fit, and the buffer has fewer than 8 bytes.
+    /// The first bytes of the buffer may be changed then.
     pub fn pack_into<'a>(&self, buffer: &'a mut [u8]) -> Result<SliceMut<'a>, Error>
         ensures packed { IfOk result (λ packed. bits High (written_bytes packed) ≡ flac_start_bits self.now) }
+        ensures first { IfOk result (HoldsFirst buffer.entry.ghost_name buffer.old) }
+        ensures fits { IsOk result → Fits self.now }
+        ensures misfit { (error : Error) → run_length (flac_start_writes High self.now) 0 ≡ Err error
+            → result ≡ Err error }
         ensures room { Fits self.now → 8 ≤ length buffer.old → IsOk result }
+        ensures short { Fits self.now → length buffer.old < 8 → result ≡ Err (Stream WriteZero) }
     {
-        let mut writer = BitWriter::<_, BE>::over(buffer);
-        self.write(&mut writer)?;
-        writer.byte_align()?;
-        Ok(writer.into_writer())
+        pack_into::<BE, FlacStart>(self, buffer)
     }
 }
 

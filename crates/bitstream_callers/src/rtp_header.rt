@@ -5,15 +5,16 @@ ghost use Rattle.bitstream_callers.specs.RtpHeader.{rtp_header_entry, rtp_header
 ghost use Rattle.bitstream_callers.specs.declared.rtp_header.RtpHeader.{RtpHeader};
 ghost use Rattle.bitstream_callers.specs.declared.rtp_header.RtpError.{RtpError};
 ghost use Rattle.bitstream_callers.specs.declared.rtp_header.RtpError.TheVariants.{Reader};
-ghost use Rattle.std.specs.Prelude.{◌≡◌, ◌≤◌, ◌*◌, ◌++◌, ◌∷◌, [], ◌⊎◌, ℕ, Bool, true, List, Ok, Err, length, IfOk, IsOk};
+ghost use Rattle.std.specs.Prelude.{◌≡◌, ◌<◌, ◌≤◌, ◌*◌, ◌++◌, ◌∷◌, [], ◌⊎◌, ℕ, Bool, true, List, Ok, Err, length, IfOk, IsOk};
 ghost use Rattle.std.specs.List.{flat_map};
-ghost use Rattle.bitstream_io.specs.Callers.{Takes, list_item, Order, High, bits, unsigned_entry, items_entry, unsigned, write_run, OwnAnswer, WritesAll, sure_answer, GrowsOwn, MayAllocate, OutOfMemory, seen, same_error};
+ghost use Rattle.std.specs.declared.io.ErrorKind.TheVariants.{WriteZero};
+ghost use Rattle.bitstream_io.specs.Callers.{Takes, list_item, Error, Order, High, bits, unsigned_entry, items_entry, unsigned, write_run, OwnAnswer, WritesAll, run_length, sure_answer, GrowsOwn, MayAllocate, OutOfMemory, Stream, seen, same_error};
 ghost use Rattle.bitstream_io.specs.Grows.{GrowingOutcome};
-ghost use Rattle.bitstream_io.specs.SliceMut.{written_bytes};
+ghost use Rattle.bitstream_io.specs.SliceMut.{HoldsFirst, written_bytes};
 
 use bitstream_io::{
-    BE, BitRead, BitReadExt, BitReader, BitWrite, BitWriteExt, BitWriter, Bits, Error,
-    FromBitStreamUsing, SliceMut, ToBitStream,
+    BE, BitRead, BitReadExt, BitReader, BitWrite, BitWriteExt, Bits, Error, FromBitStreamUsing,
+    SliceMut, ToBitStream, pack_into,
 };
 use std::alloc::Global;
 use std::marker::Model;
@@ -187,21 +188,26 @@ impl RtpHeader {
         Ok(())
     }
 
-    /// Writes the fields to the first bytes of a buffer, and returns what was written. No write
-    /// fails if each field fits its bits and the buffer has room for their bits. No memory is asked for.
+    /// Writes the fields to the first bytes of a buffer, and returns what was written. The other bytes
+    /// stay as they were. No memory is asked for.
     ///
     /// # Errors
     ///
-    /// `Checked` for a field that does not fit its bits, or `Stream(WriteZero)` if the buffer is too
-    /// short.
+    /// `Checked` for the first field that does not fit its bits, however long the buffer is.
+    /// `Stream(WriteZero)` if all fields fit, and the buffer is too short for the bits.
+    /// The first bytes of the buffer may be changed then.
     pub fn pack_into<'a>(&self, buffer: &'a mut [u8]) -> Result<SliceMut<'a>, Error>
         ensures packed { IfOk result (λ packed. bits High (written_bytes packed) ≡ rtp_header_bits self.now) }
-        ensures room { Fits self.now → rtp_header_size High self.now ≤ 8 * length buffer.old → IsOk result }
+        ensures first { IfOk result (HoldsFirst buffer.entry.ghost_name buffer.old) }
+        ensures fits { IsOk result → Fits self.now }
+        ensures misfit { (error : Error) → run_length (rtp_header_writes High self.now) 0 ≡ Err error
+            → result ≡ Err error }
+        ensures room { Fits self.now → rtp_header_size High self.now ≤ 8 * length buffer.old
+            → IsOk result }
+        ensures short { Fits self.now → 8 * length buffer.old < rtp_header_size High self.now
+            → result ≡ Err (Stream WriteZero) }
     {
-        let mut writer = BitWriter::<_, BE>::over(buffer);
-        self.write(&mut writer)?;
-        writer.byte_align()?;
-        Ok(writer.into_writer())
+        pack_into::<BE, RtpHeader>(self, buffer)
     }
 }
 

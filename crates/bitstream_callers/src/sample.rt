@@ -4,12 +4,13 @@
 ghost use Rattle.bitstream_callers.specs.Sample.{sample_entry, sample_writes, sample_bits, sample_at, Fits};
 ghost use Rattle.bitstream_callers.specs.declared.sample.Sample.{Sample};
 ghost use Rattle.std.specs.Prelude.{◌≡◌, ◌<◌, ◌≤◌, ◌++◌, ℕ, Bool, List, Ok, Err, length, IfOk, IsOk};
-ghost use Rattle.bitstream_io.specs.Callers.{Takes, EndOfInput, Order, High, bits, write_run, Reads, WritesAll, sure_answer, same_error, plain_reads};
-ghost use Rattle.bitstream_io.specs.SliceMut.{written_bytes};
+ghost use Rattle.std.specs.declared.io.ErrorKind.TheVariants.{WriteZero};
+ghost use Rattle.bitstream_io.specs.Callers.{Takes, Error, EndOfInput, Order, High, bits, write_run, Reads, WritesAll, run_length, sure_answer, Stream, same_error, plain_reads};
+ghost use Rattle.bitstream_io.specs.SliceMut.{HoldsFirst, written_bytes};
 
 use bitstream_io::{
-    BE, BitRead, BitReadExt, BitReader, BitWrite, BitWriteExt, BitWriter, Bits, Error,
-    FromBitStream, SliceMut, ToBitStream,
+    BE, BitRead, BitReadExt, BitReader, BitWrite, BitWriteExt, Bits, Error, FromBitStream,
+    SliceMut, ToBitStream, pack_into,
 };
 
 /// What a vehicle's telemetry measured at one time.
@@ -88,21 +89,24 @@ impl Sample {
         Ok(())
     }
 
-    /// Writes the fields to the first bytes of a buffer, and returns what was written. No write
-    /// fails if each field fits its bits and the buffer has 6 bytes. No memory is asked for.
+    /// Writes the fields to the first bytes of a buffer, and returns what was written. The other bytes
+    /// stay as they were. No memory is asked for.
     ///
     /// # Errors
     ///
-    /// `Checked` for a field that does not fit its bits, or `Stream(WriteZero)` if the buffer is too
-    /// short.
+    /// `Checked` for the first field that does not fit its bits, however long the buffer is.
+    /// `Stream(WriteZero)` if all fields fit, and the buffer has fewer than 6 bytes.
+    /// The first bytes of the buffer may be changed then.
     pub fn pack_into<'a>(&self, buffer: &'a mut [u8]) -> Result<SliceMut<'a>, Error>
         ensures packed { IfOk result (λ packed. bits High (written_bytes packed) ≡ sample_bits self.now) }
+        ensures first { IfOk result (HoldsFirst buffer.entry.ghost_name buffer.old) }
+        ensures fits { IsOk result → Fits self.now }
+        ensures misfit { (error : Error) → run_length (sample_writes High self.now) 0 ≡ Err error
+            → result ≡ Err error }
         ensures room { Fits self.now → 6 ≤ length buffer.old → IsOk result }
+        ensures short { Fits self.now → length buffer.old < 6 → result ≡ Err (Stream WriteZero) }
     {
-        let mut writer = BitWriter::<_, BE>::over(buffer);
-        self.write(&mut writer)?;
-        writer.byte_align()?;
-        Ok(writer.into_writer())
+        pack_into::<BE, Sample>(self, buffer)
     }
 }
 

@@ -2,9 +2,9 @@
 -- What was written of an `AdtsHeader` is read back, and how many bits it takes.
 use Rattle.bitstream_formats.specs.AdtsHeader.{adts_header_entry, adts_header_writes, adts_header_size, adts_header_bits, Fits}
 use Rattle.bitstream_formats.specs.declared.adts_header.AdtsHeader.{AdtsHeader}
-use Rattle.std.proofs.Common.{◌≡◌, ◌++◌, ◌∷◌, [], Ok, refl}
-use Rattle.bitstream_io.proofs.CallerLemmas.{GoesBack, Packs, bit-back, unsigned-back, gives-back, literal-back, bit-written, unsigned-written, const-written, packs-none, packs-more}
-use Rattle.bitstream_io.specs.Callers.{Order, High, align, write_run}
+use Rattle.std.proofs.Common.{◌≡◌, ◌++◌, ◌∷◌, [], ℕ, Ok, refl}
+use Rattle.bitstream_io.proofs.CallerLemmas.{GoesBack, Packs, unsigned-accepted, bit-back, unsigned-back, gives-back, literal-back, bit-written, unsigned-written, const-written, packs-none, packs-more}
+use Rattle.bitstream_io.specs.Callers.{Order, High, align, write_run, AllAccepted}
 
 -- what was written is read back
 pub adts_header_goes : (o : Order) (value : AdtsHeader) → Fits value
@@ -30,6 +30,22 @@ adts_header_packs o value fits =
     (bit-written value.copyright_start) (packs-more (unsigned-written o 16 13 value.frame_length refl
     fits.frame_length) (packs-more (unsigned-written o 16 11 value.fullness refl fits.fullness) (packs-more
     (unsigned-written o 8 2 value.blocks refl fits.blocks) (packs-none)))))))))))))))
+
+-- each field fits if each write is accepted
+pub adts_header_fits : (o : Order) (value : AdtsHeader) (at : ℕ) → AllAccepted (adts_header_writes o value) at → Fits
+    value
+adts_header_fits o value at all = record {
+  profile = unsigned-accepted o 8 2 value.profile _ refl (all.1.1.1.1.0);
+  frequency = unsigned-accepted o 8 4 value.frequency _ refl (all.1.1.1.1.1.0);
+  channels = unsigned-accepted o 8 3
+      value.channels _ refl (all.1.1.1.1.1.1.1.0);
+  frame_length = unsigned-accepted o 16 13 value.frame_length _ refl
+      (all.1.1.1.1.1.1.1.1.1.1.1.1.0);
+  fullness = unsigned-accepted o 16 11 value.fullness _ refl
+      (all.1.1.1.1.1.1.1.1.1.1.1.1.1.0);
+  blocks = unsigned-accepted o 8 2 value.blocks _ refl
+      (all.1.1.1.1.1.1.1.1.1.1.1.1.1.1.0);
+}
 
 -- the bits, of which a search is to see no part
 pub told : (value : AdtsHeader)

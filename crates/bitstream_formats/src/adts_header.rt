@@ -6,12 +6,13 @@ ghost use Rattle.bitstream_formats.specs.declared.adts_header.AdtsHeader.{AdtsHe
 ghost use Rattle.bitstream_formats.specs.declared.adts_header.AdtsHeaderError.{AdtsHeaderError};
 ghost use Rattle.bitstream_formats.specs.declared.adts_header.AdtsHeaderError.TheVariants.{Reader, NoSync, UnknownLayer};
 ghost use Rattle.std.specs.Prelude.{◌≡◌, ◌≢◌, ◌<◌, ◌≤◌, ◌++◌, ℕ, Bool, List, Ok, Err, length, IfOk, IsOk};
-ghost use Rattle.bitstream_io.specs.Callers.{Takes, EndOfInput, Order, High, bits, write_run, ReadsOwn, OwnAnswer, WritesAll, sure_answer, same_error};
-ghost use Rattle.bitstream_io.specs.SliceMut.{written_bytes};
+ghost use Rattle.std.specs.declared.io.ErrorKind.TheVariants.{WriteZero};
+ghost use Rattle.bitstream_io.specs.Callers.{Takes, Error, EndOfInput, Order, High, bits, write_run, ReadsOwn, OwnAnswer, WritesAll, run_length, sure_answer, Stream, same_error};
+ghost use Rattle.bitstream_io.specs.SliceMut.{HoldsFirst, written_bytes};
 
 use bitstream_io::{
-    BE, BitRead, BitReadExt, BitReader, BitWrite, BitWriteExt, BitWriter, Bits, Error,
-    FromBitStream, SliceMut, ToBitStream,
+    BE, BitRead, BitReadExt, BitReader, BitWrite, BitWriteExt, Bits, Error, FromBitStream,
+    SliceMut, ToBitStream, pack_into,
 };
 
 /// What stands before a frame of AAC (ISO/IEC 14496-3, section 1.A.2.2), without its checksum.
@@ -172,21 +173,24 @@ impl AdtsHeader {
         Ok(())
     }
 
-    /// Writes the fields to the first bytes of a buffer, and returns what was written. No write
-    /// fails if each field fits its bits and the buffer has 7 bytes. No memory is asked for.
+    /// Writes the fields to the first bytes of a buffer, and returns what was written. The other bytes
+    /// stay as they were. No memory is asked for.
     ///
     /// # Errors
     ///
-    /// `Checked` for a field that does not fit its bits, or `Stream(WriteZero)` if the buffer is too
-    /// short.
+    /// `Checked` for the first field that does not fit its bits, however long the buffer is.
+    /// `Stream(WriteZero)` if all fields fit, and the buffer has fewer than 7 bytes.
+    /// The first bytes of the buffer may be changed then.
     pub fn pack_into<'a>(&self, buffer: &'a mut [u8]) -> Result<SliceMut<'a>, Error>
         ensures packed { IfOk result (λ packed. bits High (written_bytes packed) ≡ adts_header_bits self.now) }
+        ensures first { IfOk result (HoldsFirst buffer.entry.ghost_name buffer.old) }
+        ensures fits { IsOk result → Fits self.now }
+        ensures misfit { (error : Error) → run_length (adts_header_writes High self.now) 0 ≡ Err error
+            → result ≡ Err error }
         ensures room { Fits self.now → 7 ≤ length buffer.old → IsOk result }
+        ensures short { Fits self.now → length buffer.old < 7 → result ≡ Err (Stream WriteZero) }
     {
-        let mut writer = BitWriter::<_, BE>::over(buffer);
-        self.write(&mut writer)?;
-        writer.byte_align()?;
-        Ok(writer.into_writer())
+        pack_into::<BE, AdtsHeader>(self, buffer)
     }
 }
 

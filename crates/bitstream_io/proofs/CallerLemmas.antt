@@ -79,6 +79,12 @@ pub use Rattle.bitstream_io.proofs.CallsBack.{any_vbr-back, bytes-back, vec-back
 pub use Rattle.bitstream_io.proofs.NonZeroBack.{non_zero_u8-again, non_zero_u16-again, non_zero_u32-again, non_zero_u64-again, non_zero_u128-again}
 pub use Rattle.bitstream_io.proofs.NonZeroBack.{option_u8-again, option_u16-again, option_u32-again, option_u64-again, option_u128-again}
 pub use Rattle.bitstream_io.proofs.PackLemmas.{IsWritten, Packs, packs, packs-none, packs-more, packs-part, packs-items, packs-signed_items, packs-parts, packs-is, packs-room, packs-whole, unsigned-written, signed-written, non_zero-written, const-written, zeros-written, bit-written, bytes-written, unary-written, vbr-written}
+-- what was accepted fits
+pub use Rattle.bitstream_io.proofs.PackLemmas.{IsAccepted, unsigned-accepted, signed-accepted, non_zero-accepted, accepted-first, accepted-second, each-accepted, items-accepted, signed_items-accepted}
+-- what `pack_into` makes of calls
+pub use Rattle.bitstream_io.proofs.PackLemmas.{packed-bits, packed-accepted, packed-room, packed-short}
+-- a target to bytes in memory has written the first of them, and the others are as they were
+pub use Rattle.bitstream_order.proofs.Streaming.SliceMutLemmas.{slice-holds}
 pub use Rattle.bitstream_io.proofs.RunLemmas.{counted, write_run-append}
 pub use Rattle.bitstream_io.specs.Loop.{ItemsRead, ItemsWritten}
 

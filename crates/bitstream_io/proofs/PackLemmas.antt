@@ -1,22 +1,34 @@
 -- That calls are all accepted wherever they stand, and how many bits they write: `Packs`. A caller's proof of it is
--- `search (packs, FACTS)`, where the facts say that the values fit their widths.
-use Rattle.std.proofs.Common.{◌≡◌, ◌∙◌, ℕ, ℤ, ◌+◌, ◌-◌, ◌*◌, ◌^◌, ◌<◌, ◌≤◌, Bool, true, false, List, [], ◌∷◌, ◌++◌, length, Ok, refl, sym, subst, arith, length-append, append-nil}
-use Rattle.std.specs.Prelude.{nat_le, nat_lt, replicate}
+-- `search (packs, FACTS)`, where the facts say that the values fit their widths. The other way: that what was accepted
+-- fits. And what `pack_into` makes of such calls.
+use Rattle.std.proofs.Common.{ap, inl, inr, ◌≡◌, ◌∙◌, ℕ, ℤ, ◌+◌, ◌-◌, ◌*◌, ◌^◌, ◌<◌, ◌≤◌, Bool, true, false, List, [], ◌∷◌, ◌++◌, length, Result, Ok, Err, refl, sym, subst, arith, length-append, append-nil}
+use Rattle.std.specs.Borrow.{GName}
+use Rattle.std.specs.Prelude.{nat_le, nat_lt, replicate, pos, negsuc, IfOk, IsOk}
+use Rattle.std.specs.declared.io.ErrorKind.TheVariants.{WriteZero}
+use Rattle.std.proofs.lemmas.Bool.{cases_lt}
 use Rattle.std.specs.List.{All, flat_map}
 use Rattle.std.proofs.lemmas.Bool.Decides.{nat_tests}
 use Rattle.std.proofs.lemmas.List.{length-replicate}
-use Rattle.std.proofs.lemmas.List.Elements.{All-head, All-tail, All-weaker}
+use Rattle.std.proofs.lemmas.List.Elements.{All-cons, All-head, All-nil, All-tail, All-weaker}
 use Rattle.bitstream_number.specs.Word.{FitsSignedBits, Order, bits, signed_word, word}
 use Rattle.bitstream_number.proofs.WordLemmas.{length-bits, length-word}
 use Rattle.bitstream_count.specs.Entry.{WriteEntry}
+use Rattle.bitstream_count.specs.declared.error.Error.{Error}
+use Rattle.bitstream_count.specs.declared.error.Error.TheVariants.{Checked, Stream}
+use Rattle.bitstream_count.specs.declared.checked_error.CheckedError.TheVariants.{ExcessiveBits, ExcessiveValue}
 use Rattle.bitstream_count.specs.Unary.{unary}
 use Rattle.bitstream_count.specs.Vbr.{vbr_word}
+use Rattle.bitstream_order.specs.Streaming.SliceMut.{written_bytes}
+use Rattle.bitstream_order.specs.declared.streams.slice_mut.SliceMut.{SliceMut}
 use Rattle.bitstream_stream.specs.Alignment.{to_boundary}
 use Rattle.bitstream_stream.specs.Writing.Room.{AllAccepted}
 use Rattle.bitstream_stream.specs.Run.{accepted, write_run}
 use Rattle.bitstream_stream.specs.Writing.WriteTable.{align, bit, buffer, plain, signed, unary_word, unsigned, vbr, zeros}
-use Rattle.bitstream_stream.proofs.Writing.WriteLemmas.{signed-accepts, unsigned-fits}
+use Rattle.bitstream_stream.proofs.Writing.WriteLemmas.{signed-accepts, signed-refuses, unsigned-fits, unsigned-refuses}
+use Rattle.bitstream_value.specs.Lengths.{run_length}
 use Rattle.bitstream_value.specs.NonZero.{non_zero}
+use Rattle.bitstream_value.specs.PackInto.{PacksInto}
+use Rattle.bitstream_value.proofs.PackIntoLemmas.{accepted-run, run-accepted}
 use Rattle.bitstream_io.specs.Loop.{parts_size}
 use Rattle.bitstream_io.proofs.RunLemmas.{write_run-append}
 
@@ -203,3 +215,117 @@ packs-whole {es = es} {k = k} all whole =
     let here : 0 + length (write_run es 0) ≡ k = let size = all.size 0 in omega (arith, size) in
     let none : write_run (align ∷ []) k ≡ [] = rw whole refl in
     write_run-append es (align ∷ []) 0 ∙ rw (here, none) (append-nil (write_run es 0))
+
+-- ---- what was accepted fits
+
+abbrev pub IsAccepted : WriteEntry → ℕ → Type 0
+IsAccepted entry at = entry at ≡ Ok (accepted (entry at))
+
+-- an unsigned number of one bit or more
+pub unsigned-accepted : (o : Order) (size n v at : ℕ) → nat_lt 0 n ≡ true → IsAccepted (unsigned o size n v) at
+    → v < 2 ^ n
+unsigned-accepted o size n v at some h =
+    let few : 0 < n = grind (arith, nat_tests) in
+    elim (cases_lt size n) [
+      | inl wide ↦ let no = unsigned-refuses o size n v at ExcessiveBits wide in cc
+      | inr within ↦ elim (cases_lt v (2 ^ n)) [
+        | inl less ↦ less
+        | inr more ↦ let no = unsigned-refuses o size n v at ExcessiveValue (within, few, more) in cc
+      ]
+    ]
+
+-- a signed one
+pub signed-accepted : (o : Order) (size n : ℕ) (x : ℤ) (at : ℕ) → nat_lt 0 n ≡ true → IsAccepted (signed o size n x) at
+    → FitsSignedBits n x
+signed-accepted o size n (pos k) at some h =
+    let few : 0 < n = grind (arith, nat_tests) in
+    elim (cases_lt size n) [
+      | inl wide ↦ let no = signed-refuses o size n (pos k) at ExcessiveBits few wide in cc
+      | inr within ↦ elim (cases_lt k (2 ^ (n - 1))) [
+        | inl less ↦ less
+        | inr more ↦ let no = signed-refuses o size n (pos k) at ExcessiveValue few (within, more) in cc
+      ]
+    ]
+signed-accepted o size n (negsuc k) at some h =
+    let few : 0 < n = grind (arith, nat_tests) in
+    elim (cases_lt size n) [
+      | inl wide ↦ let no = signed-refuses o size n (negsuc k) at ExcessiveBits few wide in cc
+      | inr within ↦ elim (cases_lt k (2 ^ (n - 1))) [
+        | inl less ↦ less
+        | inr more ↦ let no = signed-refuses o size n (negsuc k) at ExcessiveValue few (within, more) in cc
+      ]
+    ]
+
+-- a number that is not 0, as its number less 1
+pub non_zero-accepted : (o : Order) (size n v at : ℕ) → nat_lt n size ≡ true → nat_lt 0 n ≡ true
+    → IsAccepted (non_zero o size n v) at → v - 1 < 2 ^ n
+unfolding non_zero
+non_zero-accepted o size n v at less some h = unsigned-accepted o size n (v - 1) at some (rw less at h)
+
+-- the first of two parts, and the second
+pub accepted-first : (es fs : List WriteEntry) (at : ℕ) → AllAccepted (es ++ fs) at → AllAccepted es at
+accepted-first [] fs at all = tt
+accepted-first (e ∷ es) fs at all = (all.0, accepted-first es fs (at + length (accepted (e at))) all.1)
+
+pub accepted-second : (es fs : List WriteEntry) (at : ℕ) → AllAccepted (es ++ fs) at
+    → AllAccepted fs (at + length (write_run es at))
+accepted-second [] fs at all =
+    let none : at ≡ at + 0 = omega arith in
+    subst (AllAccepted fs) none all
+accepted-second (e ∷ es) fs at all =
+    let w = accepted (e at) in
+    let place : at + length w + length (write_run es (at + length w)) ≡ at + length (w ++ write_run es (at + length w)) =
+    let sum = length-append w (write_run es (at + length w)) in omega (arith, sum) in
+    subst (AllAccepted fs) place (accepted-second es fs (at + length w) all.1)
+
+-- items, of a call each
+pub each-accepted : {A : Type 0} (write : A → WriteEntry) (P : A → Type 0)
+    → ((x : A) (at : ℕ) → IsAccepted (write x) at → P x) → (xs : List A) (at : ℕ)
+    → AllAccepted (flat_map (λ x. write x ∷ []) xs) at → All P xs
+each-accepted write P fit [] at all = All-nil P
+each-accepted write P fit (x ∷ xs) at all =
+    All-cons P x xs (fit x at all.0) (each-accepted write P fit xs (at + length (accepted (write x at))) all.1)
+
+pub items-accepted : (o : Order) (size n : ℕ) (xs : List ℕ) (at : ℕ) → nat_lt 0 n ≡ true
+    → AllAccepted (flat_map (λ x. unsigned o size n x ∷ []) xs) at → All (λ x. x < 2 ^ n) xs
+items-accepted o size n xs at some all =
+    each-accepted (unsigned o size n) (λ (x : ℕ). x < 2 ^ n) (λ x at is. unsigned-accepted o size n x at some is)
+    xs at all
+
+pub signed_items-accepted : (o : Order) (size n : ℕ) (xs : List ℤ) (at : ℕ) → nat_lt 0 n ≡ true
+    → AllAccepted (flat_map (λ x. signed o size n x ∷ []) xs) at → All (FitsSignedBits n) xs
+signed_items-accepted o size n xs at some all =
+    each-accepted (signed o size n) (FitsSignedBits n) (λ x at is. signed-accepted o size n x at some is) xs at all
+
+-- ---- calls that are packed into a buffer
+
+-- the bits of the written bytes, by another name
+pub packed-bits : {o : Order} {es : List WriteEntry} {name : GName} {was : List ℕ} {r : Result SliceMut Error}
+    {x : List Bool} → PacksInto o es name was r → write_run (es ++ align ∷ []) 0 ≡ x
+    → IfOk r (λ packed. bits o (written_bytes packed) ≡ x)
+packed-bits {r = Ok packed} p is = p.packed ∙ is
+packed-bits {r = Err error} p is = tt
+
+-- it succeeds only if all were accepted
+accepted_by : {o : Order} {es : List WriteEntry} {name : GName} {was : List ℕ} {r : Result SliceMut Error}
+    → PacksInto o es name was r → IsOk r → (long : Result ℕ Error) → run_length es 0 ≡ long → AllAccepted es 0
+accepted_by {es = es} p done (Ok n) is = (run-accepted es 0 n is).0
+accepted_by p done (Err error) is = let failed = p.misfit error is in let no = subst IsOk failed done in cc
+
+pub packed-accepted : {o : Order} {es : List WriteEntry} {name : GName} {was : List ℕ} {r : Result SliceMut Error}
+    → PacksInto o es name was r → IsOk r → AllAccepted es 0
+packed-accepted {es = es} p done = accepted_by p done (run_length es 0) refl
+
+-- calls of a known length
+packs-length : {es : List WriteEntry} {k : ℕ} → Packs es k → run_length es 0 ≡ Ok k
+packs-length {es = es} all = accepted-run es 0 (all.accepted 0) ∙ ap Ok (all.size 0)
+
+-- it succeeds if there is room for them
+pub packed-room : {o : Order} {es : List WriteEntry} {name : GName} {was : List ℕ} {r : Result SliceMut Error} {k : ℕ}
+    → PacksInto o es name was r → Packs es k → k ≤ 8 * length was → IsOk r
+packed-room {k = k} p all enough = p.room k (packs-length all) enough
+
+-- else it lacks room
+pub packed-short : {o : Order} {es : List WriteEntry} {name : GName} {was : List ℕ} {r : Result SliceMut Error} {k : ℕ}
+    → PacksInto o es name was r → Packs es k → 8 * length was < k → r ≡ Err (Stream WriteZero)
+packed-short {k = k} p all few = p.short k (packs-length all) few

@@ -15,7 +15,9 @@ pub use Rattle.bitstream_stream.specs.Run.{write_run}
 pub use Rattle.bitstream_value.specs.Array.{items_entry, words}
 pub use Rattle.bitstream_value.specs.Boolean.{truth_entry, truth}
 pub use Rattle.bitstream_value.specs.Grows.{GrowingOutcome, GrowsOwn, MayAllocate, OwnReads, parts_entry, PartsRead}
+pub use Rattle.bitstream_value.specs.Lengths.{run_length}
 pub use Rattle.bitstream_value.specs.NonZero.{non_zero, option_entry, if_any, number_or_zero}
+pub use Rattle.bitstream_value.specs.PackInto.{PacksInto}
 pub use Rattle.bitstream_value.specs.Own.{OwnAnswer, ReadsOwn, WritesOwn, part_then, same_error, plain_reads}
 pub use Rattle.bitstream_value.specs.Tree.{Tree, leaf, node, IsPath, path_entry, bit_by_bit}
 pub use Rattle.bitstream_io.specs.Loop.{ItemsRead, ItemsWritten, all_ok}

@@ -67,6 +67,7 @@ pub use Rattle.bitstream_value.specs.Lengths
 pub use Rattle.bitstream_value.specs.LimitedUnary
 pub use Rattle.bitstream_value.specs.NonZero
 pub use Rattle.bitstream_value.specs.Own
+pub use Rattle.bitstream_value.specs.PackInto
 pub use Rattle.bitstream_value.specs.SymbolWords
 pub use Rattle.bitstream_value.specs.Tree
 pub use Rattle.bitstream_value.specs.Boolean

@@ -104,6 +104,7 @@ pub mod write {
     pub use bitstream_stream::write::BitWrite;
     pub use bitstream_stream::write::writer::BitWriter;
     pub use bitstream_value::build::{ToBitStream, ToBitStreamUsing, ToBitStreamWith};
+    pub use bitstream_value::pack::pack_into;
     pub use bitstream_value::write::BitWriteExt;
 }
 
@@ -178,5 +179,5 @@ pub use read::{
 };
 pub use write::{
     BitCounter, BitRecorder, BitWrite, BitWriteExt, BitWriter, BitsWritten, Growing, Recorder,
-    SliceMut, Target, ToBitStream, ToBitStreamUsing, ToBitStreamWith,
+    SliceMut, Target, ToBitStream, ToBitStreamUsing, ToBitStreamWith, pack_into,
 };
