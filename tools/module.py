@@ -73,10 +73,10 @@ class Module(Code, Specs, Proofs):
         seen = [it for it in self.lines[: self.lines.index(line)] if it.name]
         return (f"{self.m}_entry_{k}" if k else f"{self.m}_entry"), seen
 
-    def listed(self):
-        """Gives the lines that name the files, by the file that has them."""
+    def listed(self, root):
+        """Gives the lines that name the files, by the file that has them; `root` is that of the crate."""
         return {
-            "src/lib.rt": [f"pub mod {self.m};"],
+            root: ["pub " * (root == "src/lib.rt") + f"mod {self.m};"],
             "specs/Lib.antt": [f"pub mod {self.spec}"] + [f"pub mod {self.spec}Fields"] * self.grows,
             "proofs/Lib.antt": [f"pub mod {self.spec}Lemmas"] + [f"mod {self.spec}Rows"] * bool(self.examples),
         }

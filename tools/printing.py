@@ -49,6 +49,11 @@ def module_of(description, folder, name):
     return Module(os.path.basename(os.path.abspath(folder)), name, *said)
 
 
+def root_of(folder):
+    """Gives the root file of a crate: that of a program, if it has one, and else that of a library."""
+    return "src/main.rt" if os.path.exists(os.path.join(folder, "src", "main.rt")) else "src/lib.rt"
+
+
 def lay_out(crate):
     ran = subprocess.run(["rt", "fmt"], cwd=crate, capture_output=True, text=True, check=False)
     if ran.returncode:
@@ -82,7 +87,7 @@ def printed(descriptions, folder):
             shutil.copytree(os.path.join(folder, "src"), os.path.join(crate, "src"))
         places = [print_into(crate, it) for it in found]
         put(room, "crates.txt", f"{os.path.basename(crate)}:\n")
-        put(crate, "src/lib.rt", "".join(f"pub mod {it.m};\n" for it in found))
+        put(crate, root_of(crate), "".join(f"mod {it.m};\n" for it in found))
         lay_out(crate)
         return [(it, {place: text_of(crate, place) for place in named}) for it, named in zip(found, places)]
 
@@ -104,7 +109,7 @@ def write(description, folder, name=None):
     made, files = printed({description: name}, folder)[0]
     for place, text in files.items():
         put(folder, place, text)
-    for place, lines in made.listed().items():
+    for place, lines in made.listed(root_of(folder)).items():
         for line in lines:
             listed(folder, place, line)
     return sum(text.count("\n") for text in files.values())

@@ -1,0 +1,160 @@
+-- The first 44 bytes of a WAV file whose first two chunks are `fmt ` and `data`.
+use Rattle.wav_header.specs.declared.header.Header.{Header}
+use Rattle.wav_header.specs.declared.header.HeaderError.{HeaderError}
+use Rattle.wav_header.specs.declared.header.HeaderError.TheVariants.{Reader, NoRiff, NoWave, NoFormat, LongFormat, NoData}
+use Rattle.wav_header.specs.declared.header.Coding.{Coding}
+use Rattle.wav_header.specs.declared.header.Coding.TheVariants.{Pcm, Float, ALaw, MuLaw, Other}
+use Rattle.std.specs.Prelude.{◌≡◌, ◌^◌, ◌<◌, ◌++◌, ◌∷◌, [], ◌==◌, if◌then◌else◌, ℕ, Bool, List, Result, Ok, Err, take, drop}
+use Rattle.bitstream_io.specs.Callers.{◌>>=◌, ReadEntry, WriteEntry, gives, Error, Order, Low, number, chain, word, unsigned_entry, const_entry, plain, unsigned, align, write_run}
+
+-- Made by `./format` from formats/header.fields: edit that file and make this one anew.
+
+-- an error of the reader is one of the type's
+abbrev pub becomes_header : Error → HeaderError → Type 0
+becomes_header error own = own ≡ Reader error
+
+-- n bits behind the first k
+abbrev pub bits_at : ℕ → ℕ → List Bool → List Bool
+bits_at k n bits = take n (drop k bits)
+
+-- the 32 bits at 0, which are 1179011410
+abbrev pub const_at_0 : List Bool → ℕ
+const_at_0 bits = number Low (bits_at 0 32 bits)
+
+-- the 32 bits at 64, which are 1163280727
+abbrev pub const_at_64 : List Bool → ℕ
+const_at_64 bits = number Low (bits_at 64 32 bits)
+
+-- the 32 bits at 96, which are 544501094
+abbrev pub const_at_96 : List Bool → ℕ
+const_at_96 bits = number Low (bits_at 96 32 bits)
+
+-- the 32 bits at 128, which are 16
+abbrev pub const_at_128 : List Bool → ℕ
+const_at_128 bits = number Low (bits_at 128 32 bits)
+
+-- what a number says
+abbrev pub coding_of : ℕ → Coding
+coding_of n = if n == 1 then Pcm else if n == 3 then Float else if n == 6 then ALaw else if n == 7 then MuLaw else Other
+    n
+
+-- and back
+abbrev pub coding_number : Coding → ℕ
+coding_number Pcm = 1
+coding_number Float = 3
+coding_number ALaw = 6
+coding_number MuLaw = 7
+coding_number (Other n) = n
+
+-- the read of its number
+abbrev pub coding_read : Order → ReadEntry Coding
+coding_read o = chain (unsigned_entry o 16 16) (λ v. gives (coding_of v))
+
+-- the 32 bits at 288, which are 1635017060
+abbrev pub const_at_288 : List Bool → ℕ
+const_at_288 bits = number Low (bits_at 288 32 bits)
+
+-- the reads, in order, behind 5 that may be refused
+abbrev pub header_entry_5 : Order → ℕ → Coding → ℕ → ℕ → ℕ → ℕ → ℕ → ReadEntry (Result Header HeaderError)
+header_entry_5 o size coding channels sample_rate byte_rate block_size bits_per_sample = do
+  data_size ← unsigned_entry o 32 32
+  gives (Ok (record {
+    size = size;
+    coding = coding;
+    channels = channels;
+    sample_rate = sample_rate;
+    byte_rate =
+        byte_rate;
+    block_size = block_size;
+    bits_per_sample = bits_per_sample;
+    data_size = data_size;
+  }))
+
+-- the reads, in order, behind 4 that may be refused
+abbrev pub header_entry_4 : Order → ℕ → ReadEntry (Result Header HeaderError)
+header_entry_4 o size = do
+  coding ← coding_read o
+  channels ← unsigned_entry o 16 16
+  sample_rate ← unsigned_entry o 32 32
+  byte_rate ← unsigned_entry o 32 32
+  block_size ← unsigned_entry o 16 16
+  bits_per_sample ← unsigned_entry o 16 16
+  is_11 ← const_entry o 32 1635017060
+  if is_11 then header_entry_5 o size coding channels sample_rate byte_rate block_size bits_per_sample else gives (Err
+      NoData)
+
+-- the reads, in order, behind 3 that may be refused
+abbrev pub header_entry_3 : Order → ℕ → ReadEntry (Result Header HeaderError)
+header_entry_3 o size = do
+  is_4 ← const_entry o 32 16
+  if is_4 then header_entry_4 o size else gives (Err LongFormat)
+
+-- the reads, in order, behind 2 that may be refused
+abbrev pub header_entry_2 : Order → ℕ → ReadEntry (Result Header HeaderError)
+header_entry_2 o size = do
+  is_3 ← const_entry o 32 544501094
+  if is_3 then header_entry_3 o size else gives (Err NoFormat)
+
+-- the reads, in order, behind 1 that may be refused
+abbrev pub header_entry_1 : Order → ReadEntry (Result Header HeaderError)
+header_entry_1 o = do
+  size ← unsigned_entry o 32 32
+  is_2 ← const_entry o 32 1163280727
+  if is_2 then header_entry_2 o size else gives (Err NoWave)
+
+-- the reads, in order
+abbrev pub header_entry : Order → ReadEntry (Result Header HeaderError)
+header_entry o = do
+  is_0 ← const_entry o 32 1179011410
+  if is_0 then header_entry_1 o else gives (Err NoRiff)
+
+-- the writes, in order
+abbrev pub header_writes : Order → Header → List WriteEntry
+header_writes o value =
+    plain (word o 32 1179011410)
+    ∷ unsigned o 32 32 value.size
+    ∷ plain (word o 32 1163280727)
+    ∷ plain (word o 32 544501094)
+    ∷ plain (word o 32 16)
+    ∷ unsigned o 16 16 (coding_number value.coding)
+    ∷ unsigned o 16 16 value.channels
+    ∷ unsigned o 32 32 value.sample_rate
+    ∷ unsigned o 32 32 value.byte_rate
+    ∷ unsigned o 16 16 value.block_size
+    ∷ unsigned o 16 16 value.bits_per_sample
+    ∷ plain (word o 32 1635017060)
+    ∷ unsigned o 32 32 value.data_size
+    ∷ []
+
+-- each field fits its bits
+pub record Fits (value : Header) : Type 0 where
+  pub size : value.size < 2 ^ 32
+  pub coding : coding_number value.coding < 2 ^ 16
+  pub coding_again : coding_of (coding_number value.coding) ≡ value.coding
+  pub channels : value.channels < 2 ^ 16
+  pub sample_rate : value.sample_rate < 2 ^ 32
+  pub byte_rate : value.byte_rate < 2 ^ 32
+  pub block_size : value.block_size < 2 ^ 16
+  pub bits_per_sample : value.bits_per_sample < 2 ^ 16
+  pub data_size : value.data_size < 2 ^ 32
+
+-- the number of bits
+abbrev pub header_size : Order → Header → ℕ
+header_size o value = 352
+
+-- the bits of all fields, up to a whole byte
+unfoldable pub header_bits : Header → List Bool
+header_bits value = write_run (header_writes Low value ++ align ∷ []) 0
+
+-- the fields that bits say, each by its place
+abbrev pub header_at : List Bool → Header
+header_at bits = record {
+  size = number Low (bits_at 32 32 bits);
+  coding = coding_of (number Low (bits_at 160 16 bits));
+  channels = number Low (bits_at 176 16 bits);
+  sample_rate = number Low (bits_at 192 32 bits);
+  byte_rate = number Low (bits_at 224 32 bits);
+  block_size = number Low (bits_at 256 16 bits);
+  bits_per_sample = number Low (bits_at 272 16 bits);
+  data_size = number Low (bits_at 320 32 bits);
+}
