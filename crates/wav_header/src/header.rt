@@ -6,12 +6,13 @@ ghost use Rattle.wav_header.specs.declared.header.Header.{Header};
 ghost use Rattle.wav_header.specs.declared.header.HeaderError.{HeaderError};
 ghost use Rattle.wav_header.specs.declared.header.HeaderError.TheVariants.{Reader, NoRiff, NoWave, NoFormat, LongFormat, NoData};
 ghost use Rattle.std.specs.Prelude.{◌≡◌, ◌≢◌, ◌<◌, ◌≤◌, ◌++◌, ℕ, Bool, List, Ok, Err, length, IfOk, IsOk};
-ghost use Rattle.bitstream_io.specs.Callers.{Takes, EndOfInput, Order, Low, bits, write_run, Reads, ReadsOwn, OwnAnswer, WritesAll, sure_answer, same_error};
-ghost use Rattle.bitstream_io.specs.SliceMut.{written_bytes};
+ghost use Rattle.std.specs.declared.io.ErrorKind.TheVariants.{WriteZero};
+ghost use Rattle.bitstream_io.specs.Callers.{Takes, Error, EndOfInput, Order, Low, bits, write_run, Reads, ReadsOwn, OwnAnswer, WritesAll, AllAccepted, run_length, sure_answer, Stream, same_error};
+ghost use Rattle.bitstream_io.specs.SliceMut.{HoldsFirst, written_bytes};
 
 use bitstream_io::{
-    BitRead, BitReadExt, BitReader, BitWrite, BitWriteExt, BitWriter, Bits, Error, FromBitStream,
-    LE, SliceMut, ToBitStream,
+    BitRead, BitReadExt, BitReader, BitWrite, BitWriteExt, Bits, Error, FromBitStream, LE,
+    SliceMut, ToBitStream, pack_into,
 };
 
 /// The first 44 bytes of a WAV file whose first two chunks are `fmt ` and `data`.
@@ -255,21 +256,24 @@ impl Header {
         Ok(())
     }
 
-    /// Writes the fields to the first bytes of a buffer, and returns what was written. No write
-    /// fails if each field fits its bits and the buffer has 44 bytes. No memory is asked for.
+    /// Writes the fields to the first bytes of a buffer, and returns what was written. The other bytes
+    /// stay as they were. No memory is asked for.
     ///
     /// # Errors
     ///
-    /// `Checked` for a field that does not fit its bits, or `Stream(WriteZero)` if the buffer is too
-    /// short.
+    /// `Checked` for the first field that does not fit its bits, however long the buffer is.
+    /// `Stream(WriteZero)` if all fields fit, and the buffer has fewer than 44 bytes.
+    /// The first bytes of the buffer may be changed then.
     pub fn pack_into<'a>(&self, buffer: &'a mut [u8]) -> Result<SliceMut<'a>, Error>
         ensures packed { IfOk result (λ packed. bits Low (written_bytes packed) ≡ header_bits self.now) }
+        ensures first { IfOk result (HoldsFirst buffer.entry.ghost_name buffer.old) }
+        ensures accepted { IsOk result → AllAccepted (header_writes Low self.now) 0 }
+        ensures misfit { (error : Error) → run_length (header_writes Low self.now) 0 ≡ Err error
+            → result ≡ Err error }
         ensures room { Fits self.now → 44 ≤ length buffer.old → IsOk result }
+        ensures short { Fits self.now → length buffer.old < 44 → result ≡ Err (Stream WriteZero) }
     {
-        let mut writer = BitWriter::<_, LE>::over(buffer);
-        self.write(&mut writer)?;
-        writer.byte_align()?;
-        Ok(writer.into_writer())
+        pack_into::<LE, Header>(self, buffer)
     }
 }
 

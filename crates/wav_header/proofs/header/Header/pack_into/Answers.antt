@@ -1,26 +1,26 @@
 -- Made by `./format` from formats/header.fields: edit that file and make this one anew.
-use Rattle.wav_header.specs.Header.{header_writes}
 use Rattle.wav_header.proofs.HeaderLemmas.{header_packs, told}
-use Rattle.std.proofs.Common.{◌∙◌, refl, arith, rules}
-use Rattle.bitstream_io.proofs.CallerLemmas.{packed_stream, calls_with_room, align_with_room, packs-room}
+use Rattle.std.proofs.Common.{arith}
+use Rattle.bitstream_io.proofs.CallerLemmas.{packed-bits, packed-accepted, packed-room, packed-short}
 use Rattle.bitstream_io.specs.Callers.{Low}
 use Rattle.wav_header.proofs.header.Header.pack_into.Goals as goal
 
 pub returns-clause-packed : goal.returns-clause-packed
-returns-clause-packed c = let whole = (packed_stream _ _ (header_writes Low c.args.self.now) c.over-writer.result (cc)
-    c.over-writer.ensures
-    c.in_ok-write.ensures c.in_ok-byte_align.ensures.writes).whole refl ∙ told c.args.self.now in
-    search rules
+returns-clause-packed c = packed-bits c.pack_into.ensures (told c.args.self.now)
 
-pub returns-in_err-write-clause-room : goal.returns-in_err-write-clause-room
-returns-in_err-write-clause-room c = λ fits enough. let all = header_packs Low _ fits in
-    let done = calls_with_room Low (header_writes Low c.args.self.now) c.over-writer.result c.over-writer.ensures
-    (all.accepted 0) (packs-room all _ (omega arith)) _ _ c.in_err-write.ensures in
-    cc
+pub returns-clause-first : goal.returns-clause-first
+returns-clause-first c = c.pack_into.ensures.first
 
-pub returns-in_err-byte_align-clause-room : goal.returns-in_err-byte_align-clause-room
-returns-in_err-byte_align-clause-room c = λ fits enough. let all = header_packs Low _ fits in
-    let done = align_with_room Low (header_writes Low c.args.self.now) c.over-writer.result c.over-writer.ensures
-    (all.accepted 0) (packs-room all _ (omega arith)) _ _ _ c.in_ok-write.ensures c.in_err-byte_align.ensures.writes
-    in
-    cc
+pub returns-clause-accepted : goal.returns-clause-accepted
+returns-clause-accepted c = λ done. packed-accepted c.pack_into.ensures done
+
+pub returns-clause-misfit : goal.returns-clause-misfit
+returns-clause-misfit c = c.pack_into.ensures.misfit
+
+pub returns-clause-room : goal.returns-clause-room
+returns-clause-room c = λ fits enough. packed-room c.pack_into.ensures (header_packs Low c.args.self.now fits) (omega
+    arith)
+
+pub returns-clause-short : goal.returns-clause-short
+returns-clause-short c = λ fits few. packed-short c.pack_into.ensures (header_packs Low c.args.self.now fits) (omega
+    arith)
