@@ -122,6 +122,30 @@ def short(name):
     return name if name in SYMBOLS else name.split("=")[-1]
 
 
+# The modules of the definitions that proofs unfold: a name that is passed on cannot be unfolded.
+UNFOLDS = {
+    "chain": "Entry",
+    "digits digits_number bytes_of": "Word",
+    "unsigned signed": "WriteTable",
+    "unsigned_entry signed_entry const_entry skip_entry unary_entry bytes_entry "
+    "groups_entry signed_groups_entry": "ReadTable",
+    "items_entry": "Array",
+    "parts_entry": "Grows",
+    "non_zero non_zero_entry option_entry": "NonZero",
+    "groups groups_at": "Vbr",
+}
+
+
+def opened(wanted):
+    """Gives the modules of the names that are unfolded."""
+    found = {}
+    for names, place in UNFOLDS.items():
+        named = [it for it in names.split() if it in wanted]
+        if named:
+            found[f"Rattle.bitstream_io.specs.{place}"] = " ".join(named)
+    return found
+
+
 def uses(text, *tables, begins="use ", ends=""):
     """Gives the imports of what a text names, each name from the first module that has it."""
     left, lines = words_of(text), []

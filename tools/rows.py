@@ -1,18 +1,7 @@
 """The rows of a description's examples, which the prover computes."""
 from lines import list_term
-from names import merged
+from names import merged, opened
 from parts import Part
-UNFOLDS = {
-    "chain": "Entry",
-    "digits digits_number bytes_of": "Word",
-    "unsigned signed": "WriteTable",
-    "unsigned_entry signed_entry const_entry skip_entry unary_entry bytes_entry "
-    "groups_entry signed_groups_entry": "ReadTable",
-    "items_entry": "Array",
-    "parts_entry": "Grows",
-    "non_zero non_zero_entry option_entry": "NonZero",
-    "groups groups_at": "Vbr",
-}
 
 
 def values_of(lines, said):
@@ -62,11 +51,7 @@ def row(module, k, data, said, unfolds):
 def rows(module):
     """Gives the rows, and where the names come from through which they compute, and those of what parts hold."""
     wanted = {"chain", "digits", "digits_number"} | {it for line in module.lines for it in line.unfolds}
-    found = {}
-    for names, place in UNFOLDS.items():
-        named = [it for it in names.split() if it in wanted]
-        if named:
-            found[f"Rattle.bitstream_io.specs.{place}"] = " ".join(named)
+    found = opened(wanted)
     unfolds = [it for names in found.values() for it in names.split()] + sorted(it for it in wanted if it[:4] == "lib.")
     out = [line for k, it in enumerate(module.examples) for line in row(module, k, *it, unfolds)]
     return out, merged(found, *[it.row_names(module) for it in module.lines if isinstance(it, Part)])

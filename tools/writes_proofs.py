@@ -1,5 +1,5 @@
 """The lemmas and the answers of a format."""
-from names import PROOFS, article, uses, wrapped
+from names import PROOFS, article, opened, uses, wrapped
 from rows import rows
 
 
@@ -7,7 +7,8 @@ class Proofs:
     def text(self, head, lines, *tables):
         """Gives a file of proofs: what made it, its head, the imports that its lines need, the goals' import, and the rest."""
         goals, rest = [it for it in lines if it.startswith("use ")], [it for it in lines if not it.startswith("use ")]
-        found = uses("\n".join(rest), self.own_specs(), *tables, self.types(), PROOFS)
+        unfolded = opened({name for it in rest if it.startswith("unfolding ") for name in it.split()[1:]})
+        found = uses("\n".join(rest), self.own_specs(), unfolded, *tables, self.types(), PROOFS)
         return wrapped("\n".join([f"-- {self.made}", *head, *found, *goals, *[""] * bool(rest[0]), *rest]).rstrip()) + "\n"
 
     def answer_text(self, lines):

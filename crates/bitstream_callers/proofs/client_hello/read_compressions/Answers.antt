@@ -1,9 +1,11 @@
 -- Made by `./format` from formats/client_hello.fields: edit that file and make this one anew.
 use Rattle.bitstream_callers.specs.ClientHello.{compression_read}
+use Rattle.bitstream_io.specs.Entry.{chain}
+use Rattle.bitstream_io.specs.ReadTable.{unsigned_entry}
+use Rattle.bitstream_io.specs.Grows.{parts_entry}
 use Rattle.std.proofs.Common.{◌≡◌, false, refl, arith}
 use Rattle.bitstream_io.proofs.CallerLemmas.{if_grown, parts-begin, parts-push, parts-stop, parts-refused}
 use Rattle.bitstream_io.proofs.EachLemmas.{own_seen_err}
-use Rattle.bitstream_io.specs.Callers.{chain, unsigned_entry, parts_entry}
 use Rattle.bitstream_callers.proofs.client_hello.read_compressions.Goals as goal
 
 pub loop-init : goal.loop-init

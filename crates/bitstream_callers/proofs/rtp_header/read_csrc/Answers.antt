@@ -1,8 +1,10 @@
 -- Made by `./format` from formats/rtp_header.fields: edit that file and make this one anew.
+use Rattle.bitstream_io.specs.Entry.{chain}
+use Rattle.bitstream_io.specs.ReadTable.{unsigned_entry}
+use Rattle.bitstream_io.specs.Array.{items_entry}
 use Rattle.std.proofs.Common.{◌≡◌, refl, arith}
 use Rattle.bitstream_io.proofs.CallerLemmas.{item-read, items-begin, items-push, items-stop, items-refused, grown}
 use Rattle.bitstream_io.proofs.ReadsLemmas.{seen_err}
-use Rattle.bitstream_io.specs.Callers.{chain, unsigned_entry, items_entry}
 use Rattle.bitstream_callers.proofs.rtp_header.read_csrc.Goals as goal
 
 pub loop-init : goal.loop-init

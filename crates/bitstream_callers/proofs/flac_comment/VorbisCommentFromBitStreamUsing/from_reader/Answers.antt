@@ -2,7 +2,9 @@ use Rattle.std.proofs.Common.{◌≡◌, ◌+◌, ◌<◌, ap, ◌∙◌, arith,
 use Rattle.std.specs.Prelude.{map}
 use Rattle.std.specs.String.{string_bytes}
 use Rattle.std.proofs.lemmas.List.{map-append}
-use Rattle.bitstream_io.specs.Callers.{Low, chain, bytes_entry}
+use Rattle.bitstream_io.specs.Entry.{chain}
+use Rattle.bitstream_io.specs.ReadTable.{bytes_entry}
+use Rattle.bitstream_io.specs.Word.{Low}
 use Rattle.bitstream_io.proofs.CallerLemmas.{is_error, go_grown, stop_grown, grown, part_go, part_stop, parts-begin, parts-push, parts-stop, parts-refused, grown_end, bytes_number-read, bytes_number-stops}
 use Rattle.bitstream_callers.specs.FlacComment.{text_reads}
 use Rattle.bitstream_callers.proofs.flac_comment.VorbisCommentFromBitStreamUsing.from_reader.Goals as goal

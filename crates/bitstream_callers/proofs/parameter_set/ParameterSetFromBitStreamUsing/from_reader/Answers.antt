@@ -1,6 +1,7 @@
 use Rattle.bitstream_io.proofs.CallerLemmas.{◌≡◌, ◌+◌, arith, refl, is_error, few_growing_reads, then_grown_read, if_grown, part_go, part_stop, parts-begin, parts-push, parts-stop, parts-refused, grown_end}
 use Rattle.std.proofs.Common.{false}
-use Rattle.bitstream_io.specs.Callers.{chain, unsigned_entry}
+use Rattle.bitstream_io.specs.Entry.{chain}
+use Rattle.bitstream_io.specs.ReadTable.{unsigned_entry}
 use Rattle.bitstream_callers.specs.ParameterSet.{point_reads}
 use Rattle.bitstream_callers.proofs.parameter_set.ParameterSetFromBitStreamUsing.from_reader.Goals as goal
 
