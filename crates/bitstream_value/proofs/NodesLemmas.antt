@@ -583,6 +583,12 @@ module _ {S : Type 0} (same : S → S → Bool) (s : S) (nodes : List (Node S)) 
     pub stands : Stands nodes t low (root + 1)
     pub found : IsFirstPlace same s nodes low (root + 1) place
 
+  -- a symbol that no leaf of a nodes_of has, has no path
+  pub path-lacks : (t : Tree S) (end : ℕ) → Stands nodes t 0 end → FindsFirst same s nodes 0 end None
+      → first_path same t s ≡ None
+  unfolding Lacks
+  path-lacks t end h none = none-in t 0 end h none
+
   -- a symbol that no leaf of a nodes_of has, has no word
   pub word-lacks : (t : Tree S) (end : ℕ) → Stands nodes t 0 end → FindsFirst same s nodes 0 end None
       → symbol_word same t s ≡ []

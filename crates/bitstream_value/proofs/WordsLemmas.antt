@@ -1,22 +1,30 @@
 -- Words that are put together bit by bit, and found by their symbols.
-use Rattle.std.proofs.Common.{◌≡◌, ℕ, suc, ◌+◌, ◌-◌, ◌*◌, ◌/◌, ◌%◌, ◌^◌, ◌<◌, ◌≤◌, Bool, true, false, List, [], ◌∷◌, ◌++◌, length, drop, get_or, Option, Some, None, Result, Ok, Err, refl, sym, ap, ◌∙◌, arith, append-nil, append_assoc, add-one, pow-suc, inl, inr}
-use Rattle.std.specs.Prelude.{◌==◌, if◌then◌else◌}
+use Rattle.std.proofs.Common.{subst, length-append, ◌≡◌, ℕ, suc, ◌+◌, ◌-◌, ◌*◌, ◌/◌, ◌%◌, ◌^◌, ◌<◌, ◌≤◌, Bool, true, false, List, [], ◌∷◌, ◌++◌, length, drop, get_or, Option, Some, None, Result, Ok, Err, refl, sym, ap, ◌∙◌, arith, append-nil, append_assoc, add-one, pow-suc, inl, inr}
+use Rattle.std.specs.Prelude.{◌==◌, if◌then◌else◌, slice_get}
 use Rattle.std.specs.Cmp.{IsEquivalence}
 use Rattle.std.specs.List.{All, AllByRecursion}
+use Rattle.std.specs.List.Sorted.{IsPermutation}
+use Rattle.std.proofs.lemmas.Bool.{cases_lt}
+use Rattle.std.proofs.lemmas.List.Sorted.{All-permutation, IsPermutation-sym}
+use Rattle.bitstream_value.proofs.WalkLemmas.{node-at}
 use Rattle.std.proofs.Math.Nat.{div-div-eq-div-mul}
 use Rattle.std.proofs.Math.Seq.{drop-cons}
 use Rattle.std.proofs.lemmas.List.{drop_all, map-append}
-use Rattle.std.proofs.lemmas.List.Elements.{recursion_from_All}
+use Rattle.std.proofs.lemmas.List.Elements.{All-cons, All-head, All-nil, All-tail, All-weaker, recursion_from_All}
 use mir.Val.{bool_byte}
 use Rattle.bitstream_count.specs.declared.error.Error.{Error}
 use Rattle.bitstream_number.specs.Word.{High, digits, word}
-use Rattle.bitstream_number.proofs.WordLemmas.{digits-add, word_cat}
+use Rattle.bitstream_number.proofs.WordLemmas.{digits-add, length-word, word_cat}
 use Rattle.bitstream_stream.specs.Writing.Sink.{Sink, Writes, WritesAll, had_failed, was_rejected, past_limit, was_refused, was_done}
 use Rattle.bitstream_stream.specs.Writing.WriteTable.{bit}
 use Rattle.bitstream_stream.proofs.Writing.WriteParts.{all_append, all_err, all_one}
 use Rattle.bitstream_stream.proofs.Writing.WriterLemmas.{one_word}
 use Rattle.bitstream_value.specs.SymbolWords.{short_bits, short_sink, found_word, or_word}
 use Rattle.bitstream_value.specs.Tree.{Tree, leaf, node, bit_by_bit, first_path, symbol_word, or_nothing}
+use Rattle.bitstream_value.proofs.NodesLemmas.{Stands, path-lacks}
+use Rattle.bitstream_value.proofs.TreeLemmas.{word-some}
+use Rattle.bitstream_value.specs.declared.huffman.tree.Node.{Node}
+use Rattle.bitstream_value.specs.declared.huffman.tree.Node.TheVariants.{Leaf}
 use Rattle.bitstream_value.specs.declared.huffman.tree.words.ShortWord.{ShortWord}
 use Rattle.bitstream_value.specs.declared.huffman.tree.words.SymbolWord.{SymbolWord}
 
@@ -100,6 +108,155 @@ module _ {S : Type 0} (same : S → S → Bool) (law : IsEquivalence same) where
   pub found-right : (t : Tree S) (s : S) (made : List (SymbolWord S)) → All (IsMade same t) made
       → or_word (found_word same made s) (symbol_word same t s) ≡ symbol_word same t s
   found-right t s made all = found-by t s made (recursion_from_All (IsMade same t) made all)
+
+-- ---- words that are too long
+
+one-too-long : (b : Bool) (s t : ShortWord) (x : Error) → Writes {T = Unit {0}} short_sink (bit b) s (Err x) t
+    → 63 < s.bits + 1
+one-too-long b s t x (had_failed f answer kept) = cc
+one-too-long b s t x (was_rejected error f is answer kept) = cc
+one-too-long b s t x (past_limit w f is past answer kept) =
+    let word_is : b ∷ [] ≡ w = cc in
+    let long = ap (λ (u : List Bool). length u) word_is in
+    omega (arith, past, long)
+one-too-long b s t x (was_refused w error f is within answer h) = absurd h.allowed
+one-too-long b s t x (was_done w done f is within answer h) = cc
+
+one-more : (b : Bool) (s t : ShortWord) → Writes {T = Unit {0}} short_sink (bit b) s (Ok tt) t → t.bits ≡ s.bits + 1
+one-more b s t h =
+    let grown = ap (λ (u : List Bool). length u) (put-behind b s t h) in
+    let all = length-append (short_bits s) (b ∷ []) in
+    let before = length-word High s.bits s.number in
+    let after = length-word High t.bits t.number in
+    omega (arith, grown, all, before, after)
+
+-- bits of which one was not put are more than there is room for
+pub too-long : (w : List Bool) (s t : ShortWord) (x : Error) → WritesAll short_sink (bit_by_bit w) s (Err x) t
+    → 63 < s.bits + length w
+unfolding WritesAll
+too-long [] s t x h = let z = h.0 in cc
+too-long (b ∷ w) s t x (inl p) = let one = one-too-long b s t x p.1 in omega (arith, one)
+too-long (b ∷ w) s t x (inr p) =
+    let rest = too-long w p.0 t x p.2 in
+    let more = one-more b s p.0 p.1 in
+    omega (arith, rest, more)
+
+-- ---- words that are found
+
+-- none of these symbols is the same as s
+abbrev pub LacksWord : {S : Type 0} → (S → S → Bool) → List (SymbolWord S) → S → Type 0
+LacksWord same made s = All (λ it. same it.symbol s ≡ false) made
+
+-- the symbols of the first k nodes whose words are short enough have a word that was made
+abbrev pub HasShort : {S : Type 0} → (S → S → Bool) → Tree S → List (Node S) → ℕ → List (SymbolWord S) → Type 0
+HasShort {S} same t nodes k made = (j : ℕ) (x : S) → j < k → slice_get nodes j ≡ Some (Leaf x)
+    → length (symbol_word same t x) ≤ 63 → LacksWord same made x → ⊥
+
+module _ {S : Type 0} (same : S → S → Bool) (law : IsEquivalence same) (t : Tree S) where
+  lacks_case : (s : S) (it : SymbolWord S) (made : List (SymbolWord S)) (b : Bool) → same it.symbol s ≡ b
+      → (if b then Some (short_bits it.word) else found_word same made s) ≡ None
+      → (found_word same made s ≡ None → LacksWord same made s) → LacksWord same (it ∷ made) s
+  lacks_case s it made true is none rest = cc
+  lacks_case s it made false is none rest = All-cons (λ it. same it.symbol s ≡ false) it made is (rest none)
+
+  lacks-word : (s : S) (made : List (SymbolWord S)) → found_word same made s ≡ None → LacksWord same made s
+  lacks-word s [] none = All-nil (λ it. same it.symbol s ≡ false)
+  lacks-word s (it ∷ made) none = lacks_case s it made (same it.symbol s) refl none (lacks-word s made)
+
+  module _ (nodes : List (Node S)) (stands : Stands nodes t 0 (length nodes)) (made : List (SymbolWord S))
+      (right : All (IsMade same t) made) (short : HasShort same t nodes (length nodes) made) (s : S)
+      (w : List Bool) (path : first_path same t s ≡ Some w) (few : length w ≤ 63) where
+    short_word : symbol_word same t s ≡ w
+    short_word = word-some same s t w path
+
+    none-left : found_word same made s ≡ None → ⊥
+    none-left none =
+        let no = path-lacks same s nodes t (length nodes) stands (λ k low below has.
+        let alike_word = same-word same law t has.0 s has.2 in
+        let size : length (symbol_word same t has.0) ≤ 63 =
+        let long = ap (λ (u : List Bool). length u) (alike_word ∙ short_word) in omega (arith, long, few) in
+        short k has.0 below has.1 size (All-weaker (λ (it : SymbolWord S). same it.symbol s ≡ false)
+        (λ (it : SymbolWord S). same it.symbol has.0 ≡ false)
+        (λ it is. alike same law it.symbol has.0 s has.2 ∙ is) made (lacks-word s made none))) in
+        cc
+
+    found_by : (o : Option (List Bool)) → found_word same made s ≡ o → found_word same made s ≡ Some w
+    found_by None is = absurd (none-left is)
+    found_by (Some u) is =
+        let whole = found-right same law t s made right in
+        let here : u ≡ symbol_word same t s = rw is at whole in
+        is ∙ ap Some (here ∙ short_word)
+
+    pub finds-short : found_word same made s ≡ Some w
+    finds-short = found_by (found_word same made s) refl
+
+all-front : {A : Type 0} (P : A → Type 0) (xs ys : List A) → All P (xs ++ ys) → All P xs
+all-front P [] ys all = All-nil P
+all-front P (x ∷ xs) ys all =
+    All-cons P x xs (All-head P x (xs ++ ys) all) (all-front P xs ys (All-tail P x (xs ++ ys) all))
+
+all-back : {A : Type 0} (P : A → Type 0) (xs ys : List A) → All P (xs ++ ys) → All P ys
+all-back P [] ys all = all
+all-back P (x ∷ xs) ys all = all-back P xs ys (All-tail P x (xs ++ ys) all)
+
+module _ {S : Type 0} (same : S → S → Bool) (t : Tree S) (nodes : List (Node S)) where
+  -- the words in another order, of all nodes
+  pub short-sorted : (items : List (Node S)) (k : ℕ) (made before sorted : List (SymbolWord S)) → items ≡ nodes
+      → length items ≤ k → before ≡ made → IsPermutation before sorted → HasShort same t items k made
+      → HasShort same t nodes (length nodes) sorted
+  short-sorted items k made before sorted is all held order short = λ j x below at few lacks.
+      let count = ap (λ (xs : List (Node S)). length xs) is in
+      let less : j < k = omega (arith, below, all, count) in
+      let there = ap (λ (xs : List (Node S)). slice_get xs j) is ∙ at in
+      let unsorted = All-permutation (λ (it : SymbolWord S). same it.symbol x ≡ false) sorted before
+      (IsPermutation-sym before sorted order) lacks in
+      short j x less there few (subst (λ (xs : List (SymbolWord S)). LacksWord same xs x) held unsorted)
+
+  module _ (law : IsEquivalence same) (k : ℕ) (made : List (SymbolWord S)) (y : Node S) (below : k < length nodes)
+      (read : y ≡ get_or nodes k y) (short : HasShort same t nodes k made) where
+    -- one more node, of whose symbol nothing is made
+    pub short-next : ((x : S) → y ≡ Leaf x → length (symbol_word same t x) ≤ 63 → LacksWord same made x → ⊥)
+        → HasShort same t nodes (k + 1) made
+    short-next here = λ j x less at few lacks. elim (cases_lt j k) [
+      | inl before ↦ short j x before at few lacks
+      | inr last ↦
+          let place : j ≡ k = omega (arith, less, last) in
+          let there : slice_get nodes k ≡ Some (Leaf x) = ap (λ (i : ℕ). slice_get nodes i) (sym place) ∙ at in
+          let known = node-at nodes k y y below read refl in
+          let is : y ≡ Leaf x = cc in
+          here x is few lacks
+    ]
+
+    -- a leaf whose word is too long
+    pub short-long : (x : S) → y ≡ Leaf x → 63 < length (symbol_word same t x) → HasShort same t nodes (k + 1) made
+    short-long x is long = short-next (λ z at few lacks.
+        let one : x ≡ z = cc in
+        let size = ap (λ (s : S). length (symbol_word same t s)) one in
+        absurd (omega (arith, long, few, size)))
+
+    -- a branch
+    pub short-branch : ((x : S) → y ≡ Leaf x → ⊥) → HasShort same t nodes (k + 1) made
+    short-branch none = short-next (λ x is few lacks. none x is)
+
+    -- a leaf whose word is made
+    pub short-pushed : (more : List (SymbolWord S)) (it : SymbolWord S) (x : S) → y ≡ Leaf x → it.symbol ≡ x
+        → more ≡ made ++ it ∷ [] → HasShort same t nodes (k + 1) more
+    short-pushed more it x is symbol grown = λ j z less at few lacks.
+        let all = subst (λ (xs : List (SymbolWord S)). LacksWord same xs z) grown lacks in
+        let front = all-front (λ (it : SymbolWord S). same it.symbol z ≡ false) made (it ∷ []) all in
+        elim (cases_lt j k) [
+          | inl before ↦ short j z before at few front
+          | inr last ↦
+              let place : j ≡ k = omega (arith, less, last) in
+              let there : slice_get nodes k ≡ Some (Leaf z) = ap (λ (i : ℕ). slice_get nodes i) (sym place) ∙ at in
+              let known = node-at nodes k y y below read refl in
+              let one : y ≡ Leaf z = cc in
+              let symbol_is : it.symbol ≡ z = cc in
+              let other : same it.symbol z ≡ false = All-head (λ (it : SymbolWord S). same it.symbol z ≡ false) it []
+              (all-back (λ (it : SymbolWord S). same it.symbol z ≡ false) made (it ∷ []) all) in
+              let itself : same it.symbol z ≡ true = ap (same it.symbol) (sym symbol_is) ∙ law.refl it.symbol in
+              cc
+        ]
 
 -- ---- the search
 

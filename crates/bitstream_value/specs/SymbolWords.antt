@@ -1,11 +1,12 @@
 -- The words of a tree's symbols, made once.
-use Rattle.std.specs.Prelude.{◌≡◌, ℕ, ◌+◌, Bool, false, List, [], ◌∷◌, ◌++◌, length, Option, None, Some, if◌then◌else◌}
+use Rattle.std.specs.Prelude.{◌≡◌, ℕ, ◌+◌, Bool, false, List, [], ◌∷◌, ◌++◌, length, ◌≤◌, Option, None, Some, if◌then◌else◌}
+use Rattle.std.specs.List.Sorted.{IsNonDecreasingBy}
 use Rattle.std.proofs.Common.{sym, ap, ◌∙◌, refl, arith, append-nil, append_assoc, length-append}
 use Rattle.bitstream_number.specs.Word.{High, word}
 use Rattle.bitstream_number.proofs.WordLemmas.{length-word}
 use Rattle.bitstream_stream.specs.Writing.Sink.{Sink}
 use Rattle.bitstream_value.specs.HuffmanTree.{tree_of}
-use Rattle.bitstream_value.specs.Tree.{symbol_word}
+use Rattle.bitstream_value.specs.Tree.{Tree, first_path, symbol_word}
 use Rattle.bitstream_value.specs.declared.huffman.tree.words.ShortWord.{ShortWord}
 use Rattle.bitstream_value.specs.declared.huffman.tree.words.SymbolWord.{SymbolWord}
 use Rattle.bitstream_value.specs.declared.huffman.tree.words.SymbolWords.{SymbolWords}
@@ -53,3 +54,12 @@ or_word (Some w) other = w
 -- the word that is written for s: the one that was made, or the tree's own
 abbrev pub made_word : {S A : Type 0} → (S → S → Bool) → SymbolWords S A → S → List Bool
 made_word same words s = or_word (found_word same (words_made words) s) (symbol_word same (tree_of words.tree.now) s)
+
+-- each symbol of the tree whose word has at most 63 bits is found among the words that were made
+abbrev pub FindsShort : {S A : Type 0} → (S → S → Bool) → Tree S → SymbolWords S A → Type 0
+FindsShort {S} same tree words = (symbol : S) (w : List Bool) → first_path same tree symbol ≡ Some w → length w ≤ 63
+    → found_word same (words_made words) symbol ≡ Some w
+
+-- the words that were made are searched from the shortest on
+abbrev pub ShortestFirst : {S A : Type 0} → SymbolWords S A → Type 0
+ShortestFirst {S} words = IsNonDecreasingBy (λ (it : SymbolWord S). it.word.bits) (words_made words)

@@ -94,9 +94,9 @@ pub struct SymbolWords<'a, S, A: Allocator> {
 }
 
 impl<S: Copy + Eq, A: Allocator> HuffmanTree<S, A> {
-    ghost use Rattle.std.specs.Prelude.{◌≡◌, IfOk, IfSome};
+    ghost use Rattle.std.specs.Prelude.{◌≡◌, IfOk, MatchOption, length};
     ghost use Rattle.bitstream_value.specs.HuffmanTree.{tree_of};
-    ghost use Rattle.bitstream_value.specs.SymbolWords.{made_word, short_bits};
+    ghost use Rattle.bitstream_value.specs.SymbolWords.{FindsShort, ShortestFirst, made_word, short_bits};
     ghost use Rattle.bitstream_value.specs.Tree.{symbol_word};
 
     /// Makes the words of all symbols, so that each is written faster. That takes as long as it takes the
@@ -106,8 +106,13 @@ impl<S: Copy + Eq, A: Allocator> HuffmanTree<S, A> {
     ///
     /// If memory is refused.
     pub fn words(&self, alloc: A) -> Result<SymbolWords<'_, S, A>, AllocError>
+        // A symbol is written as the tree writes it.
         ensures words { IfOk result (λ words. (symbol : S)
             → made_word S.eq words symbol ≡ symbol_word S.eq (tree_of self.now) symbol) }
+        // A symbol whose word has at most 63 bits is found: no write of it walks down the tree.
+        ensures found { IfOk result (FindsShort S.eq (tree_of self.now)) }
+        // Shorter words are found sooner.
+        ensures order { IfOk result ShortestFirst }
     {
         let mut made = Vec::new(alloc);
         for node in self.nodes.as_slice() {
@@ -123,7 +128,8 @@ impl<S: Copy + Eq, A: Allocator> HuffmanTree<S, A> {
 
     /// Returns the word of a symbol, if it has at most 63 bits.
     fn short_word(&self, symbol: S) -> Option<ShortWord>
-        ensures { IfSome result (λ word. short_bits word ≡ symbol_word S.eq (tree_of self.now) symbol) }
+        ensures { MatchOption result (63 < length (symbol_word S.eq (tree_of self.now) symbol))
+            (λ word. short_bits word ≡ symbol_word S.eq (tree_of self.now) symbol) }
     {
         let mut word = ShortWord::new();
         match self.to_bits(symbol, &mut word) {

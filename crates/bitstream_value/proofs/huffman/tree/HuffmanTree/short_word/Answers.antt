@@ -1,7 +1,9 @@
-use Rattle.std.proofs.Common.{◌∙◌, ◌++◌, ap, List, Bool}
+use Rattle.std.proofs.Common.{◌∙◌, ◌++◌, ap, arith, length, List, Bool}
+use Rattle.bitstream_number.specs.Word.{High}
+use Rattle.bitstream_number.proofs.WordLemmas.{length-word}
 use Rattle.bitstream_value.specs.HuffmanTree.{tree_of}
 use Rattle.bitstream_value.specs.Tree.{symbol_word}
-use Rattle.bitstream_value.proofs.WordsLemmas.{all-behind}
+use Rattle.bitstream_value.proofs.WordsLemmas.{all-behind, too-long}
 use Rattle.bitstream_value.proofs.huffman.tree.HuffmanTree.short_word.Goals as goal
 
 pub returns-in-Ok : goal.returns-in-Ok
@@ -9,3 +11,11 @@ returns-in-Ok g c =
     let w = symbol_word g.S.PartialEq.eq (tree_of c.args.self.now) c.args.symbol in
     all-behind w c.new-word.result c.to_bits.new.put c.in-Ok.ensures.writes
     ∙ ap (λ (front : List Bool). front ++ w) c.new-word.ensures
+
+pub returns-in-Err : goal.returns-in-Err
+returns-in-Err g c =
+    let w = symbol_word g.S.PartialEq.eq (tree_of c.args.self.now) c.args.symbol in
+    let long = too-long w c.new-word.result c.to_bits.new.put _ c.in-Err.ensures.writes in
+    let none = ap (λ (u : List Bool). length u) c.new-word.ensures in
+    let size = length-word High c.new-word.result.bits c.new-word.result.number in
+    omega (arith, long, none, size)
