@@ -1,10 +1,11 @@
-use Rattle.std.proofs.Common.{◌≡◌, ◌+◌, ◌<◌, ap, ◌∙◌, arith, refl}
+use Rattle.std.proofs.Common.{◌≡◌, ◌+◌, ◌<◌, ap, ◌∙◌, arith, refl, Err}
 use Rattle.std.specs.Prelude.{map}
 use Rattle.std.specs.String.{string_bytes}
 use Rattle.std.proofs.lemmas.List.{map-append}
 use Rattle.bitstream_io.specs.Entry.{chain}
 use Rattle.bitstream_io.specs.ReadTable.{bytes_entry}
-use Rattle.bitstream_io.specs.Word.{Low}
+use Rattle.bitstream_io.specs.Error.TheVariants.{Failed}
+use Rattle.bitstream_io.specs.Word.{Order, Low}
 use Rattle.bitstream_io.proofs.CallerLemmas.{is_error, go_grown, stop_grown, grown, part_go, part_stop, parts-begin, parts-push, parts-stop, parts-refused, grown_end, bytes_number-read, bytes_number-stops}
 use Rattle.bitstream_callers.specs.FlacComment.{text_reads}
 use Rattle.bitstream_callers.proofs.flac_comment.VorbisCommentFromBitStreamUsing.from_reader.Goals as goal
@@ -38,8 +39,12 @@ returns-in_err-read_entry g c =
           c.in_err-read_entry.ensures.reads) (is_error _ _ c.from_residual-in_err-read_entry.ensures.1)));
     }
 
-pub returns-in_err-push : goal.returns-in_err-push
+-- a reader that has failed reads no text
+text-on_failed : (o : Order) → (text_reads o).on_failed ≡ Err Failed
 unfolding chain bytes_entry
+text-on_failed o = refl
+
+pub returns-in_err-push : goal.returns-in_err-push
 returns-in_err-push g c =
     let o = g.R.BitRead.source.order in
     let count = rw c.in_ok-count.is at c.branch-count.type_inv in
@@ -47,7 +52,7 @@ returns-in_err-push g c =
     record {
       reads = part_go _ c.in_ok-vendor.ensures.reads
           (go_grown _ (grown (bytes_number-read o Low 4 c.in_ok-count.ensures.reads below))
-          (part_stop _ (parts-refused (text_reads o) c.loop.counter c.in_ok-count.count refl c.loop-test.true
+          (part_stop _ (parts-refused (text_reads o) c.loop.counter c.in_ok-count.count (text-on_failed o) c.loop-test.true
           c.loop.invariant c.in_ok-read_entry.ensures.reads refl)
           (is_error _ _ c.from_residual-in_err-push.ensures.1)));
     }

@@ -1,5 +1,7 @@
 use Rattle.bitstream_io.proofs.CallerLemmas.{◌≡◌, ◌+◌, arith, refl, is_error, few_growing_reads, then_grown_read, if_grown, part_go, part_stop, parts-begin, parts-push, parts-stop, parts-refused, grown_end}
-use Rattle.std.proofs.Common.{false}
+use Rattle.std.proofs.Common.{Err, false}
+use Rattle.bitstream_io.specs.Error.TheVariants.{Failed}
+use Rattle.bitstream_io.specs.Word.{Order}
 use Rattle.bitstream_io.specs.Entry.{chain}
 use Rattle.bitstream_io.specs.ReadTable.{unsigned_entry}
 use Rattle.bitstream_callers.specs.ParameterSet.{point_reads}
@@ -24,14 +26,18 @@ returns-in_err-parse g c =
           (if_grown false c.in_err-parse.ensures.reads)) (is_error _ _ c.from_residual-in_err-parse.ensures.1)));
     }
 
-pub returns-in_err-push : goal.returns-in_err-push
+-- a reader that has failed reads no point
+point-on_failed : (o : Order) → (point_reads o).on_failed ≡ Err Failed
 unfolding chain unsigned_entry
+point-on_failed o = refl
+
+pub returns-in_err-push : goal.returns-in_err-push
 returns-in_err-push g c =
     let o = g.R.BitRead.source.order in
     record {
       reads = then_grown_read _ c.read.ensures.reads c.branch-profile.ensures c.in_ok-profile.is
           (then_grown_read _ c.read-2.ensures.reads c.branch-count.ensures c.in_ok-count.is
-          (part_stop _ (parts-refused (point_reads o) c.loop.counter c.in_ok-count.count refl c.loop-test.true
+          (part_stop _ (parts-refused (point_reads o) c.loop.counter c.in_ok-count.count (point-on_failed o) c.loop-test.true
           c.loop.invariant (if_grown false c.in_ok-parse.ensures.reads) refl)
           (is_error _ _ c.from_residual-in_err-push.ensures.1)));
     }
