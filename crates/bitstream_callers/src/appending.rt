@@ -1,5 +1,7 @@
 //! A header that is written behind what a sink holds, and how long it is.
-ghost use Rattle.std.specs.Prelude.{◌≡◌, ◌+◌, ◌%◌, IfOk};
+ghost use Rattle.std.specs.Prelude.{◌≡◌, ◌⊎◌, ◌+◌, ◌%◌, Ok, Err, IfErr, IfOk};
+ghost use Rattle.bitstream_io.specs.Callers.{WritesAll};
+ghost use Rattle.bitstream_callers.specs.BlockHeader.{block_header_writes};
 
 use crate::block_header::BlockHeader;
 use bitstream_io::{BitWrite, BitWriteExt, Error, ToBitStream};
@@ -12,8 +14,15 @@ use bitstream_io::{BitWrite, BitWriteExt, Error, ToBitStream};
 /// `Checked` for a field that does not fit its bits. Nothing is written then. Else those of the sink.
 /// The fields before the one that is refused stay written.
 pub fn append<W: BitWrite>(writer: &mut W, header: &BlockHeader) -> Result<u32, Error>
-    ensures { W.sink.len writer.old % 8 ≡ 0
+    // If it succeeds, just the header's words were written.
+    ensures writes { IfOk result (λ bits. WritesAll W.sink
+        (block_header_writes W.sink.order header.now) writer.old (Ok tt) writer.new) }
+    // At the end of a byte, the answer is how many bits they are.
+    ensures counts { W.sink.len writer.old % 8 ≡ 0
         → IfOk result (λ bits. W.sink.len writer.new ≡ W.sink.len writer.old + bits) }
+    // After an error the sink is as it was, or a write of the header had this error.
+    ensures refused { IfErr result (λ error. (writer.new ≡ writer.old) ⊎ WritesAll W.sink
+        (block_header_writes W.sink.order header.now) writer.old (Err error) writer.new) }
 {
     let bits = header.bits::<u32>()?;
     writer.build(header)?;

@@ -1,11 +1,11 @@
-//! Samples of a vehicle's telemetry in a vector, and behind their length.
-ghost use Rattle.std.specs.Prelude.{◌≡◌, IfOk, length};
-ghost use Rattle.bitstream_io.specs.Callers.{write_run, High, bits};
-ghost use Rattle.bitstream_callers.specs.Sample.{sample_bits, sample_writes};
-ghost use Rattle.bitstream_callers.specs.Telemetry.{framed_bits};
+//! Heartbeats, and samples of a vehicle's telemetry in a vector and behind their length.
+ghost use Rattle.std.specs.Prelude.{◌≡◌, ◌<◌, ◌^◌, IfErr, IfOk, IsOk, length};
+ghost use Rattle.bitstream_io.specs.Callers.{write_run, High, align, bits};
+ghost use Rattle.bitstream_callers.specs.Sample.{Fits, sample_bits, sample_writes};
+ghost use Rattle.bitstream_callers.specs.Telemetry.{IsMisfitOrMemory, framed_bits, heartbeat_writes};
 
 use crate::sample::Sample;
-use bitstream_io::{BE, BitWrite, BitWriteExt, BitWriter, Bits, BitsWritten, Error, Lent};
+use bitstream_io::{BE, BitWrite, BitWriteExt, BitWriter, Bits, BitsWritten, Error, Growing, Lent};
 use std::alloc::Global;
 
 /// Returns the byte of a heartbeat: its number, and whether all is well.
@@ -13,12 +13,16 @@ use std::alloc::Global;
 /// # Errors
 ///
 /// `Checked` for a number of 128 or more, or `OutOfMemory`.
-pub fn heartbeat(alloc: Global, number: u8, well: bool) -> Result<Vec<u8>, Error> {
-    let mut bytes = Vec::new(alloc);
-    let mut writer = BitWriter::<_, BE>::new(&mut bytes);
+pub fn heartbeat(alloc: Global, number: u8, well: bool) -> Result<Vec<u8>, Error>
+    ensures packed { IfOk result (λ bytes. bits High bytes.items ≡ write_run (heartbeat_writes number well) 0) }
+    ensures fits { IsOk result → number < 2 ^ 7 }
+    ensures refused { IfErr result (IsMisfitOrMemory (heartbeat_writes number well)) }
+{
+    let mut writer = BitWriter::<_, BE>::new(Growing::new(Vec::new(alloc)));
     writer.write::<Bits<7>, u8>(number)?;
     writer.write_bit(well)?;
-    Ok(bytes)
+    writer.byte_align()?;
+    Ok(writer.into_writer().into_vec())
 }
 
 impl Sample {
@@ -26,15 +30,16 @@ impl Sample {
     ///
     /// # Errors
     ///
-    /// `Checked` for a field that does not fit its bits, or `OutOfMemory`.
+    /// `Checked` for the first field that does not fit its bits, or `OutOfMemory`.
     pub fn pack(&self, alloc: Global) -> Result<Vec<u8>, Error>
-        ensures { IfOk result (λ bytes. bits High bytes.items ≡ sample_bits self.now) }
+        ensures packed { IfOk result (λ bytes. bits High bytes.items ≡ sample_bits self.now) }
+        ensures fits { IsOk result → Fits self.now }
+        ensures refused { IfErr result (IsMisfitOrMemory (sample_writes High self.now)) }
     {
-        let mut bytes = Vec::new(alloc);
-        let mut writer = BitWriter::<_, BE>::new(Lent::new(&mut bytes));
+        let mut writer = BitWriter::<_, BE>::new(Growing::new(Vec::new(alloc)));
         self.write(&mut writer)?;
         writer.byte_align()?;
-        Ok(bytes)
+        Ok(writer.into_writer().into_vec())
     }
 
     /// Returns the number of bits that a sample takes. Nothing is written for it.
@@ -43,8 +48,9 @@ impl Sample {
     ///
     /// `Checked` for a field that its bits do not hold.
     pub fn bits(&self) -> Result<u8, Error>
-        ensures { IfOk result
+        ensures count { IfOk result
             (λ bits. bits ≡ length (write_run (sample_writes High self.now) 0)) }
+        ensures fits { IsOk result → Fits self.now }
     {
         let mut counter = BitsWritten::<u8>::new();
         self.write(&mut counter)?;
@@ -58,7 +64,8 @@ impl Sample {
     ///
     /// `Checked` for a field that its bits do not hold, `OutOfMemory`.
     pub fn frame(&self, alloc: Global) -> Result<Vec<u8>, Error>
-        ensures { IfOk result (λ bytes. bits High bytes.items ≡ framed_bits self.now) }
+        ensures packed { IfOk result (λ bytes. bits High bytes.items ≡ framed_bits self.now) }
+        ensures fits { IsOk result → Fits self.now }
     {
         let size = self.bits()?;
         let mut bytes = Vec::new(alloc);

@@ -44,6 +44,7 @@ pub use Rattle.bitstream_value.proofs.LengthLemmas
 pub use Rattle.bitstream_value.proofs.LengthSteps
 pub use Rattle.bitstream_value.proofs.OwnLemmas
 pub use Rattle.bitstream_value.proofs.OwnSteps
+pub use Rattle.bitstream_value.proofs.PackIntoLemmas
 pub use Rattle.bitstream_value.proofs.ReadSteps
 pub use Rattle.bitstream_value.proofs.SureLemmas
 pub use Rattle.bitstream_value.proofs.WriteSteps

@@ -152,17 +152,22 @@ module _ {S : Type 0} (K : Sink S) where
   written_as {becomes = becomes} same answer ok es r s t h =
       plain_by becomes same answer ok es r s t h.plain h.called h.answer
 
--- ---- a sink that refuses nothing
+-- ---- a sink without a limit
 
-module _ {S : Type 0} (K : Sink S) (free : K.limit ≡ None) (never : (x : Refusal) → K.may x → ⊥) where
+-- an error of a refused request
+abbrev pub IsFaultOf : {S : Type 0} → Sink S → Error → Type 0
+IsFaultOf K error = (refusal : Refusal) × K.may refusal × (error ≡ refusal_of refusal.kind)
+
+module _ {S : Type 0} (K : Sink S) (free : K.limit ≡ None) where
   one_error : (e : WriteEntry) (es : List WriteEntry) (s : S) (x : Error) (t : S) → K.failed s ≡ false
-      → Writes {T = Unit {0}} K e s (Err x) t → run_length (e ∷ es) (K.len s) ≡ Err x
+      → Writes {T = Unit {0}} K e s (Err x) t → (run_length (e ∷ es) (K.len s) ≡ Err x) ⊎ IsFaultOf K x
   one_error e es s x t sound (had_failed f is k) = cc
-  one_error e es s x t sound (was_rejected y f en is k) = let same : y ≡ x = cc in rejects e es (K.len s) y en
-      ∙ ap Err same
+  one_error e es s x t sound (was_rejected y f en is k) = let same : y ≡ x = cc in
+      inl (rejects e es (K.len s) y en ∙ ap Err same)
   one_error e es s x t sound (past_limit w f en over is k) =
       absurd (subst (λ l. IsPastLimit l (K.len s + length w)) free over)
-  one_error e es s x t sound (was_refused w y f en le is k) = absurd (never k.refusal k.allowed)
+  one_error e es s x t sound (was_refused w y f en le is k) = let same : x ≡ y = cc in
+      inr (k.refusal, k.allowed, same ∙ k.answer)
   one_error e es s x t sound (was_done w v f en le is k) = cc
 
   one_done : (e : WriteEntry) (s t : S) → Writes {T = Unit {0}} K e s (Ok tt) t
@@ -173,18 +178,35 @@ module _ {S : Type 0} (K : Sink S) (free : K.limit ≡ None) (never : (x : Refus
   one_done e s t (was_refused w y f en le is k) = cc
   one_done e s t (was_done w v f en le is k) = (w, en, K.appends_len s t w k.grown, k.sound)
 
-  -- an error of calls is the first that one of them has
+  after_done : (e : WriteEntry) (es : List WriteEntry) (s m : S) (x : Error) → Writes {T = Unit {0}} K e s (Ok tt) m
+      → (run_length es (K.len m) ≡ Err x) ⊎ IsFaultOf K x → (run_length (e ∷ es) (K.len s) ≡ Err x) ⊎ IsFaultOf K x
+  after_done e es s m x done (inl rest) =
+      let one = one_done e s m done in
+      let there : run_length es (K.len s + length one.0) ≡ Err x = ap (run_length es) (sym one.2) ∙ rest in
+      inl (next_length e es (K.len s) one.0 one.1
+      ∙ ap (λ (y : Result ℕ Error). result_then y (λ more. Ok (length one.0 + more))) there)
+  after_done e es s m x done (inr fault) = inr fault
+
+  -- an error of calls is the first that one of them has, or of a refused request
   pub all_error : (es : List WriteEntry) (s : S) (x : Error) (t : S) → K.failed s ≡ false → WritesAll K es s (Err x) t
-      → run_length es (K.len s) ≡ Err x
+      → (run_length es (K.len s) ≡ Err x) ⊎ IsFaultOf K x
   unfolding WritesAll
   all_error [] s x t sound p = let z = p.0 in cc
   all_error (e ∷ es) s x t sound (inl p) = one_error e es s x t sound p.1
   all_error (e ∷ es) s x t sound (inr p) =
-      let one = one_done e s p.0 p.1 in
-      let rest = all_error es p.0 x t one.3 p.2 in
-      let there : run_length es (K.len s + length one.0) ≡ Err x = ap (run_length es) (sym one.2) ∙ rest in
-      next_length e es (K.len s) one.0 one.1
-      ∙ ap (λ (y : Result ℕ Error). result_then y (λ more. Ok (length one.0 + more))) there
+      after_done e es s p.0 x p.1 (all_error es p.0 x t (one_done e s p.0 p.1).3 p.2)
+
+  -- an alignment has none of its own
+  pub align_error : (s : S) (x : Error) (t : S) → K.failed s ≡ false → Writes {T = Unit {0}} K align s (Err x) t
+      → IsFaultOf K x
+  align_error s x t sound h =
+      elim (one_error align [] s x t sound h) [ | inl own ↦ let z = own in cc | inr fault ↦ fault ]
+
+-- calls whose sink refuses nothing
+pub sure_error : {S : Type 0} (K : Sink S) → K.limit ≡ None → ((x : Refusal) → K.may x → ⊥) → (es : List WriteEntry)
+    (s : S) (x : Error) (t : S) → K.failed s ≡ false → WritesAll K es s (Err x) t → run_length es (K.len s) ≡ Err x
+sure_error K free never es s x t sound h =
+    elim (all_error K free es s x t sound h) [ | inl own ↦ own | inr fault ↦ absurd (never fault.0 fault.1) ]
 
 -- ---- bytes in memory
 

@@ -71,26 +71,6 @@ fn misfit_or<E: Endianness, T: ToBitStream<Error = Error>>(value: &T, other: Err
 /// The first error that a part of the value has, as `Checked` for a number that does not fit its bits, no
 /// matter how long the buffer is. If all parts fit, `Stream(WriteZero)` if the buffer is too short. Bytes
 /// of the buffer may be written then.
-///
-/// # Examples
-///
-/// ```
-/// use bitstream_io::{BE, BitWrite, BitWriteExt, Bits, Error, ToBitStream, pack_into};
-///
-/// struct Version(u8);
-///
-/// impl ToBitStream for Version {
-///     type Error = Error;
-///
-///     fn to_writer<W: BitWrite>(&self, writer: &mut W) -> Result<(), Error> {
-///         writer.write::<Bits<3>, u8>(self.0)
-///     }
-/// }
-///
-/// let mut buffer = [0u8; 4];
-/// let packed = pack_into::<BE, _>(&Version(5), &mut buffer)?;
-/// assert_eq!(rt; packed.as_slice(), [0xa0].as_slice());
-/// ```
 #[inline(always)]
 pub fn pack_into<'a, E: Endianness, T: ToBitStream<Error = Error>>(
     value: &T,
