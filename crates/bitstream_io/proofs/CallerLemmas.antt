@@ -7,7 +7,7 @@ use Rattle.std.specs.Option.{ForSome}
 use Rattle.std.specs.Prelude.{All, IfOk, is_some, nat_le, nat_lt, flat_map, map, if◌then◌else◌}
 use Rattle.std.specs.Int.{Width}
 use Rattle.std.specs.Int.Count.{count_leading_zeros}
-use Rattle.std.proofs.lemmas.Bool.{le-leb, lt-leb, eq-eqb, ne_eqb}
+use Rattle.std.proofs.lemmas.Bool.{le-leb, leb-true, lt-leb, eq-eqb, ne_eqb}
 use Rattle.std.proofs.lemmas.Bool.Decides.{nat_tests}
 use Rattle.bitstream_order.specs.Reference.{Reference}
 use Rattle.std.proofs.Math.Pow.{pow_mono}
@@ -509,9 +509,6 @@ made-word e n g f h = record {
   reads = λ p b. rw (h.reads p b) ((map_takes n g f (λ w. Ok (f (g w))) (λ w _. refl)).reads p b);
 }
 
-pub within_of : (n m : ℕ) → nat_le n m ≡ true → n ≤ m
-within_of n m h = grind (arith, nat_tests)
-
 skip-word : (n : ℕ) → IsWord (skip_entry n) n (λ w. Ok tt)
 unfolding skip_entry
 skip-word n = record { reads = λ p b. refl }
@@ -551,7 +548,7 @@ module _ {B : Type 0} (b : List Bool) (k l : ℕ) (r : Result B Error) where
       → Finds b (k + count * n) (f (map (number o) (words n count (take (count * n) (drop k b))))) (l - count * n) r
       → Finds b k (chain (items_entry (unsigned_entry o size n) count) f) l r
   items-finds n count o size f fits le found =
-      each-finds (unsigned_entry o size n) n count (number o) f (unsigned-word o size n (within_of n size fits)) le found
+      each-finds (unsigned_entry o size n) n count (number o) f (unsigned-word o size n (leb-true n size fits)) le found
 
   pub signed_items-finds : (n count : ℕ) (o : Order) (size : ℕ) (f : List ℤ → ReadEntry B) → nat_le 1 n ≡ true
       → nat_le n size ≡ true → nat_le (count * n) l ≡ true
@@ -559,7 +556,7 @@ module _ {B : Type 0} (b : List Bool) (k l : ℕ) (r : Result B Error) where
       → Finds b k (chain (items_entry (signed_entry o size n) count) f) l r
   signed_items-finds n count o size f some fits le found =
       each-finds (signed_entry o size n) n count (signed_number o) f
-      (signed-word o size n (within_of 1 n some) (within_of n size fits)) le found
+      (signed-word o size n (leb-true 1 n some) (leb-true n size fits)) le found
 
   -- n bytes
   pub bytes-finds : (n : ℕ) (o : Order) (f : List ℕ → ReadEntry B) → nat_le (8 * n) l ≡ true
@@ -574,7 +571,7 @@ module _ {B : Type 0} (b : List Bool) (k l : ℕ) (r : Result B Error) where
       → Finds b k (chain (chain (unsigned_entry o size n) (λ v. gives (make v))) f) l r
   made-finds n o size make f fits le found =
       next-finds b k n l (chain (unsigned_entry o size n) (λ v. gives (make v))) f (λ w. make (number o w)) r
-      (made-word (unsigned_entry o size n) n (number o) make (unsigned-word o size n (within_of n size fits))) le found
+      (made-word (unsigned_entry o size n) n (number o) make (unsigned-word o size n (leb-true n size fits))) le found
 
 -- the same of one that may be refused: if it is made, and if it is not
 module _ {A B E : Type 0} (b : List Bool) (k l n : ℕ) (o : Order) (size : ℕ) (make : ℕ → Result A E)
@@ -701,7 +698,7 @@ made-read o size n v make a le fits is =
     let word = unsigned o size n v ∷ [] in
     let one : IsReadAs word (unsigned_entry o size n) v =
     subst (IsReadAs word (unsigned_entry o size n)) (value_in-fits n v fits)
-    (unsigned-read o size n v (within_of n size le) (inl fits)) in
+    (unsigned-read o size n v (leb-true n size le) (inl fits)) in
     subst (IsReadAs word (chain (unsigned_entry o size n) (λ k. gives (make k)))) is
     (mapped-read make word (unsigned_entry o size n) v one)
 
@@ -729,7 +726,7 @@ items-back es b o size n count xs f le is fit behind =
     let ws = flat_map (λ (x : ℕ). unsigned o size n x ∷ []) xs in
     subst (λ (k : ℕ). GoesBack (chain (items_entry (unsigned_entry o size n) k) f) (ws ++ es) b) is
     (part-back (items_entry (unsigned_entry o size n) (length xs)) f ws es xs b
-    (numbers-read o size n xs (within_of n size le) fit) behind)
+    (numbers-read o size n xs (leb-true n size le) fit) behind)
 
 pub signed_items-back : {B : Type 0} (es : List WriteEntry) (b : B) (o : Order) (size n count : ℕ) (xs : List ℤ)
     (f : List ℤ → ReadEntry B) → nat_le 1 n ≡ true → nat_le n size ≡ true → length xs ≡ count
@@ -737,7 +734,7 @@ pub signed_items-back : {B : Type 0} (es : List WriteEntry) (b : B) (o : Order) 
     → GoesBack (chain (items_entry (signed_entry o size n) count) f) (flat_map (λ x. signed o size n x ∷ []) xs ++ es) b
 signed_items-back es b o size n count xs f some le is fit behind =
     let one = λ (x : ℤ) (fits : FitsSignedBits n x).
-    signed-read o size n x (within_of 1 n some) (within_of n size le) fits in
+    signed-read o size n x (leb-true 1 n some) (leb-true n size le) fits in
     each-back es b (signed_entry o size n) (λ x. signed o size n x ∷ []) count xs f is
     (All-weaker (FitsSignedBits n) (λ x. IsReadAs (signed o size n x ∷ []) (signed_entry o size n) x) one xs fit) behind
 
