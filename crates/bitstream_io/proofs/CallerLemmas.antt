@@ -7,7 +7,7 @@ use Rattle.std.specs.Option.{ForSome}
 use Rattle.std.specs.Prelude.{All, IfOk, is_some, nat_le, nat_lt, flat_map, map, if◌then◌else◌}
 use Rattle.std.specs.Int.{Width}
 use Rattle.std.specs.Int.Count.{count_leading_zeros}
-use Rattle.std.proofs.lemmas.Bool.{le-leb, lt-leb, eq-eqb, ne_eqb}
+use Rattle.std.proofs.lemmas.Bool.{le-leb, leb-true, lt-leb, eq-eqb, ne_eqb}
 use Rattle.std.proofs.lemmas.Bool.Decides.{nat_tests}
 use Rattle.bitstream_order.specs.Reference.{Reference}
 use Rattle.std.proofs.Math.Pow.{pow_mono}
@@ -515,9 +515,6 @@ made-word e n g f h = record {
   reads = λ p b. rw (h.reads p b) ((map_takes n g f (λ w. Ok (f (g w))) (λ w _. refl)).reads p b);
 }
 
-pub within_of : (n m : ℕ) → nat_le n m ≡ true → n ≤ m
-within_of n m h = grind (arith, nat_tests)
-
 skip-word : (n : ℕ) → IsWord (skip_entry n) n (λ w. Ok tt)
 unfolding skip_entry
 skip-word n = record { reads = λ p b. refl }
@@ -557,7 +554,7 @@ module _ {B : Type 0} (b : List Bool) (k l : ℕ) (r : Result B Error) where
       → Finds b (k + count * n) (f (map (number o) (words n count (take (count * n) (drop k b))))) (l - count * n) r
       → Finds b k (chain (items_entry (unsigned_entry o size n) count) f) l r
   items-finds n count o size f fits le found =
-      each-finds (unsigned_entry o size n) n count (number o) f (unsigned-word o size n (within_of n size fits)) le found
+      each-finds (unsigned_entry o size n) n count (number o) f (unsigned-word o size n (leb-true n size fits)) le found
 
   pub signed_items-finds : (n count : ℕ) (o : Order) (size : ℕ) (f : List ℤ → ReadEntry B) → nat_le 1 n ≡ true
       → nat_le n size ≡ true → nat_le (count * n) l ≡ true
@@ -565,7 +562,7 @@ module _ {B : Type 0} (b : List Bool) (k l : ℕ) (r : Result B Error) where
       → Finds b k (chain (items_entry (signed_entry o size n) count) f) l r
   signed_items-finds n count o size f some fits le found =
       each-finds (signed_entry o size n) n count (signed_number o) f
-      (signed-word o size n (within_of 1 n some) (within_of n size fits)) le found
+      (signed-word o size n (leb-true 1 n some) (leb-true n size fits)) le found
 
   -- n bytes
   pub bytes-finds : (n : ℕ) (o : Order) (f : List ℕ → ReadEntry B) → nat_le (8 * n) l ≡ true
@@ -580,7 +577,7 @@ module _ {B : Type 0} (b : List Bool) (k l : ℕ) (r : Result B Error) where
       → Finds b k (chain (chain (unsigned_entry o size n) (λ v. gives (make v))) f) l r
   made-finds n o size make f fits le found =
       next-finds b k n l (chain (unsigned_entry o size n) (λ v. gives (make v))) f (λ w. make (number o w)) r
-      (made-word (unsigned_entry o size n) n (number o) make (unsigned-word o size n (within_of n size fits))) le found
+      (made-word (unsigned_entry o size n) n (number o) make (unsigned-word o size n (leb-true n size fits))) le found
 
 -- the same of one that may be refused: if it is made, and if it is not
 module _ {A B E : Type 0} (b : List Bool) (k l n : ℕ) (o : Order) (size : ℕ) (make : ℕ → Result A E)
@@ -697,7 +694,7 @@ made-read o size n v make a le fits is =
     let word = unsigned o size n v ∷ [] in
     let one : IsReadAs word (unsigned_entry o size n) v =
     subst (IsReadAs word (unsigned_entry o size n)) (value_in-fits n v fits)
-    (unsigned-read o size n v (within_of n size le) (inl fits)) in
+    (unsigned-read o size n v (leb-true n size le) (inl fits)) in
     subst (IsReadAs word (chain (unsigned_entry o size n) (λ k. gives (make k)))) is
     (mapped-read make word (unsigned_entry o size n) v one)
 
@@ -724,14 +721,14 @@ unsigned-each o size n xs le fit =
     let read = λ (x : ℕ). IsReadAs (unsigned o size n x ∷ []) (unsigned_entry o size n) x in
     let one = λ (x : ℕ) (small : x < 2 ^ n).
     subst (IsReadAs (unsigned o size n x ∷ []) (unsigned_entry o size n)) (value_in-fits n x small)
-    (unsigned-read o size n x (within_of n size le) (inl small)) in
+    (unsigned-read o size n x (leb-true n size le) (inl small)) in
     All-weaker (λ x. x < 2 ^ n) read one xs fit
 
 pub signed-each : (o : Order) (size n : ℕ) (xs : List ℤ) → nat_le 1 n ≡ true → nat_le n size ≡ true
     → All (FitsSignedBits n) xs → All (λ x. IsReadAs (signed o size n x ∷ []) (signed_entry o size n) x) xs
 signed-each o size n xs some le fit =
     let one = λ (x : ℤ) (fits : FitsSignedBits n x).
-    signed-read o size n x (within_of 1 n some) (within_of n size le) fits in
+    signed-read o size n x (leb-true 1 n some) (leb-true n size le) fits in
     All-weaker (FitsSignedBits n) (λ x. IsReadAs (signed o size n x ∷ []) (signed_entry o size n) x) one xs fit
 
 -- numbers of n bits that were written one by one

@@ -25,7 +25,8 @@ use Rattle.bitstream_value.proofs.SureLemmas.{items-word, unsigned-word}
 use Rattle.bitstream_io.specs.Loop.{all_ok, ok_then}
 use Rattle.bitstream_io.specs.Optional.{optional_writes, own_optional}
 use Rattle.bitstream_io.specs.ReadBack.{IsReadAs}
-use Rattle.bitstream_io.proofs.CallerLemmas.{made-read, made-word, numbers-read, part-back, within_of}
+use Rattle.std.proofs.lemmas.Bool.{leb-true}
+use Rattle.bitstream_io.proofs.CallerLemmas.{made-read, made-word, numbers-read, part-back}
 use Rattle.bitstream_io.proofs.CallsBack.{mapped-read, parts-read, then_made-read}
 use Rattle.bitstream_io.proofs.PackLemmas.{IsWritten, Packs, packs-each, unsigned-written}
 
@@ -138,7 +139,7 @@ module _ {A B : Type 0} (b : List Bool) (k l n count : ℕ) (o : Order) (size : 
         → Finds b k (chain (chain (items_entry (unsigned_entry o size n) count) (λ v. gives (make v))) f) l r
     made_items-finds r fits le found =
         let e = items_entry (unsigned_entry o size n) count in
-        let word = items-word (unsigned-word o size n (within_of n size fits)) count in
+        let word = items-word (unsigned-word o size n (leb-true n size fits)) count in
         next-finds b k (count * n) l (chain e (λ v. gives (make v))) f (λ w. make (map (number o) (words n count w))) r
         (made-word e (count * n) (λ w. map (number o) (words n count w)) make word) le found
 

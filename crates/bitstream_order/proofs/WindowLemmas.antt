@@ -97,7 +97,7 @@ lead-longer true (false ∷ x) y h = ap suc (lead-longer true x y (omega arith))
 lead-longer false (true ∷ x) y h = ap suc (lead-longer false x y (omega arith))
 lead-longer false (false ∷ x) y h = refl
 
-digits-none : (n : ℕ) → digits n 0 ≡ replicate n false
+pub digits-none : (n : ℕ) → digits n 0 ≡ replicate n false
 unfolding digits
 digits-none zero = refl
 digits-none (suc n) = rw (zero-div (2 ^ n), digits-none n) refl

@@ -1,12 +1,12 @@
 -- Bytes behind the queue of a writer, and zeros.
 use Rattle.std.proofs.Common.{◌≡◌, ℕ, zero, suc, ◌+◌, ◌-◌, ◌*◌, ◌%◌, ◌^◌, ◌<◌, ◌≤◌, Bool, true, false, List, [], ◌∷◌, ◌++◌, length, take, drop, replicate, reverse, Result, Ok, Err, refl, sym, ap, ◌∙◌, subst, arith, add-one}
-use Rattle.std.proofs.Math.Nat.{zero-div}
 use mathlib.Core.List.{reverse-cons}
-use Rattle.bitstream_number.specs.Word.{Order, High, Low, digits, word, number, bits, bytes}
+use Rattle.bitstream_number.specs.Word.{Order, High, Low, word, number, bits, bytes}
 use Rattle.std.specs.Result.{IsErrAnd}
 use lib.Seq.{take-add}
 use Rattle.bitstream_number.proofs.WordLemmas.{bits-append, bits-bytes, length-bits, word-number}
 use Rattle.bitstream_count.specs.declared.error.Error.{Error}
+use Rattle.bitstream_order.proofs.WindowLemmas.{digits-none}
 use Rattle.bitstream_order.specs.Port.{PortState, Sent, SendRefused}
 use Rattle.bitstream_order.specs.Refusal.{Refusal}
 use Rattle.bitstream_order.specs.Moving.Shift.{Shifts}
@@ -80,19 +80,14 @@ pushes_stop may o s t z at k xs part error (Err x) e is h f =
 
 -- ---- zeros
 
-digits-zeros : (n : ℕ) → digits n 0 ≡ replicate n false
-unfolding digits
-digits-zeros zero = refl
-digits-zeros (suc n) = rw (zero-div (2 ^ n), digits-zeros n) refl
-
 pub reverse-replicate : (n : ℕ) (b : Bool) → reverse (replicate n b) ≡ replicate n b
 reverse-replicate zero b = refl
 reverse-replicate (suc n) b = reverse-cons b (replicate n b) ∙ ap (λ l. l ++ b ∷ []) (reverse-replicate n b)
     ∙ sym (replicate-more n b) ∙ ap (λ (k : ℕ). replicate k b) (add-one n)
 
 pub word-zeros : (o : Order) (n : ℕ) → word o n 0 ≡ replicate n false
-word-zeros High n = digits-zeros n
-word-zeros Low n = ap reverse (digits-zeros n) ∙ reverse-replicate n false
+word-zeros High n = digits-none n
+word-zeros Low n = ap reverse (digits-none n) ∙ reverse-replicate n false
 
 pub zeros-split : (a b n : ℕ) → a + b ≡ n → replicate n false ≡ replicate a false ++ replicate b false
 zeros-split a b n sum = ap (λ (k : ℕ). replicate k false) (sym sum) ∙ sym (replicate-append-replicate a b false)
