@@ -90,7 +90,10 @@ fn keeps_the_reads_before_a_failure(rt: HostRuntime) {
     let bytes = [7; 4500];
     let mut buffer = SliceReader::<BE>::over(&bytes);
     let short = ended(buffer.read_to_vec(rt.alloc(), 5000));
-    holds(&rt, short & (buffer.bits_read() == 32768) & (buffer.bits_left() == 3232));
+    holds(
+        &rt,
+        short & (buffer.bits_read() == 32768) & (buffer.bits_left() == 3232),
+    );
 }
 
 /// A reader of one byte for ever, whose requests are counted.

@@ -200,13 +200,13 @@ module _ {S : Type 0} (K : Sink S) (free : K.limit ≡ None) where
   pub align_error : (s : S) (x : Error) (t : S) → K.failed s ≡ false → Writes {T = Unit {0}} K align s (Err x) t
       → IsFaultOf K x
   align_error s x t sound h =
-      elim (one_error align [] s x t sound h) [ | inl own ↦ let z = own in cc | inr fault ↦ fault ]
+      elim (one_error align [] s x t sound h) [ inl own ↦ let z = own in cc | inr fault ↦ fault ]
 
 -- calls whose sink refuses nothing
 pub sure_error : {S : Type 0} (K : Sink S) → K.limit ≡ None → ((x : Refusal) → K.may x → ⊥) → (es : List WriteEntry)
     (s : S) (x : Error) (t : S) → K.failed s ≡ false → WritesAll K es s (Err x) t → run_length es (K.len s) ≡ Err x
 sure_error K free never es s x t sound h =
-    elim (all_error K free es s x t sound h) [ | inl own ↦ own | inr fault ↦ absurd (never fault.0 fault.1) ]
+    elim (all_error K free es s x t sound h) [ inl own ↦ own | inr fault ↦ absurd (never fault.0 fault.1) ]
 
 -- ---- bytes in memory
 

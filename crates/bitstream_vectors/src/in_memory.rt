@@ -282,8 +282,10 @@ pub fn play_memory_parts(rt: &impl Print) -> io::Result<u32> {
     println!(rt;
         "r16_memory: {WIDTHS} widths, {RUNS} runs, 6 parts, {TOO_LONG} failing calls, 8 places, 2 orders: {words}, {runs}, {parts} and {moved} differ"
     )?;
-    Ok(words
-        .saturating_add(runs)
-        .saturating_add(parts)
-        .saturating_add(moved))
+    Ok(
+        words
+            .saturating_add(runs)
+            .saturating_add(parts)
+            .saturating_add(moved),
+    )
 }

@@ -30,10 +30,7 @@ impl<'a, E: Endianness> BitRead for SliceReader<'a, E> {
     }
 
     #[inline(always)]
-    fn read_signed_counted<C: SignedCount, S: SignedInteger>(
-        &mut self,
-        bits: C,
-    ) -> Result<S, Error>
+    fn read_signed_counted<C: SignedCount, S: SignedInteger>(&mut self, bits: C) -> Result<S, Error>
         ensures reads { Reads ⟦<Self as BitRead>⟧.source (signed_entry E.order S.BITS_SIZE (C.number bits))
             self.old (seen S.integer result) self.new }
         // If too few bits are left, the reader stays where it was.
