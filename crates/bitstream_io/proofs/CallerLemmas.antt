@@ -28,7 +28,6 @@ use Rattle.bitstream_stream.specs.Reading.Reader.{new_reader_state}
 use Rattle.bitstream_stream.specs.Reading.Reads.{BitSource, ReaderState, Reads, ReadOutcome, ReadsConst, ConstAnswer, is_run_too_long, sure_answer}
 use Rattle.bitstream_stream.specs.Writing.Sink.{Sink, Writes, WritesAll}
 use Rattle.bitstream_stream.specs.Writing.WriteTable.{plain, signed, unsigned}
-use Rattle.bitstream_stream.proofs.Reading.EntryLemmas.{map_takes}
 use Rattle.bitstream_stream.proofs.Reading.ReadsLemmas.{Reads-chain-err, Reads-nothing, ok_front, seen_err}
 use Rattle.bitstream_stream.proofs.Reading.SliceLemmas.{new_answer}
 use Rattle.bitstream_stream.proofs.Reading.TableLemmas.{unsigned-on_failed}
@@ -43,7 +42,7 @@ use Rattle.bitstream_value.proofs.ByteSteps.{bytes_in, number-bytes}
 use Rattle.bitstream_value.proofs.GrowsLemmas.{own_grown-answer}
 use Rattle.bitstream_value.proofs.OwnSteps.{then_own_signed, then_own_call, then_own_write, then_own_signed_call, then_own_signed_write, own_written}
 use Rattle.bitstream_value.proofs.ReadSteps.{next-finds, width_of}
-use Rattle.bitstream_value.proofs.SureLemmas.{items-word, word_short}
+use Rattle.bitstream_value.proofs.SureLemmas.{items-word, mapped-word, word_short}
 use Rattle.bitstream_value.proofs.WriteSteps.{next_call, next_write, stop_call, stop_write, signed_call, signed_value}
 use Rattle.bitstream_io.specs.Optional.{optional, optional_size, optional_writes}
 use Rattle.bitstream_io.specs.ReadBack.{IsReadAs}
@@ -508,13 +507,6 @@ bytes-word : (o : Order) (n : ℕ) → IsWord (bytes_entry o n) (8 * n) (λ w. O
 unfolding bytes_entry
 bytes-word o n = record { reads = λ p b. refl }
 
-pub made-word : {A B : Type 0} (e : ReadEntry A) (n : ℕ) (g : List Bool → A) (f : A → B) → IsWord e n (λ w. Ok (g w))
-    → IsWord (chain e (λ a. gives (f a))) n (λ w. Ok (f (g w)))
-unfolding chain
-made-word e n g f h = record {
-  reads = λ p b. rw (h.reads p b) ((map_takes n g f (λ w. Ok (f (g w))) (λ w _. refl)).reads p b);
-}
-
 skip-word : (n : ℕ) → IsWord (skip_entry n) n (λ w. Ok tt)
 unfolding skip_entry
 skip-word n = record { reads = λ p b. refl }
@@ -577,7 +569,7 @@ module _ {B : Type 0} (b : List Bool) (k l : ℕ) (r : Result B Error) where
       → Finds b k (chain (chain (unsigned_entry o size n) (λ v. gives (make v))) f) l r
   made-finds n o size make f fits le found =
       next-finds b k n l (chain (unsigned_entry o size n) (λ v. gives (make v))) f (λ w. make (number o w)) r
-      (made-word (unsigned_entry o size n) n (number o) make (unsigned-word o size n (leb-true n size fits))) le found
+      (mapped-word (unsigned_entry o size n) n (number o) make (unsigned-word o size n (leb-true n size fits))) le found
 
 -- the same of one that may be refused: if it is made, and if it is not
 module _ {A B E : Type 0} (b : List Bool) (k l n : ℕ) (o : Order) (size : ℕ) (make : ℕ → Result A E)

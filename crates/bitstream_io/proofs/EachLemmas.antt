@@ -21,12 +21,12 @@ use Rattle.bitstream_value.specs.Own.{OwnAnswer, part_then}
 use Rattle.bitstream_value.proofs.BackLemmas.{GoesBack}
 use Rattle.bitstream_value.proofs.GrowsLemmas.{go_grown, grown_is, stop_grown}
 use Rattle.bitstream_value.proofs.ReadSteps.{Finds, gives-finds, next-finds}
-use Rattle.bitstream_value.proofs.SureLemmas.{items-word, unsigned-word}
+use Rattle.bitstream_value.proofs.SureLemmas.{items-word, mapped-word, unsigned-word}
 use Rattle.bitstream_io.specs.Loop.{all_ok, ok_then}
 use Rattle.bitstream_io.specs.Optional.{optional_writes, own_optional}
 use Rattle.bitstream_io.specs.ReadBack.{IsReadAs}
 use Rattle.std.proofs.lemmas.Bool.{leb-true}
-use Rattle.bitstream_io.proofs.CallerLemmas.{made-read, made-word, numbers-read, part-back}
+use Rattle.bitstream_io.proofs.CallerLemmas.{made-read, numbers-read, part-back}
 use Rattle.bitstream_io.proofs.CallsBack.{mapped-read, parts-read, then_made-read}
 use Rattle.bitstream_io.proofs.PackLemmas.{IsWritten, Packs, packs-each, unsigned-written}
 
@@ -141,7 +141,7 @@ module _ {A B : Type 0} (b : List Bool) (k l n count : ℕ) (o : Order) (size : 
         let e = items_entry (unsigned_entry o size n) count in
         let word = items-word (unsigned-word o size n (leb-true n size fits)) count in
         next-finds b k (count * n) l (chain e (λ v. gives (make v))) f (λ w. make (map (number o) (words n count w))) r
-        (made-word e (count * n) (λ w. map (number o) (words n count w)) make word) le found
+        (mapped-word e (count * n) (λ w. map (number o) (words n count w)) make word) le found
 
 module _ {A B E : Type 0} (b : List Bool) (k l n count : ℕ) (o : Order) (size : ℕ) (make : List ℕ → Result A E)
     (f : A → ReadEntry (Result B E)) where

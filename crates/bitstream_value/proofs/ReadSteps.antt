@@ -3,8 +3,7 @@
 use borrow.Author.Rules.{sfits_of}
 use Rattle.std.specs.Prelude.{nat_le, if◌then◌else◌, ◌==◌}
 use Rattle.std.proofs.Common.{◌≡◌, ℕ, ℤ, SFits, to_z, of_z, Continue, Break, ◌+◌, ◌-◌, ◌*◌, ◌<◌, ◌≤◌, Bool, true, List, length, take, drop, Option, Some, Result, Ok, Err, refl, subst, ap, ◌∙◌, arith, inl, inr, length-drop}
-use Rattle.std.proofs.lemmas.Bool.{le-leb, lt-leb, cases_lt}
-use Rattle.std.proofs.lemmas.Bool.Decides.{nat_tests}
+use Rattle.std.proofs.lemmas.Bool.{le-leb, leb-true, lt-leb, cases_lt}
 use Rattle.std.proofs.lemmas.List.{drop-drop}
 use Rattle.std.proofs.lemmas.Int.{to_z-of_z}
 use Rattle.bitstream_order.specs.Reference.{Reference}
@@ -101,16 +100,13 @@ chain-finds b k n m e f a r h t = record {
   ];
 }
 
-le_of : (n m : ℕ) → nat_le n m ≡ true → n ≤ m
-le_of n m h = grind (arith, nat_tests)
-
 -- one field that is a word, and those behind it, of l bits in all
 pub next-finds : {A B : Type 0} (b : List Bool) (k n l : ℕ) (e : ReadEntry A) (f : A → ReadEntry B) (g : List Bool
     → A) (r : Result B Error) → IsWord e n (λ w. Ok (g w)) → nat_le n l ≡ true
     → Finds b (k + n) (f (g (take n (drop k b)))) (l - n) r
     → Finds b k (chain e f) l r
 next-finds b k n l e f g r word le t =
-    let sum : n + (l - n) ≡ l = let h = le_of n l le in omega arith in
+    let sum : n + (l - n) ≡ l = let h = leb-true n l le in omega arith in
     subst (λ m. Finds b k (chain e f) m r) sum (chain-finds b k n (l - n) e f (g (take n (drop k b))) r
     (word-finds b k n e (λ w. Ok (g w)) word) t)
 
@@ -118,27 +114,27 @@ module _ {B : Type 0} (b : List Bool) (k n l : ℕ) (r : Result B Error) where
   pub unsigned-finds : (o : Order) (size : ℕ) (f : ℕ → ReadEntry B) → nat_le n size ≡ true → nat_le n l ≡ true
       → Finds b (k + n) (f (number o (take n (drop k b)))) (l - n) r → Finds b k (chain (unsigned_entry o size n) f) l r
   unsigned-finds o size f fits le t = next-finds b k n l (unsigned_entry o size n) f (number o) r
-      (unsigned-word o size n (le_of n size fits)) le t
+      (unsigned-word o size n (leb-true n size fits)) le t
 
   pub signed-finds : (o : Order) (size : ℕ) (f : ℤ → ReadEntry B) → nat_le 1 n ≡ true → nat_le n size ≡ true
       → nat_le n l ≡ true → Finds b (k + n) (f (signed_number o (take n (drop k b)))) (l - n) r
       → Finds b k (chain (signed_entry o size n) f) l r
   signed-finds o size f some fits le t = next-finds b k n l (signed_entry o size n) f (signed_number o) r
-      (signed-word o size n (le_of 1 n some) (le_of n size fits)) le t
+      (signed-word o size n (leb-true 1 n some) (leb-true n size fits)) le t
 
   pub non_zero-finds : {A : Type 0} (after : ℕ → A) (o : Order) (size : ℕ) (f : A → ReadEntry B) → nat_le (n + 1) size
       ≡ true → nat_le n l ≡ true → Finds b (k + n) (f (after (number o (take n (drop k b))))) (l - n) r
       → Finds b k (chain (non_zero_entry after o size n) f) l r
   non_zero-finds after o size f fits le t =
       next-finds b k n l (non_zero_entry after o size n) f (λ w. after (number o w)) r
-      (non_zero-word after o size n (let less = le_of (n + 1) size fits in omega arith)) le t
+      (non_zero-word after o size n (let less = leb-true (n + 1) size fits in omega arith)) le t
 
   pub option-finds : {A : Type 0} (after : ℕ → A) (o : Order) (size : ℕ) (f : Option A → ReadEntry B) → nat_le n size
       ≡ true → nat_le n l ≡ true → Finds b (k + n) (f (if_any after (number o (take n (drop k b))))) (l - n) r
       → Finds b k (chain (option_entry after o size n) f) l r
   option-finds after o size f fits le t =
       next-finds b k n l (option_entry after o size n) f (λ w. if_any after (number o w)) r
-      (option-word after o size n (le_of n size fits)) le t
+      (option-word after o size n (leb-true n size fits)) le t
 
 module _ {B : Type 0} (b : List Bool) (k l : ℕ) (r : Result B Error) (f : Bool → ReadEntry B) where
   pub bit-finds : nat_le 1 l ≡ true → Finds b (k + 1) (f (first_bit (take 1 (drop k b)))) (l - 1) r

@@ -35,7 +35,7 @@ unfolding truth_entry
 truth-word = record { reads = λ p b. refl }
 
 -- a word whose number is then changed
-mapped-word : {A B : Type 0} (e : ReadEntry A) (n : ℕ) (g : List Bool → A) (f : A → B) → IsWord e n (λ w. Ok (g w))
+pub mapped-word : {A B : Type 0} (e : ReadEntry A) (n : ℕ) (g : List Bool → A) (f : A → B) → IsWord e n (λ w. Ok (g w))
     → IsWord (chain e (λ a. gives (f a))) n (λ w. Ok (f (g w)))
 unfolding chain
 mapped-word e n g f h = record {
