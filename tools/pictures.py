@@ -197,6 +197,7 @@ HOLDS = {
     "bitfields_core": "layouts of bit fields",
     "bitfields": "the program",
     "formats": "the program",
+    "wav_header": "a whole program, printed from a description",
     "test_streams": "streams of the tests",
     "bitstream_bench": "tests",
     "bitstream_vectors": "test vectors",
