@@ -76,18 +76,18 @@ def count(program: Path, workload: Workload, side: str, items: int, branches: bo
         sys.exit(f"callgrind failed on {side} {workload.name}:\n{done.stderr[-600:]}")
 
 
-def ratios(counts: Counts) -> dict[str, float]:
-    """Returns the ratio of each side to the Rust crate, as far as both have the function."""
-    original = counts.get("orig")
-    found = {side: counts.get(side) for side in PORTS}
-    return {side: it.instructions / original.instructions for side, it in found.items() if it and original}
-
-
 def differing(counts: Counts) -> list[str]:
     """Returns the sides whose result is not that of the first side."""
     there = {side: it for side, it in counts.items() if it}
     wanted = next((it.result for it in there.values()), None)
     return [side for side, it in there.items() if it.result != wanted]
+
+
+def ratios(counts: Counts) -> dict[str, float]:
+    """Returns the ratio of each side to the Rust crate, if both have the function and return the same."""
+    original, wrong = counts.get("orig"), differing(counts)
+    found = {side: counts.get(side) for side in PORTS if side not in wrong}
+    return {side: it.instructions / original.instructions for side, it in found.items() if it and original}
 
 
 def head(branches: bool) -> str:
