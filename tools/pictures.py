@@ -197,6 +197,7 @@ HOLDS = {
     "bitfields_core": "layouts of bit fields",
     "bitfields": "the program",
     "formats": "the program",
+    "wav_header": "a whole program, printed from a description",
     "test_streams": "streams of the tests",
     "bitstream_bench": "tests",
     "bitstream_vectors": "test vectors",
@@ -254,15 +255,16 @@ def said_of(name: str, named: list[str], width: float) -> list[Text]:
     ]
 
 
-def user_row(row: list[str], crates: dict[str, list[str]], y: float, colour: str) -> tuple[list[str], float]:
-    """Draws crates above the library beside each other. Gives the row's end."""
+def user_row(row: list[str], crates: dict[str, list[str]], y: float) -> tuple[list[str], float]:
+    """Draws a row of crates above the library: those that no crate uses in another colour. Gives the row's end."""
     width = (WIDTH - GAP * (len(row) - 1)) / len(row)
     boxes = [said_of(it, uses(crates, it), width) for it in row]
     height = 10 + 17 * max(map(len, boxes))
     parts = []
     for place, texts in enumerate(boxes):
         x = MARGIN + place * (width + GAP)
-        parts.append(box(x, y, width, height, colour, 4))
+        is_used = any(row[place] in named for named in crates.values())
+        parts.append(box(x, y, width, height, COLOURS[1] if is_used else COLOURS[2], 4))
         parts += [replace(it, x=x + it.x, y=y + it.y).drawn() for it in texts]
     return parts, y + height + GAP
 
@@ -281,8 +283,8 @@ def user_rows(crates: dict[str, list[str]], library: list[str]) -> list[list[str
     rows = []
     for _, named in sorted(levels.items(), reverse=True):
         count = -(-len(named) // MOST)
-        wide = -(-len(named) // count)
-        rows += [named[at : at + wide] for at in range(0, len(named), wide)]
+        ends = [len(named) * number // count for number in range(count + 1)]
+        rows += [named[start:end] for start, end in zip(ends, ends[1:])]
     return rows
 
 
@@ -292,8 +294,7 @@ def layers_picture(text: str, source: str) -> str:
     library = sorted(all_below(crates, LIBRARY) | {LIBRARY}, key=lambda it: level(crates, it))
     parts, y = [], float(MARGIN)
     for row in user_rows(crates, library):
-        is_user = any(it in crates[user] for it in row for user in crates if user not in library)
-        drawn, y = user_row(row, crates, y, COLOURS[1] if is_user else COLOURS[2])
+        drawn, y = user_row(row, crates, y)
         parts += drawn
     said = "The library: each crate uses the crates below it."
     parts.append(Text(said, MARGIN, y + 12, colour=GREY, bold=True).drawn())
