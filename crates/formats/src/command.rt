@@ -1,11 +1,19 @@
 //! What the program does with a file.
 
-use crate::headers::{Headers, line_of};
-use crate::progress::Progress;
-use anyhow::{Error, anyhow};
+use crate::options::Style;
+use crate::print::Printer;
+use crate::readers::audio::{AdtsUnits, FlacUnits};
+use crate::readers::compressed::GzipUnits;
+use crate::readers::containers::{OggUnits, TsUnits};
+use crate::readers::video::{Av1Units, H264Units};
+use crate::report::Report;
+use crate::status::Status;
+use crate::unit::{Fault, ReadUnits, Step, Unit};
+use anyhow::Error;
+use bitstream_formats::at::At;
 use bitstream_formats::flac::Decoder;
-use bitstream_formats::{adts, av1, deflate, h264, ogg, ts};
 use std::alloc::Global;
+use std::io;
 use std::io::Write;
 
 /// A command over a file.
@@ -13,33 +21,49 @@ use std::io::Write;
 pub enum Command {
     /// Writes the samples of a FLAC file.
     Flac,
+    /// Prints the metadata and the headers of the frames of a FLAC file.
+    FlacHeaders,
     /// Writes the bytes of a gzip file.
     Gunzip,
+    /// Prints the elements of the members of a gzip file.
+    GzipHeaders,
     /// Prints the elements of the units of H.264.
     H264,
-    /// Prints those of the OBUs of AV1.
+    /// Prints the elements of the OBUs of AV1.
     Av1,
-    /// Prints those of the frames of AAC.
+    /// Prints the elements of the frames of AAC.
     Adts,
-    /// Prints those of the pages of Ogg.
+    /// Prints the elements of the pages of Ogg.
     Ogg,
-    /// Prints those of the packets of an MPEG transport stream.
+    /// Prints the elements of the packets of an MPEG transport stream.
     Ts,
 }
 
 impl Command {
     /// Returns the command that a word names.
-    pub fn of(word: &str) -> Result<Command, Error> {
+    pub fn of(word: &str) -> Option<Command> {
         match word {
-            "flac" => Ok(Command::Flac),
-            "gunzip" => Ok(Command::Gunzip),
-            "h264" => Ok(Command::H264),
-            "av1" => Ok(Command::Av1),
-            "adts" => Ok(Command::Adts),
-            "ogg" => Ok(Command::Ogg),
-            "ts" => Ok(Command::Ts),
-            _ => Err(anyhow!("no command {word}")),
+            "flac" => Some(Command::Flac),
+            "flac-headers" => Some(Command::FlacHeaders),
+            "gunzip" => Some(Command::Gunzip),
+            "gzip-headers" => Some(Command::GzipHeaders),
+            "h264" => Some(Command::H264),
+            "av1" => Some(Command::Av1),
+            "adts" => Some(Command::Adts),
+            "ogg" => Some(Command::Ogg),
+            "ts" => Some(Command::Ts),
+            _ => None,
         }
+    }
+
+    /// Returns true if the file is read as it comes, and not whole.
+    pub fn streams(self) -> bool {
+        matches!(self, Command::Gunzip | Command::GzipHeaders)
+    }
+
+    /// Returns true if the command writes what a file holds, and prints no elements.
+    pub fn decodes(self) -> bool {
+        matches!(self, Command::Flac | Command::Gunzip)
     }
 }
 
@@ -47,64 +71,150 @@ impl Command {
 pub fn play<W: Write, P: Write>(
     alloc: Global,
     command: Command,
+    name: &str,
     file: &[u8],
+    printer: &mut Printer,
     out: &mut W,
-    progress: &mut Progress<P>,
-) -> Result<(), Error> {
+    report: &mut Report<P>,
+) -> Result<Status, Error> {
     match command {
-        Command::Flac => decode(alloc, file, out, progress),
+        Command::Flac => decode(alloc, name, file, out, report),
         Command::Gunzip => {
-            let bytes = deflate::unpack(alloc, file).map_err(line_of)?;
-            out.write_all(bytes.as_slice())?;
-            Ok(())
+            let mut kept = Vec::new(alloc);
+            let mut units = GzipUnits::over(alloc, file, &mut kept)?;
+            let status = show(alloc, name, &mut units, printer, &mut io::sink(), report)?;
+            drop(units);
+            out.write_all(kept.as_slice())?;
+            Ok(status)
         }
-        Command::H264 => print_headers(alloc, &mut h264::Units::over(file), out, progress),
-        Command::Av1 => print_headers(alloc, &mut av1::Obus::over(file), out, progress),
-        Command::Adts => print_headers(alloc, &mut adts::Frames::over(file), out, progress),
-        Command::Ogg => print_headers(alloc, &mut ogg::Pages::over(file), out, progress),
-        Command::Ts => print_headers(alloc, &mut ts::Packets::over(file), out, progress),
+        Command::GzipHeaders => {
+            let mut units = GzipUnits::over(alloc, file, io::sink())?;
+            show(alloc, name, &mut units, printer, out, report)
+        }
+        Command::FlacHeaders => show(
+            alloc,
+            name,
+            &mut FlacUnits::over(file),
+            printer,
+            out,
+            report,
+        ),
+        Command::H264 => show(
+            alloc,
+            name,
+            &mut H264Units::over(file),
+            printer,
+            out,
+            report,
+        ),
+        Command::Av1 => show(alloc, name, &mut Av1Units::over(file), printer, out, report),
+        Command::Adts => show(
+            alloc,
+            name,
+            &mut AdtsUnits::over(file),
+            printer,
+            out,
+            report,
+        ),
+        Command::Ogg => show(
+            alloc,
+            name,
+            &mut OggUnits::over(alloc, file),
+            printer,
+            out,
+            report,
+        ),
+        Command::Ts => show(alloc, name, &mut TsUnits::over(file), printer, out, report),
     }
 }
 
-/// Writes the samples of a FLAC file.
+/// Prints the units of a file, and reports those that are refused.
+pub fn show<U: ReadUnits, W: Write, P: Write>(
+    alloc: Global,
+    name: &str,
+    units: &mut U,
+    printer: &mut Printer,
+    out: &mut W,
+    report: &mut Report<P>,
+) -> Result<Status, Error> {
+    let mut unit = Unit::new(alloc);
+    let mut status = Status::Read;
+    let mut read = 0u64;
+    for number in 0..u64::MAX {
+        match units.next_unit(alloc, &mut unit)? {
+            Step::End => break,
+            Step::Read => {
+                read = read.saturating_add(1);
+                printer.print(out, name, number, &unit, None)?;
+            }
+            Step::Refused(fault) => {
+                status = status.max(Status::Refused);
+                printer.print(out, name, number, &unit, Some(&fault))?;
+                if printer.style() != Style::Errors {
+                    report.refused(name, number, &unit, &fault);
+                }
+            }
+            Step::Warned(fault) => {
+                status = status.max(Status::Warned);
+                report.say(name, fault.text.as_str());
+            }
+        }
+        report.done(units.bytes_done());
+    }
+    if read == 0 && status == Status::Read {
+        report.say(name, "nothing of this format");
+        return Ok(Status::Refused);
+    }
+    Ok(status)
+}
+
+/// Writes the samples of a FLAC file, up to the first frame that is refused.
 fn decode<W: Write, P: Write>(
     alloc: Global,
+    name: &str,
     file: &[u8],
     out: &mut W,
-    progress: &mut Progress<P>,
-) -> Result<(), Error> {
-    let mut decoder = Decoder::over(file).map_err(line_of)?;
+    report: &mut Report<P>,
+) -> Result<Status, Error> {
+    let mut unit = Unit::new(alloc);
+    unit.begin("file", 0);
+    let mut decoder = match Decoder::over(file) {
+        Ok(decoder) => decoder,
+        Err(At { bit, error }) => {
+            let fault = Fault::of(alloc, bit, error)?;
+            return refuse(name, 0, &unit, &fault, report);
+        }
+    };
     let mut bytes = Vec::new(alloc);
-    for _ in 0..u64::MAX {
-        let Some(frame) = decoder.next_frame(alloc).map_err(line_of)? else {
-            break;
-        };
-        bytes.clear();
-        frame.append_pcm(&mut bytes)?;
-        out.write_all(bytes.as_slice())?;
-        progress.left(decoder.rest().len());
+    for number in 0..u64::MAX {
+        let start = file.len().saturating_sub(decoder.rest().len()) as u64;
+        unit.begin("frame", start);
+        match decoder.next_frame(alloc) {
+            Ok(Some(frame)) => {
+                bytes.clear();
+                frame.append_pcm(&mut bytes)?;
+                out.write_all(bytes.as_slice())?;
+                report.done(start);
+            }
+            Ok(None) => break,
+            Err(At { bit, error }) => {
+                let bit = bit.saturating_sub(start.saturating_mul(8));
+                let fault = Fault::of(alloc, bit, error)?;
+                return refuse(name, number, &unit, &fault, report);
+            }
+        }
     }
-    Ok(())
+    Ok(Status::Read)
 }
 
-/// Prints the elements of headers, also those that stand before an error.
-fn print_headers<H: Headers, W: Write, P: Write>(
-    alloc: Global,
-    headers: &mut H,
-    out: &mut W,
-    progress: &mut Progress<P>,
-) -> Result<(), Error> {
-    let mut elements = Vec::new(alloc);
-    for _ in 0..u64::MAX {
-        elements.clear();
-        let read = headers.read_next(alloc, &mut elements);
-        for element in elements.as_slice() {
-            writeln!(out, "{element}")?;
-        }
-        if !read? {
-            break;
-        }
-        progress.left(headers.left());
-    }
-    Ok(())
+/// Reports a frame that is refused.
+fn refuse<P: Write>(
+    name: &str,
+    number: u64,
+    unit: &Unit,
+    fault: &Fault,
+    report: &mut Report<P>,
+) -> Result<Status, Error> {
+    report.refused(name, number, unit, fault);
+    Ok(Status::Refused)
 }
