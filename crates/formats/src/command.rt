@@ -8,10 +8,8 @@ use crate::readers::containers::{OggUnits, TsUnits};
 use crate::readers::video::{Av1Units, H264Units};
 use crate::report::Report;
 use crate::status::Status;
-use crate::unit::{Fault, ReadUnits, Step, Unit};
+use crate::unit::{ReadUnits, Step, Unit};
 use anyhow::Error;
-use bitstream_formats::at::At;
-use bitstream_formats::flac::Decoder;
 use std::alloc::Global;
 use std::io;
 use std::io::Write;
@@ -56,11 +54,6 @@ impl Command {
         }
     }
 
-    /// Returns true if the file is read as it comes, and not whole.
-    pub fn streams(self) -> bool {
-        matches!(self, Command::Gunzip | Command::GzipHeaders)
-    }
-
     /// Returns true if the command writes what a file holds, and prints no elements.
     pub fn decodes(self) -> bool {
         matches!(self, Command::Flac | Command::Gunzip)
@@ -78,53 +71,67 @@ pub fn play<W: Write, P: Write>(
     report: &mut Report<P>,
 ) -> Result<Status, Error> {
     match command {
-        Command::Flac => decode(alloc, name, file, out, report),
+        Command::Flac => {
+            let mut units = FlacUnits::over(file, true);
+            decode(alloc, name, &mut units, out, report)
+        }
         Command::Gunzip => {
-            let mut kept = Vec::new(alloc);
-            let mut units = GzipUnits::over(alloc, file, &mut kept)?;
-            let status = show(alloc, name, &mut units, printer, &mut io::sink(), report)?;
-            drop(units);
-            out.write_all(kept.as_slice())?;
-            Ok(status)
+            let mut units = GzipUnits::over(alloc, file)?;
+            decode(alloc, name, &mut units, out, report)
         }
         Command::GzipHeaders => {
-            let mut units = GzipUnits::over(alloc, file, io::sink())?;
+            let mut units = GzipUnits::over(alloc, file)?;
             show(alloc, name, &mut units, printer, out, report)
         }
-        Command::FlacHeaders => show(
-            alloc,
-            name,
-            &mut FlacUnits::over(file),
-            printer,
-            out,
-            report,
-        ),
-        Command::H264 => show(
-            alloc,
-            name,
-            &mut H264Units::over(file),
-            printer,
-            out,
-            report,
-        ),
-        Command::Av1 => show(alloc, name, &mut Av1Units::over(file), printer, out, report),
-        Command::Adts => show(
-            alloc,
-            name,
-            &mut AdtsUnits::over(file),
-            printer,
-            out,
-            report,
-        ),
-        Command::Ogg => show(
-            alloc,
-            name,
-            &mut OggUnits::over(alloc, file),
-            printer,
-            out,
-            report,
-        ),
-        Command::Ts => show(alloc, name, &mut TsUnits::over(file), printer, out, report),
+        Command::FlacHeaders => {
+            let mut units = FlacUnits::over(file, false);
+            show(alloc, name, &mut units, printer, out, report)
+        }
+        Command::H264 => {
+            let mut units = H264Units::over(file);
+            show(alloc, name, &mut units, printer, out, report)
+        }
+        Command::Av1 => {
+            let mut units = Av1Units::over(file);
+            show(alloc, name, &mut units, printer, out, report)
+        }
+        Command::Adts => {
+            let mut units = AdtsUnits::over(file);
+            show(alloc, name, &mut units, printer, out, report)
+        }
+        Command::Ogg => {
+            let mut units = OggUnits::over(alloc, file);
+            show(alloc, name, &mut units, printer, out, report)
+        }
+        Command::Ts => {
+            let mut units = TsUnits::over(file);
+            show(alloc, name, &mut units, printer, out, report)
+        }
+    }
+}
+
+/// What came of the units of a file.
+#[derive(Clone, Copy, Debug)]
+struct Tally {
+    status: Status,
+    // How many were read or refused.
+    count: u64,
+}
+
+impl Tally {
+    /// Returns what came of a file, which is refused if it has no unit.
+    fn end<P: Write>(self, name: &str, report: &mut Report<P>) -> Status {
+        if self.count > 0 {
+            return self.status;
+        }
+        report.say(name, "nothing of this format");
+        Status::Refused
+    }
+
+    /// Adds a unit.
+    fn add(&mut self, status: Status) {
+        self.status = self.status.max(status);
+        self.count = self.count.saturating_add(1);
     }
 }
 
@@ -138,83 +145,62 @@ pub fn show<U: ReadUnits, W: Write, P: Write>(
     report: &mut Report<P>,
 ) -> Result<Status, Error> {
     let mut unit = Unit::new(alloc);
-    let mut status = Status::Read;
-    let mut read = 0u64;
+    let mut none = io::sink();
+    let mut tally = Tally {
+        status: Status::Read,
+        count: 0,
+    };
     for number in 0..u64::MAX {
-        match units.next_unit(alloc, &mut unit)? {
+        match units.next_unit(alloc, &mut unit, &mut none)? {
             Step::End => break,
             Step::Read => {
-                read = read.saturating_add(1);
+                tally.add(Status::Read);
                 printer.print(out, name, number, &unit, None)?;
             }
             Step::Refused(fault) => {
-                status = status.max(Status::Refused);
+                tally.add(Status::Refused);
                 printer.print(out, name, number, &unit, Some(&fault))?;
                 if printer.style() != Style::Errors {
                     report.refused(name, number, &unit, &fault);
                 }
             }
             Step::Warned(fault) => {
-                status = status.max(Status::Warned);
+                tally.add(Status::Warned);
                 report.say(name, fault.text.as_str());
             }
         }
         report.done(units.bytes_done());
     }
-    if read == 0 && status == Status::Read {
-        report.say(name, "nothing of this format");
-        return Ok(Status::Refused);
-    }
-    Ok(status)
+    Ok(tally.end(name, report))
 }
 
-/// Writes the samples of a FLAC file, up to the first frame that is refused.
-fn decode<W: Write, P: Write>(
+/// Writes what the units of a file hold, and reports those that are refused.
+pub fn decode<U: ReadUnits, W: Write, P: Write>(
     alloc: Global,
     name: &str,
-    file: &[u8],
+    units: &mut U,
     out: &mut W,
     report: &mut Report<P>,
 ) -> Result<Status, Error> {
     let mut unit = Unit::new(alloc);
-    unit.begin("file", 0);
-    let mut decoder = match Decoder::over(file) {
-        Ok(decoder) => decoder,
-        Err(At { bit, error }) => {
-            let fault = Fault::of(alloc, bit, error)?;
-            return refuse(name, 0, &unit, &fault, report);
-        }
+    let mut tally = Tally {
+        status: Status::Read,
+        count: 0,
     };
-    let mut bytes = Vec::new(alloc);
     for number in 0..u64::MAX {
-        let start = file.len().saturating_sub(decoder.rest().len()) as u64;
-        unit.begin("frame", start);
-        match decoder.next_frame(alloc) {
-            Ok(Some(frame)) => {
-                bytes.clear();
-                frame.append_pcm(&mut bytes)?;
-                out.write_all(bytes.as_slice())?;
-                report.done(start);
+        match units.next_unit(alloc, &mut unit, out)? {
+            Step::End => break,
+            Step::Read => tally.add(Status::Read),
+            Step::Refused(fault) => {
+                tally.add(Status::Refused);
+                report.refused(name, number, &unit, &fault);
             }
-            Ok(None) => break,
-            Err(At { bit, error }) => {
-                let bit = bit.saturating_sub(start.saturating_mul(8));
-                let fault = Fault::of(alloc, bit, error)?;
-                return refuse(name, number, &unit, &fault, report);
+            Step::Warned(fault) => {
+                tally.add(Status::Warned);
+                report.say(name, fault.text.as_str());
             }
         }
+        report.done(units.bytes_done());
     }
-    Ok(Status::Read)
-}
-
-/// Reports a frame that is refused.
-fn refuse<P: Write>(
-    name: &str,
-    number: u64,
-    unit: &Unit,
-    fault: &Fault,
-    report: &mut Report<P>,
-) -> Result<Status, Error> {
-    report.refused(name, number, unit, fault);
-    Ok(Status::Refused)
+    Ok(tally.end(name, report))
 }

@@ -1,6 +1,7 @@
 //! Damaged copies of a file.
 
 use crate::command::Command;
+use crate::options::Style;
 use crate::rows::outcome_of;
 use crate::status::Status;
 use anyhow::Error;
@@ -42,7 +43,7 @@ pub fn play_damaged(rt: &HostRuntime, command: Command, path: &str) -> Result<()
     let mut counts = Vec::new(alloc);
     for at in 0..file.len() {
         turn(file.as_mut_slice(), at);
-        let written = outcome_of(alloc, command, file.as_slice())?;
+        let written = outcome_of(alloc, command, Style::Rows, file.as_slice())?;
         if written.status == Status::Read {
             answers = answers.saturating_add(1);
         } else {

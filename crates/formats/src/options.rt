@@ -76,6 +76,8 @@ pub enum Usage {
     NoValue(String),
     /// No file is named, or the wrong number of them.
     NoFile,
+    /// A command that writes what a file holds prints no elements, and has no option.
+    NoElements,
     /// Memory was refused.
     NoMemory,
 }
@@ -149,6 +151,9 @@ fn parse_command(alloc: Global, command: Command, words: &[String]) -> Result<Ca
     }
     if is_name {
         return Err(Usage::NoValue(String::from_str(alloc, "--only")?));
+    }
+    if command.decodes() && (options.style != Style::Rows || !options.only.is_empty()) {
+        return Err(Usage::NoElements);
     }
     if files.is_empty() {
         return Err(Usage::NoFile);

@@ -1,7 +1,8 @@
 //! What is reported on standard error: how far a run is, and what was refused.
 
 use crate::unit::{Fault, Unit};
-use std::io::Write;
+use std::io;
+use std::io::{Read, Write};
 
 /// Reports how far a run is, a hundredth at a time, in one line that it overwrites, and what was refused.
 #[derive(Drop)]
@@ -37,9 +38,9 @@ impl<P: Write> Report<P> {
         }
     }
 
-    /// Clears the line, if there is one.
+    /// Clears the line, if progress is shown.
     pub fn clear(&mut self) {
-        if self.told > 0 {
+        if self.shown {
             self.told = 0;
             let _ = write!(self.out, "\r     \r");
         }
@@ -66,5 +67,33 @@ impl<P: Write> Report<P> {
     pub fn say(&mut self, file: &str, text: &str) {
         self.clear();
         let _ = writeln!(self.out, "formats: {file}: {text}");
+    }
+}
+
+/// A reader that reports how much of it was read.
+#[derive(Drop)]
+pub struct Watched<R: Read, P: Write> {
+    reader: R,
+    report: Report<P>,
+    done: u64,
+}
+
+impl<R: Read, P: Write> Watched<R, P> {
+    /// Returns a reader that reports what is read of another one.
+    pub fn new(reader: R, report: Report<P>) -> Watched<R, P> {
+        Watched {
+            reader,
+            report,
+            done: 0,
+        }
+    }
+}
+
+impl<R: Read, P: Write> Read for Watched<R, P> {
+    fn read(&mut self, buf: &mut [u8]) -> io::Result<usize> {
+        let count = self.reader.read(buf)?;
+        self.done = self.done.saturating_add(count as u64);
+        self.report.done(self.done);
+        Ok(count)
     }
 }

@@ -37,10 +37,15 @@ impl Written {
 }
 
 /// Returns what a command writes of a file.
-pub fn outcome_of(alloc: Global, command: Command, file: &[u8]) -> Result<Written, Error> {
+pub fn outcome_of(
+    alloc: Global,
+    command: Command,
+    style: Style,
+    file: &[u8],
+) -> Result<Written, Error> {
     let mut out = Vec::new(alloc);
     let mut report = Report::new(Vec::new(alloc), false, 0);
-    let mut printer = Printer::new(alloc, Options::of(alloc, Style::Rows));
+    let mut printer = Printer::new(alloc, Options::of(alloc, style));
     let status = play(
         alloc,
         command,
@@ -99,25 +104,42 @@ fn compare_rows(alloc: Global, written: &str, rows: &str) -> Result<u64, Error> 
     Ok(count)
 }
 
+/// How a file of a list is compared.
+#[derive(Clone, Copy, Debug, PartialEq, Eq)]
+struct Case {
+    /// Whether the file has an error, which is printed.
+    refused: bool,
+    /// How its units are printed.
+    style: Style,
+}
+
 /// Compares what is read of each file of a list: a line has a command, a file, and a file of rows or of bytes. After
-/// the word `refused` the file has an error, which is printed. After the word `damaged` there are a command and a file
-/// whose damaged copies are counted.
+/// the word `json` the units are printed so. After the word `refused` the file has an error, which is printed. After
+/// the word `damaged` there are a command and a file whose damaged copies are counted.
 pub fn play_rows(rt: &HostRuntime, list: &str) -> Result<(), Error> {
     let text = fs::read_to_string(rt, list)?;
     for line in text.as_str().lines() {
-        let (is_refused, rest) = match line.split_once("refused ") {
-            Some(("", rest)) => (true, rest),
-            _ => (false, line),
+        let mut words = line.split(' ');
+        let mut word = words.next().unwrap_or("");
+        let mut case = Case {
+            refused: false,
+            style: Style::Rows,
         };
-        let mut words = rest.split(' ');
-        let (Some(word), Some(path), Some(other)) = (words.next(), words.next(), words.next())
-        else {
+        if word == "refused" {
+            case.refused = true;
+            word = words.next().unwrap_or("");
+        }
+        if word == "json" {
+            case.style = Style::Json;
+            word = words.next().unwrap_or("");
+        }
+        let (Some(path), Some(other)) = (words.next(), words.next()) else {
             bail!("{list}: {line}");
         };
         if word == "damaged" {
             play_damaged(rt, command_of(path)?, other)?;
         } else {
-            compare(rt, command_of(word)?, path, other, is_refused)?;
+            compare(rt, command_of(word)?, path, other, case)?;
         }
     }
     Ok(())
@@ -137,15 +159,15 @@ fn compare(
     command: Command,
     path: &str,
     other: &str,
-    is_refused: bool,
+    case: Case,
 ) -> Result<(), Error> {
     let file = fs::read(rt, path)?;
     let wanted = fs::read(rt, other)?;
-    let written = outcome_of(rt.alloc(), command, file.as_slice())?;
-    if is_refused != (written.status != Status::Read) {
+    let written = outcome_of(rt.alloc(), command, case.style, file.as_slice())?;
+    if case.refused != (written.status != Status::Read) {
         bail!("{path}: {:?}: {}", written.status, written.first_error());
     }
-    if command.decodes() {
+    if command.decodes() || case.style == Style::Json {
         if written.out.as_slice() != wanted.as_slice() {
             bail!("{path}: the bytes are not those of {other}");
         }
@@ -162,7 +184,7 @@ fn compare(
             Err(error) => bail!("{path}: {error}"),
         }
     }
-    if is_refused {
+    if case.refused {
         println!(rt; "{path}: {}", written.first_error())?;
     }
     Ok(())

@@ -1,18 +1,18 @@
 //! A whole call of the program.
 
-use crate::command::{Command, play, show};
+use crate::command::{Command, decode, play, show};
 use crate::damaged::play_damaged;
 use crate::help::{HELP, VERSION, help_of};
 use crate::options::{Call, Options, Usage, parse};
 use crate::print::Printer;
 use crate::readers::compressed::GzipUnits;
-use crate::report::Report;
+use crate::report::{Report, Watched};
 use crate::rows::play_rows;
 use crate::status::{Status, USAGE};
 use anyhow::Error;
 use std::fs::File;
 use std::io::{BufWriter, ErrorKind, IsTerminal, Read, Write};
-use std::{env, fs, io};
+use std::{env, io};
 
 /// The bytes that are written at once.
 const OUT: usize = 65536;
@@ -45,6 +45,7 @@ fn refuse(rt: &HostRuntime, usage: Usage) -> io::Result<()> {
         Usage::NoOption(word) => eprintln!(rt; "formats: no option {}", word.as_str())?,
         Usage::NoValue(word) => eprintln!(rt; "formats: no name after {}", word.as_str())?,
         Usage::NoFile => eprintln!(rt; "formats: no file is named, or too many are")?,
+        Usage::NoElements => eprintln!(rt; "formats: this command has no options")?,
         Usage::NoMemory => eprintln!(rt; "formats: out of memory")?,
     }
     eprintln!(rt; "formats: `formats --help` prints how it is called")
@@ -134,24 +135,17 @@ fn read_from<R: Read + Drop, W: Write>(
     let alloc = rt.alloc();
     let shown = rt.stderr().is_terminal() && !rt.stdout().is_terminal();
     let mut report = Report::new(rt.stderr(), shown, length);
+    let mut reader = Watched::new(reader, Report::new(rt.stderr(), shown, length));
     let done = match command {
         Command::Gunzip => {
-            let mut units = GzipUnits::over(alloc, reader, out)?;
-            show(
-                alloc,
-                name,
-                &mut units,
-                printer,
-                &mut io::sink(),
-                &mut report,
-            )
+            let mut units = GzipUnits::over(alloc, reader)?;
+            decode(alloc, name, &mut units, out, &mut report)
         }
         Command::GzipHeaders => {
-            let mut units = GzipUnits::over(alloc, reader, io::sink())?;
+            let mut units = GzipUnits::over(alloc, reader)?;
             show(alloc, name, &mut units, printer, out, &mut report)
         }
         _ => {
-            let mut reader = reader;
             let mut file = Vec::new(alloc);
             reader.read_to_end(&mut file)?;
             play(

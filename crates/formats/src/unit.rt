@@ -5,6 +5,7 @@ use bitstream_formats::at::At;
 use bitstream_formats::element::Element;
 use std::alloc::{AllocError, Global};
 use std::fmt::Display;
+use std::io::Write;
 
 /// The value of a note.
 #[derive(Drop)]
@@ -164,8 +165,14 @@ impl Step {
 
 /// Units that are read one after the other.
 pub trait ReadUnits {
-    /// Reads the next unit. After a unit that is refused the next call goes on with the next unit that can be found.
-    fn next_unit(&mut self, alloc: Global, unit: &mut Unit) -> Result<Step, Error>;
+    /// Reads the next unit, and writes to `out` what a decoder finds in it. After a unit that is refused the next call
+    /// goes on with the next unit that can be found.
+    fn next_unit<W: Write>(
+        &mut self,
+        alloc: Global,
+        unit: &mut Unit,
+        out: &mut W,
+    ) -> Result<Step, Error>;
 
     /// Returns how many bytes of the file were read.
     fn bytes_done(&self) -> u64;

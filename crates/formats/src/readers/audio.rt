@@ -6,6 +6,7 @@ use bitstream_formats::adts;
 use bitstream_formats::flac::{Block, Blocks, Channels, Decoder, Frame};
 use bitstream_formats::stream_info::StreamInfo;
 use std::alloc::{AllocError, Global};
+use std::io::Write;
 
 /// The frames of ADTS, after a tag of ID3v2 if there is one.
 #[derive(Drop)]
@@ -71,7 +72,12 @@ impl<'a> AdtsUnits<'a> {
 }
 
 impl ReadUnits for AdtsUnits<'_> {
-    fn next_unit(&mut self, alloc: Global, unit: &mut Unit) -> Result<Step, Error> {
+    fn next_unit<W: Write>(
+        &mut self,
+        alloc: Global,
+        unit: &mut Unit,
+        _out: &mut W,
+    ) -> Result<Step, Error> {
         let start = self.at;
         let bytes = self.from(start);
         if start == 0 && bytes.starts_with(b"ID3".as_slice()) && bytes.len() >= 10 {
@@ -102,6 +108,8 @@ impl ReadUnits for AdtsUnits<'_> {
 #[derive(Drop)]
 pub struct FlacUnits<'a> {
     file: &'a [u8],
+    // Whether the samples are written.
+    writes: bool,
     at: usize,
     blocks: Option<Blocks<'a>>,
     decoder: Option<Decoder<'a>>,
@@ -109,10 +117,11 @@ pub struct FlacUnits<'a> {
 }
 
 impl<'a> FlacUnits<'a> {
-    /// Returns the units of a file.
-    pub fn over(file: &'a [u8]) -> FlacUnits<'a> {
+    /// Returns the units of a file, the samples of which are written if `writes` is true.
+    pub fn over(file: &'a [u8], writes: bool) -> FlacUnits<'a> {
         FlacUnits {
             file,
+            writes,
             at: 0,
             blocks: None,
             decoder: None,
@@ -121,13 +130,18 @@ impl<'a> FlacUnits<'a> {
     }
 
     /// Begins with the blocks of metadata.
-    fn begin(&mut self, alloc: Global, unit: &mut Unit) -> Result<Step, Error> {
+    fn begin<W: Write>(
+        &mut self,
+        alloc: Global,
+        unit: &mut Unit,
+        out: &mut W,
+    ) -> Result<Step, Error> {
         unit.begin("file", 0);
         match Blocks::over(self.file) {
             Ok(blocks) => {
                 self.blocks = Some(blocks);
                 self.at = 4;
-                self.read_block(alloc, unit)
+                self.read_block(alloc, unit, out)
             }
             Err(at) => {
                 self.ended = true;
@@ -137,7 +151,12 @@ impl<'a> FlacUnits<'a> {
     }
 
     /// Reads a block of metadata, or the first frame after the last one.
-    fn read_block(&mut self, alloc: Global, unit: &mut Unit) -> Result<Step, Error> {
+    fn read_block<W: Write>(
+        &mut self,
+        alloc: Global,
+        unit: &mut Unit,
+        out: &mut W,
+    ) -> Result<Step, Error> {
         let start = self.at;
         unit.begin("block", start as u64);
         let next = match &mut self.blocks {
@@ -155,7 +174,7 @@ impl<'a> FlacUnits<'a> {
                 match Decoder::over(self.file) {
                     Ok(decoder) => {
                         self.decoder = Some(decoder);
-                        self.read_frame(alloc, unit)
+                        self.read_frame(alloc, unit, out)
                     }
                     Err(at) => {
                         self.ended = true;
@@ -173,7 +192,12 @@ impl<'a> FlacUnits<'a> {
     }
 
     /// Decodes a frame.
-    fn read_frame(&mut self, alloc: Global, unit: &mut Unit) -> Result<Step, Error> {
+    fn read_frame<W: Write>(
+        &mut self,
+        alloc: Global,
+        unit: &mut Unit,
+        out: &mut W,
+    ) -> Result<Step, Error> {
         let start = self.at;
         unit.begin("frame", start as u64);
         let Some(decoder) = &mut self.decoder else {
@@ -184,6 +208,11 @@ impl<'a> FlacUnits<'a> {
         match read {
             Ok(Some(frame)) => {
                 note_frame(alloc, unit, 8 * start as u64, &frame)?;
+                if self.writes {
+                    let mut bytes = Vec::new(alloc);
+                    frame.append_pcm(&mut bytes)?;
+                    out.write_all(bytes.as_slice())?;
+                }
                 Ok(Step::Read)
             }
             Ok(None) => Ok(Step::End),
@@ -197,15 +226,20 @@ impl<'a> FlacUnits<'a> {
 }
 
 impl ReadUnits for FlacUnits<'_> {
-    fn next_unit(&mut self, alloc: Global, unit: &mut Unit) -> Result<Step, Error> {
+    fn next_unit<W: Write>(
+        &mut self,
+        alloc: Global,
+        unit: &mut Unit,
+        out: &mut W,
+    ) -> Result<Step, Error> {
         if self.ended || self.file.is_empty() {
             Ok(Step::End)
         } else if self.at == 0 {
-            self.begin(alloc, unit)
+            self.begin(alloc, unit, out)
         } else if self.decoder.is_some() {
-            self.read_frame(alloc, unit)
+            self.read_frame(alloc, unit, out)
         } else {
-            self.read_block(alloc, unit)
+            self.read_block(alloc, unit, out)
         }
     }
 

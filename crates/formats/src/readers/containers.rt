@@ -4,6 +4,7 @@ use crate::unit::{Fault, ReadUnits, Step, Unit};
 use anyhow::Error;
 use bitstream_formats::{ogg, ts};
 use std::alloc::{AllocError, Global};
+use std::io::Write;
 
 /// The pages of a file of Ogg.
 #[derive(Drop)]
@@ -90,7 +91,12 @@ fn codec(packet: &[u8]) -> &'static str {
 }
 
 impl ReadUnits for OggUnits<'_> {
-    fn next_unit(&mut self, alloc: Global, unit: &mut Unit) -> Result<Step, Error> {
+    fn next_unit<W: Write>(
+        &mut self,
+        alloc: Global,
+        unit: &mut Unit,
+        _out: &mut W,
+    ) -> Result<Step, Error> {
         let start = self.at;
         let bytes = self.file.get(start..).unwrap_or(&[]);
         if bytes.is_empty() {
@@ -170,7 +176,12 @@ impl<'a> TsUnits<'a> {
 }
 
 impl ReadUnits for TsUnits<'_> {
-    fn next_unit(&mut self, alloc: Global, unit: &mut Unit) -> Result<Step, Error> {
+    fn next_unit<W: Write>(
+        &mut self,
+        alloc: Global,
+        unit: &mut Unit,
+        _out: &mut W,
+    ) -> Result<Step, Error> {
         let start = self.at;
         let bytes = self.file.get(start..).unwrap_or(&[]);
         if bytes.is_empty() {

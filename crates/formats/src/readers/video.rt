@@ -4,6 +4,7 @@ use crate::unit::{Fault, ReadUnits, Step, Unit};
 use anyhow::Error;
 use bitstream_formats::{av1, h264};
 use std::alloc::{AllocError, Global};
+use std::io::Write;
 
 /// The NAL units of an H.264 stream.
 #[derive(Drop)]
@@ -23,7 +24,12 @@ impl<'a> H264Units<'a> {
 }
 
 impl ReadUnits for H264Units<'_> {
-    fn next_unit(&mut self, alloc: Global, unit: &mut Unit) -> Result<Step, Error> {
+    fn next_unit<W: Write>(
+        &mut self,
+        alloc: Global,
+        unit: &mut Unit,
+        _out: &mut W,
+    ) -> Result<Step, Error> {
         let byte = self.bytes_done();
         let Some(bytes) = self.units.next_unit() else {
             return Ok(Step::End);
@@ -280,7 +286,12 @@ fn is_whole(unit: &Unit, taken: usize) -> bool {
 }
 
 impl ReadUnits for Av1Units<'_> {
-    fn next_unit(&mut self, alloc: Global, unit: &mut Unit) -> Result<Step, Error> {
+    fn next_unit<W: Write>(
+        &mut self,
+        alloc: Global,
+        unit: &mut Unit,
+        _out: &mut W,
+    ) -> Result<Step, Error> {
         if !self.obus.rest().is_empty() {
             self.read_obu(alloc, unit)
         } else if self.at >= self.file.len() || !self.ivf {
