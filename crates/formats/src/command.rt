@@ -58,7 +58,7 @@ pub fn play<W: Write, P: Write>(
             out.write_all(bytes.as_slice())?;
             Ok(())
         }
-        Command::H264 => print_headers(alloc, &mut h264::Units::over(file), out, progress),
+        Command::H264 => print_headers(alloc, &mut h264::Stream::over(file)?, out, progress),
         Command::Av1 => print_headers(alloc, &mut av1::Obus::over(file), out, progress),
         Command::Adts => print_headers(alloc, &mut adts::Frames::over(file), out, progress),
         Command::Ogg => print_headers(alloc, &mut ogg::Pages::over(file), out, progress),

@@ -64,14 +64,11 @@ impl Headers for ts::Packets<'_> {
     }
 }
 
-impl Headers for h264::Units<'_> {
+impl Headers for h264::Stream<'_> {
     fn read_next(&mut self, alloc: Global, elements: &mut Vec<Element>) -> Result<bool, Error> {
-        let Some(unit) = self.next_unit() else {
-            return Ok(false);
-        };
-        match h264::read_unit(alloc, unit, elements) {
-            Ok(_) => Ok(true),
-            Err(at) => Err(line_of(at)),
+        match self.next_unit(alloc, elements) {
+            Ok(unit) => Ok(unit.is_some()),
+            Err(refused) => Err(anyhow!("{refused}")),
         }
     }
 
