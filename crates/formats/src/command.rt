@@ -73,7 +73,7 @@ fn decode<W: Write, P: Write>(
     out: &mut W,
     progress: &mut Progress<P>,
 ) -> Result<(), Error> {
-    let mut decoder = Decoder::over(file).map_err(line_of)?;
+    let mut decoder = Decoder::with_md5(alloc, file).map_err(line_of)?;
     let mut bytes = Vec::new(alloc);
     for _ in 0..u64::MAX {
         let Some(frame) = decoder.next_frame(alloc).map_err(line_of)? else {
