@@ -4,3 +4,4 @@ pub mod Coded
 pub mod Emulation
 pub mod Leb128
 pub mod Rice
+pub mod ScalingLists

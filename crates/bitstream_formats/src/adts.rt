@@ -93,16 +93,27 @@ fn read_frame(
         start: 0,
     };
     note_header(&mut syntax, start, &header)?;
-    let mut bytes = 7;
     if !header.protection_absent {
-        syntax.number("crc_check", 16)?;
-        bytes = 9;
+        read_checksum(&mut syntax, header.blocks)?;
     }
-    let left = (header.frame_length as usize)
+    let bytes = syntax.reader.bits_read().saturating_sub(start) / 8;
+    let left = (header.frame_length as u64)
         .checked_sub(bytes)
         .ok_or(AdtsError::FrameTooShort)?;
-    let _frame = syntax.reader.take_bytes(left)?;
+    let _frame = syntax.reader.take_bytes(left as usize)?;
     Ok(header)
+}
+
+/// Reads the checksum of a header, after the places of all raw data blocks but the first one. There are
+/// `blocks` such blocks.
+fn read_checksum(syntax: &mut Syntax<'_, '_, '_, BE>, blocks: u8) -> Result<(), Error> {
+    for at in 0..blocks as u32 {
+        syntax.index = Some(at.saturating_add(1));
+        syntax.number("raw_data_block_position", 16)?;
+    }
+    syntax.index = None;
+    syntax.number("crc_check", 16)?;
+    Ok(())
 }
 
 /// Notes the elements of a header that begins at some bit.

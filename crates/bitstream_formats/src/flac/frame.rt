@@ -59,6 +59,23 @@ fn bytes_before<'a>(bytes: &'a [u8], rest: &[u8]) -> &'a [u8] {
         .unwrap_or(bytes)
 }
 
+/// Compares the header of a frame with STREAMINFO. A sample size or a sample rate of 0 is that of STREAMINFO.
+fn check_header(header: &FrameHeader, info: &StreamInfo) -> Result<(), FlacError> {
+    let channels = header.channels.count();
+    if channels != info.channels.get() {
+        return Err(FlacError::OtherChannels(channels, info.channels.get()));
+    }
+    let bits = header.bits_per_sample;
+    if bits != 0 && bits != info.bits_per_sample.get() {
+        return Err(FlacError::OtherSampleSize(bits, info.bits_per_sample.get()));
+    }
+    let rate = header.sample_rate;
+    if rate != 0 && rate != info.sample_rate {
+        return Err(FlacError::OtherSampleRate(rate, info.sample_rate));
+    }
+    Ok(())
+}
+
 /// Reads a frame of a file.
 pub(super) fn read_frame(
     reader: &mut SliceReader<'_, BE>,
@@ -72,10 +89,8 @@ pub(super) fn read_frame(
     if reader.read::<Bits<8>, u8>()? != checksum {
         return Err(FlacError::HeaderChecksum);
     }
-    let bits_per_sample = match header.bits_per_sample {
-        0 => info.bits_per_sample.get(),
-        bits => bits,
-    };
+    check_header(&header, info)?;
+    let bits_per_sample = info.bits_per_sample.get();
     let mut channels = read_channels(reader, alloc, &header, bits_per_sample)?;
     reader.byte_align();
     let checksum = crc16.of(bytes_before(bytes, reader.rest()));

@@ -171,7 +171,7 @@ impl<'a> FlacUnits<'a> {
             }
             Ok(None) => {
                 self.blocks = None;
-                match Decoder::over(self.file) {
+                match Decoder::with_md5(alloc, self.file) {
                     Ok(decoder) => {
                         self.decoder = Some(decoder);
                         self.read_frame(alloc, unit, out)
@@ -257,10 +257,10 @@ fn big(bytes: &[u8], at: usize, count: usize) -> u64 {
     number
 }
 
-/// Returns the number of four bytes, the lowest first, or 0 if they end early.
-fn little(bytes: &[u8], at: usize) -> usize {
+/// Returns the number of four bytes, the highest first, or 0 if they end early.
+fn length_at(bytes: &[u8], at: usize) -> usize {
     match bytes.get(at..).unwrap_or(&[]).first_chunk::<4>() {
-        Some(four) => u32::from_le_bytes(*four) as usize,
+        Some(four) => u32::from_be_bytes(*four) as usize,
         None => 0,
     }
 }
@@ -291,7 +291,11 @@ fn note_block(
         }
         2 => {
             unit.kind = "APPLICATION";
-            unit.push(place, "application_id", big(block.bytes, 0, 4) as i64)
+            unit.push(
+                place,
+                "application_id",
+                big(block.bytes, 0, 4).cast_signed(),
+            )
         }
         3 => {
             unit.kind = "SEEKTABLE";
@@ -357,33 +361,35 @@ fn note_seek_points(unit: &mut Unit, place: u64, bytes: &[u8]) -> Result<(), All
         unit.push(
             place.saturating_add(128),
             "frame_samples",
-            big(point, 16, 2) as i64,
+            big(point, 16, 2).cast_signed(),
         )?;
     }
     Ok(())
 }
 
+/// Splits bytes after a text with its length before it. Returns the text and the rest, or `None` if the bytes end early.
+fn split_text(bytes: &[u8]) -> Option<(&[u8], &[u8])> {
+    let (length, rest) = bytes.split_first_chunk::<4>()?;
+    rest.split_at_checked(u32::from_le_bytes(*length) as usize)
+}
+
 /// Notes the texts of a Vorbis comment.
 fn note_comments(alloc: Global, unit: &mut Unit, bytes: &[u8]) -> Result<(), AllocError> {
-    let length = little(bytes, 0);
-    let vendor = bytes.get(4..4 + length).unwrap_or(&[]);
+    let Some((vendor, rest)) = split_text(bytes) else {
+        return Ok(());
+    };
     unit.note_text("vendor", None, String::from_utf8_lossy(alloc, vendor)?)?;
-    let mut rest = bytes.get(8 + length..).unwrap_or(&[]);
-    for index in 0..little(bytes, 4 + length) {
-        if rest.len() < 4 {
-            break;
-        }
-        let length = little(rest, 0);
-        let Some(text) = rest.get(4..4 + length) else {
+    let mut rest = rest.get(4..).unwrap_or(&[]);
+    for index in 0..u32::MAX {
+        let Some((text, after)) = split_text(rest) else {
             break;
         };
-        let index = (index & 0xffff_ffff) as u32;
         unit.note_text(
             "comment",
             Some(index),
             String::from_utf8_lossy(alloc, text)?,
         )?;
-        rest = rest.get(4 + length..).unwrap_or(&[]);
+        rest = after;
     }
     Ok(())
 }
@@ -395,10 +401,10 @@ fn note_picture(
     place: u64,
     bytes: &[u8],
 ) -> Result<(), AllocError> {
-    unit.push(place, "picture_type", big(bytes, 0, 4) as i64)?;
-    let media = big(bytes, 4, 4) as usize;
+    unit.push(place, "picture_type", big(bytes, 0, 4).cast_signed())?;
+    let media = length_at(bytes, 4);
     let at = media.saturating_add(8);
-    let text = big(bytes, at, 4) as usize;
+    let text = length_at(bytes, at);
     let sizes = at.saturating_add(4).saturating_add(text);
     let media = bytes.get(8..at).unwrap_or(&[]);
     unit.note_text("media_type", None, String::from_utf8_lossy(alloc, media)?)?;
@@ -406,7 +412,7 @@ fn note_picture(
     for (number, name) in names.iter().enumerate() {
         let at = sizes.saturating_add(number.saturating_mul(4));
         let place = place.saturating_add((at as u64).saturating_mul(8));
-        unit.push(place, *name, big(bytes, at, 4) as i64)?;
+        unit.push(place, *name, big(bytes, at, 4).cast_signed())?;
     }
     Ok(())
 }

@@ -9,16 +9,17 @@ use std::io::Write;
 /// The NAL units of an H.264 stream.
 #[derive(Drop)]
 pub struct H264Units<'a> {
-    units: h264::Units<'a>,
-    length: usize,
+    // `None` if there is no start code.
+    stream: Option<h264::Stream<'a>>,
+    done: u64,
 }
 
 impl<'a> H264Units<'a> {
     /// Returns the units of a stream.
     pub fn over(file: &'a [u8]) -> H264Units<'a> {
         H264Units {
-            units: h264::Units::over(file),
-            length: file.len(),
+            stream: h264::Stream::over(file).ok(),
+            done: 0,
         }
     }
 }
@@ -30,19 +31,23 @@ impl ReadUnits for H264Units<'_> {
         unit: &mut Unit,
         _out: &mut W,
     ) -> Result<Step, Error> {
-        let byte = self.bytes_done();
-        let Some(bytes) = self.units.next_unit() else {
+        let Some(stream) = &mut self.stream else {
             return Ok(Step::End);
         };
-        unit.begin("NAL unit", byte);
-        let read = h264::read_unit(alloc, bytes, &mut unit.elements);
+        self.done = stream.place() as u64;
+        unit.begin("NAL_unit", self.done);
+        let read = stream.next_unit(alloc, &mut unit.elements);
         unit.kind = nal_unit(unit.value_of("nal_unit_type"));
         note_picture(alloc, unit)?;
-        Ok(Step::of(alloc, read, 0)?)
+        match read {
+            Ok(Some(_)) => Ok(Step::Read),
+            Ok(None) => Ok(Step::End),
+            Err(refused) => Ok(Step::Refused(Fault::of(alloc, refused.bit, refused.error)?)),
+        }
     }
 
     fn bytes_done(&self) -> u64 {
-        self.length.saturating_sub(self.units.rest().len()) as u64
+        self.done
     }
 }
 
