@@ -178,14 +178,14 @@ impl<'a> FlacUnits<'a> {
                     }
                     Err(at) => {
                         self.ended = true;
-                        let bit = at.bit.saturating_sub(8 * start as u64);
+                        let bit = at.bit.saturating_sub((start as u64).saturating_mul(8));
                         Ok(Step::Refused(Fault::of(alloc, bit, at.error)?))
                     }
                 }
             }
             Err(at) => {
                 self.ended = true;
-                let bit = at.bit.saturating_sub(8 * start as u64);
+                let bit = at.bit.saturating_sub((start as u64).saturating_mul(8));
                 Ok(Step::Refused(Fault::of(alloc, bit, at.error)?))
             }
         }
@@ -207,7 +207,7 @@ impl<'a> FlacUnits<'a> {
         self.at = self.file.len().saturating_sub(decoder.rest().len());
         match read {
             Ok(Some(frame)) => {
-                note_frame(alloc, unit, 8 * start as u64, &frame)?;
+                note_frame(alloc, unit, (start as u64).saturating_mul(8), &frame)?;
                 if self.writes {
                     let mut bytes = Vec::new(alloc);
                     frame.append_pcm(&mut bytes)?;
@@ -218,7 +218,7 @@ impl<'a> FlacUnits<'a> {
             Ok(None) => Ok(Step::End),
             Err(at) => {
                 self.ended = true;
-                let bit = at.bit.saturating_sub(8 * start as u64);
+                let bit = at.bit.saturating_sub((start as u64).saturating_mul(8));
                 Ok(Step::Refused(Fault::of(alloc, bit, at.error)?))
             }
         }
@@ -421,11 +421,11 @@ fn note_picture(
 fn note_frame(alloc: Global, unit: &mut Unit, place: u64, frame: &Frame) -> Result<(), AllocError> {
     let header = frame.header;
     let fields = [
-        (15, "blocking_strategy", header.variable as i64),
-        (16, "block_size", header.block_size as i64),
-        (20, "sample_rate", header.sample_rate as i64),
-        (24, "channels", header.channels.count() as i64),
-        (28, "bits_per_sample", header.bits_per_sample as i64),
+        (15, "blocking_strategy", i64::from(header.variable)),
+        (16, "block_size", i64::from(header.block_size)),
+        (20, "sample_rate", i64::from(header.sample_rate)),
+        (24, "channels", i64::from(header.channels.count())),
+        (28, "bits_per_sample", i64::from(header.bits_per_sample)),
         (32, "coded_number", header.number.cast_signed()),
     ];
     for (at, name, value) in fields {

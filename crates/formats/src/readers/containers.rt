@@ -162,7 +162,7 @@ impl<'a> TsUnits<'a> {
 
     /// Returns the place of the next packet from a place on: one with another packet after it, or the end.
     fn find_packet(&self, from: usize) -> usize {
-        let size = ts::PACKET + self.stamp;
+        let size = ts::PACKET.saturating_add(self.stamp);
         for at in from..self.file.len() {
             let first = at.saturating_add(self.stamp);
             let next = first.saturating_add(size);
@@ -202,12 +202,12 @@ impl ReadUnits for TsUnits<'_> {
         {
             let stamp = u32::from_be_bytes([*a, *b, *c, *d]);
             unit.push(
-                8 * start as u64,
+                (start as u64).saturating_mul(8),
                 "copy_permission_indicator",
                 (stamp >> 30) as i64,
             )?;
             unit.push(
-                (8 * start as u64).saturating_add(2),
+                (start as u64).saturating_mul(8).saturating_add(2),
                 "arrival_time_stamp",
                 (stamp & 0x3fff_ffff) as i64,
             )?;

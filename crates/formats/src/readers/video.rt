@@ -217,7 +217,11 @@ impl<'a> Av1Units<'a> {
             ("frame_count", 24, 4),
         ];
         for (name, at, count) in fields {
-            unit.push(8 * at as u64, name, little(bytes, at, count))?;
+            unit.push(
+                (at as u64).saturating_mul(8),
+                name,
+                little(bytes, at, count),
+            )?;
         }
         let codec = bytes.get(8..12).unwrap_or(&[]);
         unit.note_text("codec", None, String::from_utf8_lossy(alloc, codec)?)?;
@@ -234,7 +238,7 @@ impl<'a> Av1Units<'a> {
     fn read_frame(&mut self, alloc: Global, unit: &mut Unit) -> Result<Step, Error> {
         let start = self.at;
         unit.begin("IVF_frame", start as u64);
-        let place = 8 * start as u64;
+        let place = (start as u64).saturating_mul(8);
         let bytes = self.file.get(start..).unwrap_or(&[]);
         let size = little(bytes, 0, 4);
         unit.push(place, "frame_size", size)?;
@@ -264,7 +268,7 @@ impl<'a> Av1Units<'a> {
         unit.kind = obu(unit.value_of("obu_type"));
         unit.move_places(self.at as u64);
         note_sequence(alloc, unit)?;
-        let step = Step::of(alloc, read, 8 * inside as u64)?;
+        let step = Step::of(alloc, read, (inside as u64).saturating_mul(8))?;
         let taken = before.saturating_sub(self.obus.rest().len());
         if matches!(&step, Step::Refused(_)) && !is_whole(unit, taken) {
             self.end_frame();
@@ -285,7 +289,7 @@ impl<'a> Av1Units<'a> {
 /// Returns true if an OBU of which so many bytes were taken was taken whole.
 fn is_whole(unit: &Unit, taken: usize) -> bool {
     match unit.value_of("obu_size") {
-        Some(size) => taken as i64 >= size.saturating_add(2),
+        Some(size) => i64::try_from(taken).unwrap_or(i64::MAX) >= size.saturating_add(2),
         None => false,
     }
 }
