@@ -1,4 +1,6 @@
 //! ADTS, the frames of AAC in a stream (ISO/IEC 14496-3, section 1.A).
+ghost use Rattle.std.specs.Prelude.{◌≡◌, IfOk, IfSome};
+ghost use Rattle.bitstream_formats.specs.AdtsFrame.{HasHeader, header_bytes};
 
 use crate::adts_header::{AdtsHeader, AdtsHeaderError};
 use crate::at::At;
@@ -57,15 +59,19 @@ impl<'a> Frames<'a> {
         self.reader.rest()
     }
 
-    /// Reads a frame, and appends the elements of its header. Answers its header, or `None` at the end.
+    /// Reads a frame, and appends the elements of its header, with a checksum also the places of its raw data
+    /// blocks. Returns its header, or `None` at the end.
     ///
     /// # Errors
     ///
-    /// Those of [`AdtsError`]. The elements that were read before are appended.
+    /// Those of [`AdtsError`]: `FrameTooShort` for a frame that is shorter than its header, with the checksum and
+    /// what comes before it. The elements that were read before are appended.
     pub fn next_frame(
         &mut self,
         elements: &mut Vec<Element>,
-    ) -> Result<Option<AdtsHeader>, At<AdtsError>> {
+    ) -> Result<Option<AdtsHeader>, At<AdtsError>>
+        ensures { IfOk result (λ header. IfSome header HasHeader) }
+    {
         if self.reader.is_at_end() {
             return Ok(None);
         }
@@ -83,7 +89,9 @@ impl<'a> Frames<'a> {
 fn read_frame(
     reader: &mut SliceReader<'_, BE>,
     elements: &mut Vec<Element>,
-) -> Result<AdtsHeader, AdtsError> {
+) -> Result<AdtsHeader, AdtsError>
+    ensures { IfOk result HasHeader }
+{
     let start = reader.bits_read();
     let header = AdtsHeader::read(reader)?;
     let mut syntax = Syntax {
@@ -96,12 +104,24 @@ fn read_frame(
     if !header.protection_absent {
         read_checksum(&mut syntax, header.blocks)?;
     }
-    let bytes = syntax.reader.bits_read().saturating_sub(start) / 8;
-    let left = (header.frame_length as u64)
-        .checked_sub(bytes)
-        .ok_or(AdtsError::FrameTooShort)?;
-    let _frame = syntax.reader.take_bytes(left as usize)?;
+    let length = header.frame_length as usize;
+    let before = header_bytes(&header);
+    if length < before {
+        return Err(AdtsError::FrameTooShort);
+    }
+    let _blocks = syntax.reader.take_bytes(length - before)?;
     Ok(header)
+}
+
+/// Returns the bytes of a frame before its first raw data block.
+fn header_bytes(header: &AdtsHeader) -> usize
+    ensures { result ≡ header_bytes header.now }
+{
+    if header.protection_absent {
+        7
+    } else {
+        9 + 2 * header.blocks as usize
+    }
 }
 
 /// Reads the checksum of a header, after the places of all raw data blocks but the first one. There are

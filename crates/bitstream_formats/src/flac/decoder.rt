@@ -1,5 +1,8 @@
 //! The decoder of a file.
 
+ghost use Rattle.std.specs.Prelude.{◌≡◌, IfOk, IfSome};
+ghost use Rattle.bitstream_formats.specs.Frames.{IsOfFile};
+
 use super::crc::Crc16;
 use super::error::FlacError;
 use super::frame::{Frame, read_frame};
@@ -9,6 +12,7 @@ use crate::at::At;
 use crate::stream_info::StreamInfo;
 use bitstream_io::{BE, SliceReader};
 use std::alloc::Global;
+use std::marker::Model;
 
 /// A file that is decoded frame by frame.
 ///
@@ -23,6 +27,15 @@ pub struct Decoder<'a> {
     done: u64,
     // The MD5 of them, if it is compared.
     sum: Option<SampleSum>,
+}
+
+// What contracts see of a decoder is the STREAMINFO of its file.
+impl<'a> Model for Decoder<'a> {
+    ghost use Rattle.bitstream_formats.specs.declared.stream_info.StreamInfo.{StreamInfo};
+
+    ghost Value = { StreamInfo };
+
+    ghost view = { λ decoder. decoder.info };
 }
 
 /// Reads STREAMINFO, which the metadata of a file begins with.
@@ -81,7 +94,9 @@ impl<'a> Decoder<'a> {
     }
 
     /// Returns the STREAMINFO of the file.
-    pub fn stream_info(&self) -> &StreamInfo {
+    pub fn stream_info(&self) -> &StreamInfo
+        ensures { result.now ≡ self.now }
+    {
         &self.info
     }
 
@@ -97,7 +112,10 @@ impl<'a> Decoder<'a> {
     /// Those of [`FlacError`]. `OtherChannels`, `OtherSampleSize` and `OtherSampleRate` for a frame that differs
     /// from STREAMINFO, after its header. `SampleCount` and then `WrongMd5` at the end of the file: the number
     /// of samples is refused at each call, the MD5 once. After another error no later frame is found.
-    pub fn next_frame(&mut self, alloc: Global) -> Result<Option<Frame>, At<FlacError>> {
+    pub fn next_frame(&mut self, alloc: Global) -> Result<Option<Frame>, At<FlacError>>
+        ensures of_file { IfOk result (λ frame. IfSome frame (IsOfFile self.old)) }
+        ensures same { self.new ≡ self.old }
+    {
         let read = if self.reader.is_at_end() {
             self.finish()
         } else {
@@ -113,7 +131,10 @@ impl<'a> Decoder<'a> {
     }
 
     /// Decodes a frame.
-    fn read_next(&mut self, alloc: Global) -> Result<Option<Frame>, FlacError> {
+    fn read_next(&mut self, alloc: Global) -> Result<Option<Frame>, FlacError>
+        ensures of_file { IfOk result (λ frame. IfSome frame (IsOfFile self.old)) }
+        ensures same { self.new ≡ self.old }
+    {
         let frame = read_frame(&mut self.reader, alloc, &self.info, &self.crc16)?;
         self.done = self.done.saturating_add(frame.header.block_size as u64);
         if let Some(sum) = &mut self.sum {
@@ -123,7 +144,10 @@ impl<'a> Decoder<'a> {
     }
 
     /// Compares what was decoded with STREAMINFO, and returns no frame.
-    fn finish(&mut self) -> Result<Option<Frame>, FlacError> {
+    fn finish(&mut self) -> Result<Option<Frame>, FlacError>
+        ensures of_file { IfOk result (λ frame. IfSome frame (IsOfFile self.old)) }
+        ensures same { self.new ≡ self.old }
+    {
         let total = self.info.total_samples;
         if total != 0 && total != self.done {
             return Err(FlacError::SampleCount);

@@ -1,5 +1,7 @@
 //! Frames (section 9).
-ghost use Rattle.std.specs.Prelude.{◌≤◌};
+ghost use Rattle.std.specs.Prelude.{◌≡◌, ◌≤◌, IfOk, IsOk, length};
+ghost use Rattle.std.specs.Int.NonZero.{non_zero_u8_get};
+ghost use Rattle.bitstream_formats.specs.Frames.{IsOfFile, channel_count};
 
 use super::crc::{Crc16, crc8};
 use super::error::FlacError;
@@ -60,7 +62,9 @@ fn bytes_before<'a>(bytes: &'a [u8], rest: &[u8]) -> &'a [u8] {
 }
 
 /// Compares the header of a frame with STREAMINFO. A sample size or a sample rate of 0 is that of STREAMINFO.
-fn check_header(header: &FrameHeader, info: &StreamInfo) -> Result<(), FlacError> {
+fn check_header(header: &FrameHeader, info: &StreamInfo) -> Result<(), FlacError>
+    ensures { IsOk result → channel_count header.now.channels ≡ non_zero_u8_get info.now.channels }
+{
     let channels = header.channels.count();
     if channels != info.channels.get() {
         return Err(FlacError::OtherChannels(channels, info.channels.get()));
@@ -82,7 +86,9 @@ pub(super) fn read_frame(
     alloc: Global,
     info: &StreamInfo,
     crc16: &Crc16,
-) -> Result<Frame, FlacError> {
+) -> Result<Frame, FlacError>
+    ensures { IfOk result (IsOfFile info.now) }
+{
     let bytes = reader.rest();
     let header = read_header(reader)?;
     let checksum = crc8(bytes_before(bytes, reader.rest()));
@@ -113,7 +119,9 @@ fn read_channels(
     alloc: Global,
     header: &FrameHeader,
     bits_per_sample: u8,
-) -> Result<Vec<Vec<i64>>, FlacError> {
+) -> Result<Vec<Vec<i64>>, FlacError>
+    ensures { IfOk result (λ channels. length channels.items ≡ channel_count header.now.channels) }
+{
     let mut channels = Vec::new(alloc);
     for channel in 0..header.channels.count() {
         let bits = bits_per_sample as u32 + header.channels.is_side(channel) as u32;
