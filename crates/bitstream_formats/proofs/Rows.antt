@@ -1,15 +1,15 @@
 -- Worked rows: bytes of documents and of files, against the definitions.
 use Rattle.std.proofs.Common.{◌≡◌, ℕ, List, [], ◌∷◌, drop, pos, negsuc, refl}
-use Rattle.std.specs.Prelude.{Ok, Err}
+use Rattle.std.specs.Prelude.{Ok, Err, ◌++◌}
 use Rattle.bitstream_io.specs.Callers.{High, bits}
 use Rattle.bitstream_io.specs.Entry.{Takes, chain}
-use Rattle.bitstream_io.specs.ReadTable.{const_entry, groups_entry, unary_entry, unsigned_entry}
-use Rattle.bitstream_io.specs.Vbr.{groups_at}
+use Rattle.bitstream_io.specs.ReadTable.{const_entry, unary_entry, unsigned_entry}
 use Rattle.bitstream_io.specs.Word.{digits, digits_number}
 use Rattle.bitstream_formats.specs.Coded.{coded_entry}
 use Rattle.bitstream_formats.specs.Emulation.{without_emulation}
 use Rattle.bitstream_formats.specs.Leb128.{leb128_entry}
 use Rattle.bitstream_formats.specs.Rice.{rice_entry}
+use Rattle.bitstream_formats.specs.declared.av1.Av1Error.TheVariants.{TooLarge}
 use Rattle.bitstream_formats.specs.declared.flac.error.FlacError.TheVariants.{NotCoded, LongCoded}
 
 -- two bytes of the first residual of a file, with the parameter 1: `flac -a` tells -1, -2 and, behind another -1, 2
@@ -36,12 +36,16 @@ coded_numbers :
 unfolding chain const_entry unary_entry unsigned_entry digits digits_number
 coded_numbers = (refl, refl, refl, refl, refl, refl, refl)
 
--- an example of DWARF, which has these numbers too; and 2 with a group of zeros behind it
+-- an example of DWARF, which has these numbers too; 2 with a byte of zeros after it; 1 in eight bytes; and nine bytes,
+-- of which eight are taken
 leb128_numbers :
+    let more : List ℕ = 0x80 ∷ 0x80 ∷ 0x80 ∷ 0x80 ∷ 0x80 ∷ 0x80 ∷ [] in
     ((leb128_entry High).reads 0 (bits High (0xb9 ∷ 0x64 ∷ [])) ≡ Takes 16 (Ok (Ok 12857)))
     × ((leb128_entry High).reads 0 (bits High (0x82 ∷ 0x00 ∷ [])) ≡ Takes 16 (Ok (Ok 2)))
-unfolding chain groups_entry groups_at digits digits_number
-leb128_numbers = (refl, refl)
+    × ((leb128_entry High).reads 0 (bits High (0x81 ∷ more ++ 0x00 ∷ [])) ≡ Takes 64 (Ok (Ok 1)))
+    × ((leb128_entry High).reads 0 (bits High (0x81 ∷ more ++ 0x80 ∷ 0x00 ∷ [])) ≡ Takes 64 (Ok (Err TooLarge)))
+unfolding chain unsigned_entry digits digits_number
+leb128_numbers = (refl, refl, refl, refl)
 
 -- a parameter set that x264 wrote, and its bytes as ffmpeg reads them
 parameter_set : without_emulation 0 (0x67 ∷ 0x42 ∷ 0xc0 ∷ 0x0a ∷ 0xd9 ∷ 0x04 ∷ 0x7b ∷ 0x01 ∷ 0x10 ∷ 0x00 ∷ 0x00 ∷ 0x03

@@ -1,4 +1,6 @@
 //! ADTS, the frames of AAC in a stream (ISO/IEC 14496-3, section 1.A).
+ghost use Rattle.std.specs.Prelude.{◌≡◌, IfOk, IfSome};
+ghost use Rattle.bitstream_formats.specs.AdtsFrame.{HasHeader, header_bytes};
 
 use crate::adts_header::{AdtsHeader, AdtsHeaderError};
 use crate::at::At;
@@ -41,15 +43,19 @@ impl<'a> Frames<'a> {
         self.reader.rest()
     }
 
-    /// Reads a frame, and appends the elements of its header. Answers its header, or `None` at the end.
+    /// Reads a frame, and appends the elements of its header, with a checksum also the places of its raw data
+    /// blocks. Returns its header, or `None` at the end.
     ///
     /// # Errors
     ///
-    /// Those of [`AdtsError`]. The elements that were read before are appended.
+    /// Those of [`AdtsError`]: `FrameTooShort` for a frame that is shorter than its header, with the checksum and
+    /// what comes before it. The elements that were read before are appended.
     pub fn next_frame(
         &mut self,
         elements: &mut Vec<Element>,
-    ) -> Result<Option<AdtsHeader>, At<AdtsError>> {
+    ) -> Result<Option<AdtsHeader>, At<AdtsError>>
+        ensures { IfOk result (λ header. IfSome header HasHeader) }
+    {
         if self.reader.is_at_end() {
             return Ok(None);
         }
@@ -67,7 +73,9 @@ impl<'a> Frames<'a> {
 fn read_frame(
     reader: &mut SliceReader<'_, BE>,
     elements: &mut Vec<Element>,
-) -> Result<AdtsHeader, AdtsError> {
+) -> Result<AdtsHeader, AdtsError>
+    ensures { IfOk result HasHeader }
+{
     let start = reader.bits_read();
     let header = AdtsHeader::read(reader)?;
     let mut syntax = Syntax {
@@ -77,16 +85,39 @@ fn read_frame(
         start: 0,
     };
     note_header(&mut syntax, start, &header)?;
-    let mut bytes = 7;
     if !header.protection_absent {
-        syntax.number("crc_check", 16)?;
-        bytes = 9;
+        read_checksum(&mut syntax, header.blocks)?;
     }
-    let left = (header.frame_length as usize)
-        .checked_sub(bytes)
-        .ok_or(AdtsError::FrameTooShort)?;
-    let _frame = syntax.reader.take_bytes(left)?;
+    let length = header.frame_length as usize;
+    let before = header_bytes(&header);
+    if length < before {
+        return Err(AdtsError::FrameTooShort);
+    }
+    let _blocks = syntax.reader.take_bytes(length - before)?;
     Ok(header)
+}
+
+/// Returns the bytes of a frame before its first raw data block.
+fn header_bytes(header: &AdtsHeader) -> usize
+    ensures { result ≡ header_bytes header.now }
+{
+    if header.protection_absent {
+        7
+    } else {
+        9 + 2 * header.blocks as usize
+    }
+}
+
+/// Reads the checksum of a header, after the places of all raw data blocks but the first one. There are
+/// `blocks` such blocks.
+fn read_checksum(syntax: &mut Syntax<'_, '_, '_, BE>, blocks: u8) -> Result<(), Error> {
+    for at in 0..blocks as u32 {
+        syntax.index = Some(at.saturating_add(1));
+        syntax.number("raw_data_block_position", 16)?;
+    }
+    syntax.index = None;
+    syntax.number("crc_check", 16)?;
+    Ok(())
 }
 
 /// Notes the elements of a header that begins at some bit.

@@ -26,6 +26,12 @@ pub enum Av1Error {
     /// The size is 2^32 or more, or has more than eight bytes.
     #[error("the size of an OBU is too large")]
     TooLarge,
+    /// The bit `trailing_one_bit`, which ends a sequence header, is 0.
+    #[error("trailing_one_bit is not 1")]
+    NoTrailingOne,
+    /// A bit after `trailing_one_bit` is 1.
+    #[error("a bit after trailing_one_bit is 1")]
+    BitAfterTrailingOne,
 }
 
 impl From<Error> for Av1Error {
@@ -65,7 +71,8 @@ impl<'a> Obus<'a> {
     ///
     /// # Errors
     ///
-    /// Those of [`Av1Error`]. The elements that were read before are appended.
+    /// Those of [`Av1Error`]. The elements that were read before are appended. After an error in a sequence
+    /// header the next call reads the next OBU. After an error in the header of an OBU no later one is found.
     pub fn next_obu(&mut self, elements: &mut Vec<Element>) -> Result<bool, At<Av1Error>> {
         if self.reader.is_at_end() {
             return Ok(false);
@@ -100,14 +107,34 @@ impl<'a> Obus<'a> {
             index: None,
             start,
         };
-        match read_sequence(&mut syntax) {
+        match read_whole_sequence(&mut syntax) {
             Ok(()) => Ok(true),
             Err(error) => Err(At {
                 bit: start.saturating_add(part.bits_read()),
-                error: Av1Error::Reader(error),
+                error,
             }),
         }
     }
+}
+
+/// Reads a sequence header, and checks the bits after it: a 1, and zeros up to the end of the OBU.
+fn read_whole_sequence(syntax: &mut Obu<'_, '_, '_>) -> Result<(), Av1Error> {
+    read_sequence(syntax)?;
+    if !syntax.flag("trailing_one_bit")? {
+        return Err(Av1Error::NoTrailingOne);
+    }
+    for _ in 0..7 {
+        if syntax.reader.byte_aligned() {
+            break;
+        }
+        if syntax.reader.read_bit()? {
+            return Err(Av1Error::BitAfterTrailingOne);
+        }
+    }
+    if syntax.reader.rest().iter().any(|byte| *byte != 0) {
+        return Err(Av1Error::BitAfterTrailingOne);
+    }
+    Ok(())
 }
 
 /// Reads the header of an OBU: its type, and the bytes behind it.

@@ -11,6 +11,7 @@ mod predict;
 mod residual;
 mod rice;
 mod subframe;
+mod sum;
 
 pub use coded::{coded_numbers_go_back, read_coded};
 pub use crc::{Crc16, crc8};

@@ -1,5 +1,7 @@
-//! H.264 (ITU-T H.264, ISO/IEC 14496-10): the units of a byte stream, and the elements of the sequence and
-//! picture parameter sets among them.
+//! H.264 (ITU-T H.264, ISO/IEC 14496-10): the units of a byte stream, and the elements of its sequence and
+//! picture parameter sets. [`Stream`] reads a whole stream, and goes on after a unit that it refuses.
+
+ghost use Rattle.std.specs.Prelude.{◌≡◌, IsErr};
 
 use crate::at::At;
 use crate::element::{Element, Syntax};
@@ -10,21 +12,51 @@ mod emulation;
 mod golomb;
 mod pps;
 mod scaling;
+mod sets;
 mod sps;
+mod stream;
+mod trailing;
 mod units;
 mod vui;
 
 pub use emulation::{emulation_goes_back, remove_emulation};
 use pps::read_pps;
+pub use sets::{ParameterSets, PictureSet, SequenceSet};
 use sps::read_sps;
+pub use stream::{RefusedUnit, Stream};
+use trailing::{check_end, last_one, read_trailing_bits};
 pub use units::Units;
 
-/// Why a parameter set is not read.
+/// The reason why a unit is refused.
 #[derive(Debug, Drop, thiserror::Error)]
 pub enum H264Error {
-    /// The bits were not read.
+    /// The bits were not read, or memory was refused.
     #[error("{0}")]
     Reader(Error),
+    /// The stream has no start code.
+    #[error("no start code of H.264")]
+    NoStartCode,
+    /// The unit has no byte.
+    #[error("an empty unit")]
+    EmptyUnit,
+    /// The first bit of the unit is not 0.
+    #[error("the forbidden bit is set")]
+    Forbidden,
+    /// The number of a sequence parameter set is above 31.
+    #[error("the number of a sequence parameter set is {0}, and the greatest is 31")]
+    SequenceNumber(u32),
+    /// The number of a picture parameter set is above 255.
+    #[error("the number of a picture parameter set is {0}, and the greatest is 255")]
+    PictureNumber(u32),
+    /// A picture parameter set names a sequence parameter set that was not read.
+    #[error("sequence parameter set {0} is missing")]
+    MissingSequence(u32),
+    /// The bit `rbsp_stop_one_bit`, which ends what a unit holds, is 0 or missing.
+    #[error("rbsp_stop_one_bit is not 1")]
+    NoStopBit,
+    /// A bit after `rbsp_stop_one_bit` is 1.
+    #[error("a bit after rbsp_stop_one_bit is 1")]
+    BitAfterStop,
     /// A buffer has more than 32 schedules.
     #[error("more than 32 schedules of a buffer")]
     TooManySchedules,
@@ -53,17 +85,26 @@ pub enum Unit {
     Other,
 }
 
-/// Reads a unit without its start code, and appends the elements of a parameter set. Their places are
-/// counted in the unit without its bytes against emulation, as the standard counts them.
+/// Reads a unit without its start code, and appends the elements of its header and of a parameter set. Their
+/// places are counted in bits of the unit without its bytes against emulation, as the standard counts them.
+///
+/// A parameter set that was read whole is kept in `sets`, in place of the one of its number. A picture
+/// parameter set is read by the sequence parameter set of `sets` that it names.
+///
+/// The end of a unit is checked: the stop bit is 1 and the bits after it are 0. What the other units hold is
+/// not read, so their last 1 counts as the stop bit. It must come after the header.
 ///
 /// # Errors
 ///
-/// Those of [`H264Error`]. The elements that were read before are appended.
+/// Those of [`H264Error`]: `sets` are unchanged, and the elements that were read before are appended.
 pub fn read_unit(
     alloc: Global,
+    sets: &mut ParameterSets,
     unit: &[u8],
     elements: &mut Vec<Element>,
-) -> Result<Unit, At<H264Error>> {
+) -> Result<Unit, At<H264Error>>
+    ensures { IsErr result → sets.new ≡ sets.old }
+{
     let payload = match remove_emulation(alloc, unit) {
         Ok(payload) => payload,
         Err(_) => return Err(At {
@@ -79,7 +120,7 @@ pub fn read_unit(
         index: None,
         start: 0,
     };
-    match read_set(&mut syntax, last_one(bytes)) {
+    match read_set(&mut syntax, sets, last_one(bytes)) {
         Ok(unit) => Ok(unit),
         Err(error) => Err(At {
             bit: reader.bits_read(),
@@ -88,45 +129,37 @@ pub fn read_unit(
     }
 }
 
-/// Reads the header of a unit, and a parameter set behind it, whose last 1 stands at `stop`.
-fn read_set(syntax: &mut Syntax<'_, '_, '_, BE>, stop: u64) -> Result<Unit, H264Error> {
-    syntax.number("forbidden_zero_bit", 1)?;
+/// Reads the header of a unit, and a parameter set after it. The last 1 of the unit is at `last`.
+fn read_set(
+    syntax: &mut Syntax<'_, '_, '_, BE>,
+    sets: &mut ParameterSets,
+    last: u64,
+) -> Result<Unit, H264Error>
+    ensures { IsErr result → sets.new ≡ sets.old }
+{
+    if syntax.reader.is_at_end() {
+        return Err(H264Error::EmptyUnit);
+    }
+    if syntax.flag("forbidden_zero_bit")? {
+        return Err(H264Error::Forbidden);
+    }
     syntax.number("nal_ref_idc", 2)?;
     match syntax.number("nal_unit_type", 5)? {
         7 => {
-            read_sps(syntax)?;
-            read_trailing_bits(syntax)?;
+            let (number, set) = read_sps(syntax)?;
+            read_trailing_bits(syntax, last)?;
+            sets.keep_sequence(number, set);
             Ok(Unit::Sequence)
         }
         8 => {
-            read_pps(syntax, stop)?;
-            read_trailing_bits(syntax)?;
+            let (number, set) = read_pps(syntax, sets, last)?;
+            read_trailing_bits(syntax, last)?;
+            sets.keep_picture(number, set);
             Ok(Unit::Picture)
         }
-        _ => Ok(Unit::Other),
-    }
-}
-
-/// Reads the bits behind a parameter set, up to the next whole byte.
-fn read_trailing_bits(syntax: &mut Syntax<'_, '_, '_, BE>) -> Result<(), Error> {
-    syntax.flag("rbsp_stop_one_bit")?;
-    for _ in 0..7 {
-        if syntax.reader.byte_aligned() {
-            break;
-        }
-        syntax.flag("rbsp_alignment_zero_bit")?;
-    }
-    Ok(())
-}
-
-/// Returns the place of the last 1 of some bytes, or 0 if there is none.
-fn last_one(bytes: &[u8]) -> u64 {
-    let mut stop = 0u64;
-    for (at, byte) in bytes.iter().enumerate() {
-        if *byte != 0 {
-            let low = 7u64.saturating_sub(byte.trailing_zeros() as u64);
-            stop = (at as u64).saturating_mul(8).saturating_add(low);
+        kind => {
+            check_end(syntax, kind, last)?;
+            Ok(Unit::Other)
         }
     }
-    stop
 }

@@ -1,11 +1,17 @@
 //! What the program does with a file.
 
-use crate::headers::{Headers, line_of};
-use crate::progress::Progress;
-use anyhow::{Error, anyhow};
-use bitstream_formats::flac::Decoder;
-use bitstream_formats::{adts, av1, deflate, h264, ogg, ts};
+use crate::options::Style;
+use crate::print::Printer;
+use crate::readers::audio::{AdtsUnits, FlacUnits};
+use crate::readers::compressed::GzipUnits;
+use crate::readers::containers::{OggUnits, TsUnits};
+use crate::readers::video::{Av1Units, H264Units};
+use crate::report::Report;
+use crate::status::Status;
+use crate::unit::{ReadUnits, Step, Unit};
+use anyhow::Error;
 use std::alloc::Global;
+use std::io;
 use std::io::Write;
 
 /// A command over a file.
@@ -13,33 +19,44 @@ use std::io::Write;
 pub enum Command {
     /// Writes the samples of a FLAC file.
     Flac,
+    /// Prints the metadata and the headers of the frames of a FLAC file.
+    FlacHeaders,
     /// Writes the bytes of a gzip file.
     Gunzip,
+    /// Prints the elements of the members of a gzip file.
+    GzipHeaders,
     /// Prints the elements of the units of H.264.
     H264,
-    /// Prints those of the OBUs of AV1.
+    /// Prints the elements of the OBUs of AV1.
     Av1,
-    /// Prints those of the frames of AAC.
+    /// Prints the elements of the frames of AAC.
     Adts,
-    /// Prints those of the pages of Ogg.
+    /// Prints the elements of the pages of Ogg.
     Ogg,
-    /// Prints those of the packets of an MPEG transport stream.
+    /// Prints the elements of the packets of an MPEG transport stream.
     Ts,
 }
 
 impl Command {
     /// Returns the command that a word names.
-    pub fn of(word: &str) -> Result<Command, Error> {
+    pub fn of(word: &str) -> Option<Command> {
         match word {
-            "flac" => Ok(Command::Flac),
-            "gunzip" => Ok(Command::Gunzip),
-            "h264" => Ok(Command::H264),
-            "av1" => Ok(Command::Av1),
-            "adts" => Ok(Command::Adts),
-            "ogg" => Ok(Command::Ogg),
-            "ts" => Ok(Command::Ts),
-            _ => Err(anyhow!("no command {word}")),
+            "flac" => Some(Command::Flac),
+            "flac-headers" => Some(Command::FlacHeaders),
+            "gunzip" => Some(Command::Gunzip),
+            "gzip-headers" => Some(Command::GzipHeaders),
+            "h264" => Some(Command::H264),
+            "av1" => Some(Command::Av1),
+            "adts" => Some(Command::Adts),
+            "ogg" => Some(Command::Ogg),
+            "ts" => Some(Command::Ts),
+            _ => None,
         }
+    }
+
+    /// Returns true if the command writes what a file holds, and prints no elements.
+    pub fn decodes(self) -> bool {
+        matches!(self, Command::Flac | Command::Gunzip)
     }
 }
 
@@ -47,64 +64,143 @@ impl Command {
 pub fn play<W: Write, P: Write>(
     alloc: Global,
     command: Command,
+    name: &str,
     file: &[u8],
+    printer: &mut Printer,
     out: &mut W,
-    progress: &mut Progress<P>,
-) -> Result<(), Error> {
+    report: &mut Report<P>,
+) -> Result<Status, Error> {
     match command {
-        Command::Flac => decode(alloc, file, out, progress),
+        Command::Flac => {
+            let mut units = FlacUnits::over(file, true);
+            decode(alloc, name, &mut units, out, report)
+        }
         Command::Gunzip => {
-            let bytes = deflate::unpack(alloc, file).map_err(line_of)?;
-            out.write_all(bytes.as_slice())?;
-            Ok(())
+            let mut units = GzipUnits::over(alloc, file)?;
+            decode(alloc, name, &mut units, out, report)
         }
-        Command::H264 => print_headers(alloc, &mut h264::Units::over(file), out, progress),
-        Command::Av1 => print_headers(alloc, &mut av1::Obus::over(file), out, progress),
-        Command::Adts => print_headers(alloc, &mut adts::Frames::over(file), out, progress),
-        Command::Ogg => print_headers(alloc, &mut ogg::Pages::over(file), out, progress),
-        Command::Ts => print_headers(alloc, &mut ts::Packets::over(file), out, progress),
+        Command::GzipHeaders => {
+            let mut units = GzipUnits::over(alloc, file)?;
+            show(alloc, name, &mut units, printer, out, report)
+        }
+        Command::FlacHeaders => {
+            let mut units = FlacUnits::over(file, false);
+            show(alloc, name, &mut units, printer, out, report)
+        }
+        Command::H264 => {
+            let mut units = H264Units::over(file);
+            show(alloc, name, &mut units, printer, out, report)
+        }
+        Command::Av1 => {
+            let mut units = Av1Units::over(file);
+            show(alloc, name, &mut units, printer, out, report)
+        }
+        Command::Adts => {
+            let mut units = AdtsUnits::over(file);
+            show(alloc, name, &mut units, printer, out, report)
+        }
+        Command::Ogg => {
+            let mut units = OggUnits::over(alloc, file);
+            show(alloc, name, &mut units, printer, out, report)
+        }
+        Command::Ts => {
+            let mut units = TsUnits::over(file);
+            show(alloc, name, &mut units, printer, out, report)
+        }
     }
 }
 
-/// Writes the samples of a FLAC file.
-fn decode<W: Write, P: Write>(
-    alloc: Global,
-    file: &[u8],
-    out: &mut W,
-    progress: &mut Progress<P>,
-) -> Result<(), Error> {
-    let mut decoder = Decoder::over(file).map_err(line_of)?;
-    let mut bytes = Vec::new(alloc);
-    for _ in 0..u64::MAX {
-        let Some(frame) = decoder.next_frame(alloc).map_err(line_of)? else {
-            break;
-        };
-        bytes.clear();
-        frame.append_pcm(&mut bytes)?;
-        out.write_all(bytes.as_slice())?;
-        progress.left(decoder.rest().len());
-    }
-    Ok(())
+/// What came of the units of a file.
+#[derive(Clone, Copy, Debug)]
+struct Tally {
+    status: Status,
+    // How many were read or refused.
+    count: u64,
 }
 
-/// Prints the elements of headers, also those that stand before an error.
-fn print_headers<H: Headers, W: Write, P: Write>(
-    alloc: Global,
-    headers: &mut H,
-    out: &mut W,
-    progress: &mut Progress<P>,
-) -> Result<(), Error> {
-    let mut elements = Vec::new(alloc);
-    for _ in 0..u64::MAX {
-        elements.clear();
-        let read = headers.read_next(alloc, &mut elements);
-        for element in elements.as_slice() {
-            writeln!(out, "{element}")?;
+impl Tally {
+    /// Returns what came of a file, which is refused if it has no unit.
+    fn end<P: Write>(self, name: &str, report: &mut Report<P>) -> Status {
+        if self.count > 0 {
+            return self.status;
         }
-        if !read? {
-            break;
-        }
-        progress.left(headers.left());
+        report.say(name, "nothing of this format");
+        Status::Refused
     }
-    Ok(())
+
+    /// Adds a unit.
+    fn add(&mut self, status: Status) {
+        self.status = self.status.max(status);
+        self.count = self.count.saturating_add(1);
+    }
+}
+
+/// Prints the units of a file, and reports those that are refused.
+pub fn show<U: ReadUnits, W: Write, P: Write>(
+    alloc: Global,
+    name: &str,
+    units: &mut U,
+    printer: &mut Printer,
+    out: &mut W,
+    report: &mut Report<P>,
+) -> Result<Status, Error> {
+    let mut unit = Unit::new(alloc);
+    let mut none = io::sink();
+    let mut tally = Tally {
+        status: Status::Read,
+        count: 0,
+    };
+    for number in 0..u64::MAX {
+        match units.next_unit(alloc, &mut unit, &mut none)? {
+            Step::End => break,
+            Step::Read => {
+                tally.add(Status::Read);
+                printer.print(out, name, number, &unit, None)?;
+            }
+            Step::Refused(fault) => {
+                tally.add(Status::Refused);
+                printer.print(out, name, number, &unit, Some(&fault))?;
+                if printer.style() != Style::Errors {
+                    report.refused(name, number, &unit, &fault);
+                }
+            }
+            Step::Warned(fault) => {
+                tally.add(Status::Warned);
+                report.say(name, fault.text.as_str());
+            }
+        }
+        report.done(units.bytes_done());
+    }
+    Ok(tally.end(name, report))
+}
+
+/// Writes what the units of a file hold, and reports those that are refused.
+pub fn decode<U: ReadUnits, W: Write, P: Write>(
+    alloc: Global,
+    name: &str,
+    units: &mut U,
+    out: &mut W,
+    report: &mut Report<P>,
+) -> Result<Status, Error> {
+    let mut unit = Unit::new(alloc);
+    let mut tally = Tally {
+        status: Status::Read,
+        count: 0,
+    };
+    for number in 0..u64::MAX {
+        match units.next_unit(alloc, &mut unit, out)? {
+            Step::End => break,
+            Step::Read => tally.add(Status::Read),
+            Step::Refused(fault) => {
+                tally.add(Status::Refused);
+                report.refused(name, number, &unit, &fault);
+            }
+            Step::Warned(fault) => {
+                tally.add(Status::Warned);
+                report.say(name, fault.text.as_str());
+            }
+        }
+        report.done(units.bytes_done());
+    }
+    Ok(tally.end(name, report))
 }

@@ -1,7 +1,9 @@
 //! Damaged copies of a file.
 
 use crate::command::Command;
-use crate::rows::written;
+use crate::options::Style;
+use crate::rows::outcome_of;
+use crate::status::Status;
 use anyhow::Error;
 use std::alloc::{AllocError, Global};
 use std::fs;
@@ -13,9 +15,9 @@ struct Count {
     times: u64,
 }
 
-/// Counts an error, by its text behind its place.
+/// Counts an error, by its text after its place.
 fn add(alloc: Global, counts: &mut Vec<Count>, text: &str) -> Result<(), AllocError> {
-    let what = match text.split_once(": ") {
+    let what = match text.rsplit_once(": ") {
         Some((_, what)) => what,
         None => text,
     };
@@ -32,7 +34,8 @@ fn add(alloc: Global, counts: &mut Vec<Count>, text: &str) -> Result<(), AllocEr
     Ok(())
 }
 
-/// Turns the bits of each byte of a file in turn, and counts the answers and the errors.
+/// Turns the bits of each byte of a file in turn, and counts the copies that are read whole and the first errors of the
+/// others.
 pub fn play_damaged(rt: &HostRuntime, command: Command, path: &str) -> Result<(), Error> {
     let alloc = rt.alloc();
     let mut file = fs::read(rt, path)?;
@@ -40,9 +43,11 @@ pub fn play_damaged(rt: &HostRuntime, command: Command, path: &str) -> Result<()
     let mut counts = Vec::new(alloc);
     for at in 0..file.len() {
         turn(file.as_mut_slice(), at);
-        match written(alloc, command, file.as_slice()) {
-            Ok(_) => answers = answers.saturating_add(1),
-            Err(error) => add(alloc, &mut counts, format!(in alloc; "{error}")?.as_str())?,
+        let written = outcome_of(alloc, command, Style::Rows, file.as_slice())?;
+        if written.status == Status::Read {
+            answers = answers.saturating_add(1);
+        } else {
+            add(alloc, &mut counts, written.first_error())?;
         }
         turn(file.as_mut_slice(), at);
     }

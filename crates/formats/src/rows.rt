@@ -2,17 +2,64 @@
 
 use crate::command::{Command, play};
 use crate::damaged::play_damaged;
-use crate::progress::Progress;
-use anyhow::{Error, bail};
+use crate::options::{Options, Style};
+use crate::print::Printer;
+use crate::report::Report;
+use crate::status::Status;
+use anyhow::{Error, anyhow, bail};
 use std::alloc::{AllocError, Global};
-use std::{fs, io};
+use std::fs;
+
+/// What a command writes of a file.
+#[derive(Drop)]
+pub struct Written {
+    /// What it writes to standard output.
+    pub out: Vec<u8>,
+    /// What it reports on standard error.
+    pub reported: Vec<u8>,
+    /// What came of the file.
+    pub status: Status,
+}
+
+impl Written {
+    /// Returns the first line that was reported, without the name of the program and of the file.
+    pub fn first_error(&self) -> &str {
+        let text = match str::from_utf8(self.reported.as_slice()) {
+            Ok(text) => text,
+            Err(_) => "",
+        };
+        let line = text.lines().next().unwrap_or("");
+        match line.split_once("FILE: ") {
+            Some((_, error)) => error,
+            None => line,
+        }
+    }
+}
 
 /// Returns what a command writes of a file.
-pub fn written(alloc: Global, command: Command, file: &[u8]) -> Result<Vec<u8>, Error> {
+pub fn outcome_of(
+    alloc: Global,
+    command: Command,
+    style: Style,
+    file: &[u8],
+) -> Result<Written, Error> {
     let mut out = Vec::new(alloc);
-    let mut progress = Progress::new(io::sink(), false, 0);
-    play(alloc, command, file, &mut out, &mut progress)?;
-    Ok(out)
+    let mut report = Report::new(Vec::new(alloc), false, 0);
+    let mut printer = Printer::new(alloc, Options::of(alloc, style));
+    let status = play(
+        alloc,
+        command,
+        "FILE",
+        file,
+        &mut printer,
+        &mut out,
+        &mut report,
+    )?;
+    Ok(Written {
+        out,
+        reported: report.into_inner(),
+        status,
+    })
 }
 
 /// Returns the name of the element that a line spells, without its number.
@@ -57,46 +104,88 @@ fn compare_rows(alloc: Global, written: &str, rows: &str) -> Result<u64, Error> 
     Ok(count)
 }
 
-/// Compares what is read of each file of a list: a line has a command, a file, and a file of rows or of
-/// bytes; or the word `damaged`, a command, and a file whose damaged copies are counted.
+/// How a file of a list is compared.
+#[derive(Clone, Copy, Debug, PartialEq, Eq)]
+struct Case {
+    /// Whether the file has an error, which is printed.
+    refused: bool,
+    /// How its units are printed.
+    style: Style,
+}
+
+/// Compares what is read of each file of a list: a line has a command, a file, and a file of rows or of bytes. After
+/// the word `json` the units are printed so. After the word `refused` the file has an error, which is printed. After
+/// the word `damaged` there are a command and a file whose damaged copies are counted.
 pub fn play_rows(rt: &HostRuntime, list: &str) -> Result<(), Error> {
     let text = fs::read_to_string(rt, list)?;
     for line in text.as_str().lines() {
         let mut words = line.split(' ');
-        let (Some(word), Some(path), Some(other)) = (words.next(), words.next(), words.next())
-        else {
+        let mut word = words.next().unwrap_or("");
+        let mut case = Case {
+            refused: false,
+            style: Style::Rows,
+        };
+        if word == "refused" {
+            case.refused = true;
+            word = words.next().unwrap_or("");
+        }
+        if word == "json" {
+            case.style = Style::Json;
+            word = words.next().unwrap_or("");
+        }
+        let (Some(path), Some(other)) = (words.next(), words.next()) else {
             bail!("{list}: {line}");
         };
         if word == "damaged" {
-            play_damaged(rt, Command::of(path)?, other)?;
+            play_damaged(rt, command_of(path)?, other)?;
         } else {
-            compare(rt, Command::of(word)?, path, other)?;
+            compare(rt, command_of(word)?, path, other, case)?;
         }
     }
     Ok(())
 }
 
+/// Returns the command that a word names.
+fn command_of(word: &str) -> Result<Command, Error> {
+    match Command::of(word) {
+        Some(command) => Ok(command),
+        None => Err(anyhow!("no command {word}")),
+    }
+}
+
 /// Compares what is read of a file with the rows or the bytes of another one.
-fn compare(rt: &HostRuntime, command: Command, path: &str, other: &str) -> Result<(), Error> {
+fn compare(
+    rt: &HostRuntime,
+    command: Command,
+    path: &str,
+    other: &str,
+    case: Case,
+) -> Result<(), Error> {
     let file = fs::read(rt, path)?;
     let wanted = fs::read(rt, other)?;
-    let out = written(rt.alloc(), command, file.as_slice())?;
-    if matches!(command, Command::Flac | Command::Gunzip) {
-        if out.as_slice() != wanted.as_slice() {
+    let written = outcome_of(rt.alloc(), command, case.style, file.as_slice())?;
+    if case.refused != (written.status != Status::Read) {
+        bail!("{path}: {:?}: {}", written.status, written.first_error());
+    }
+    if command.decodes() || case.style == Style::Json {
+        if written.out.as_slice() != wanted.as_slice() {
             bail!("{path}: the bytes are not those of {other}");
         }
-        println!(rt; "{path}: {} bytes, the same", out.len())?;
-        return Ok(());
+        println!(rt; "{path}: {} bytes, the same", written.out.len())?;
+    } else {
+        let (Ok(lines), Ok(rows)) = (
+            str::from_utf8(written.out.as_slice()),
+            str::from_utf8(wanted.as_slice()),
+        ) else {
+            bail!("{other}: no text");
+        };
+        match compare_rows(rt.alloc(), lines, rows) {
+            Ok(count) => println!(rt; "{path}: {count} rows, the same")?,
+            Err(error) => bail!("{path}: {error}"),
+        }
     }
-    let (Ok(lines), Ok(rows)) = (
-        str::from_utf8(out.as_slice()),
-        str::from_utf8(wanted.as_slice()),
-    ) else {
-        bail!("{other}: no text");
-    };
-    match compare_rows(rt.alloc(), lines, rows) {
-        Ok(count) => println!(rt; "{path}: {count} rows, the same")?,
-        Err(error) => bail!("{path}: {error}"),
+    if case.refused {
+        println!(rt; "{path}: {}", written.first_error())?;
     }
     Ok(())
 }

@@ -1,25 +1,54 @@
 //! Numbers in groups of 7 bits, the lowest group first, also with groups of zeros at their end
 //! (section 4.10.5).
-ghost use Rattle.std.specs.Prelude.{◌≡◌, ◌++◌, ◌<◌, ◌^◌, ℕ, Bool, List, Ok, length};
+ghost use Rattle.std.specs.Prelude.{◌≡◌, ◌++◌, ◌*◌, ◌<◌, ◌≤◌, ◌^◌, ℕ, Bool, List, Ok, length};
 ghost use Rattle.bitstream_io.specs.Callers.{Order, ReadsOwn, Takes, write_run};
-ghost use Rattle.bitstream_formats.specs.Leb128.{becomes_av1, leb128_entry, leb128_writes};
+ghost use Rattle.bitstream_formats.specs.Leb128.{becomes_av1, groups_entry, leb128_entry, leb128_writes, small};
 
 use super::Av1Error;
 use bitstream_io::{BitRead, BitReadExt, Bits};
 
-/// Reads a number below 2^32, `leb128()`.
+/// Reads a number below 2^32 in at most eight bytes, `leb128()`.
 ///
 /// # Errors
 ///
-/// `TooLarge` for 2^32 and more: the number is read then. Else those of the reader.
+/// `TooLarge` for 2^32 and more: the number is read then. `TooLarge` if a ninth byte were to follow: eight
+/// bytes are read then. Else those of the reader.
 pub fn read_leb128<R: BitRead>(reader: &mut R) -> Result<u32, Av1Error>
     ensures { ReadsOwn R.source becomes_av1 (leb128_entry R.source.order) reader.old result reader.new }
 {
-    let value: u64 = reader.read_unsigned_vbr_any::<Bits<8>, u64>()?;
+    read_groups(reader, 8, 1, 0)
+}
+
+/// Returns a number, unless it is too large.
+fn small(value: u64) -> Result<u32, Av1Error>
+    ensures { result ≡ small value }
+{
     if value > 0xffff_ffff {
         return Err(Av1Error::TooLarge);
     }
     Ok(value as u32)
+}
+
+/// Reads at most `room` bytes after those of `value`. The bits of the first one count `place` times.
+fn read_groups<R: BitRead>(
+    reader: &mut R,
+    room: u32,
+    place: u64,
+    value: u64,
+) -> Result<u32, Av1Error>
+    requires room { place * 128 ^ room ≤ 2 ^ 56 }
+    requires below { value < place }
+    ensures { ReadsOwn R.source becomes_av1 (groups_entry R.source.order room place value)
+        reader.old result reader.new }
+{
+    if room == 0 {
+        return Err(Av1Error::TooLarge);
+    }
+    let byte = reader.read::<Bits<8>, u64>()?;
+    if byte < 128 {
+        return small(value + place * byte);
+    }
+    read_groups(reader, room - 1, 128 * place, value + place * (byte - 128))
 }
 
 /// A number is read back as it was written, in either order of bits, wherever it stands.

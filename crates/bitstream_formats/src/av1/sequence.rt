@@ -17,7 +17,7 @@ fn read_uvlc(syntax: &mut Obu<'_, '_, '_>, name: &'static str) -> Result<u32, Er
     Ok(value)
 }
 
-/// Reads a sequence header.
+/// Reads a sequence header, without the bits after it.
 pub(super) fn read_sequence(syntax: &mut Obu<'_, '_, '_>) -> Result<(), Error> {
     let profile = syntax.number("seq_profile", 3)?;
     syntax.flag("still_picture")?;
@@ -43,7 +43,6 @@ pub(super) fn read_sequence(syntax: &mut Obu<'_, '_, '_>) -> Result<(), Error> {
     syntax.flag("enable_restoration")?;
     read_color(syntax, profile)?;
     syntax.flag("film_grain_params_present")?;
-    syntax.flag("trailing_one_bit")?;
     Ok(())
 }
 

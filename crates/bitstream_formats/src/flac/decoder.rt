@@ -1,17 +1,23 @@
 //! The decoder of a file.
 
+ghost use Rattle.std.specs.Prelude.{◌≡◌, IfOk, IfSome};
+ghost use Rattle.bitstream_formats.specs.Frames.{IsOfFile};
+
 use super::crc::Crc16;
 use super::error::FlacError;
 use super::frame::{Frame, read_frame};
 use super::metadata::Blocks;
+use super::sum::SampleSum;
 use crate::at::At;
 use crate::stream_info::StreamInfo;
 use bitstream_io::{BE, SliceReader};
 use std::alloc::Global;
+use std::marker::Model;
 
 /// A file that is decoded frame by frame.
 ///
-/// It needs memory for one frame: up to 8 channels of 65536 samples, of 8 bytes each.
+/// It needs memory for one frame: up to 8 channels of 65536 samples, of 8 bytes each. With the MD5 of the
+/// samples it needs those of one frame again, of at most 4 bytes each.
 #[derive(Drop)]
 pub struct Decoder<'a> {
     reader: SliceReader<'a, BE>,
@@ -19,31 +25,46 @@ pub struct Decoder<'a> {
     crc16: Crc16,
     // The samples of each channel that were decoded.
     done: u64,
+    // The MD5 of them, if it is compared.
+    sum: Option<SampleSum>,
+}
+
+// What contracts see of a decoder is the STREAMINFO of its file.
+impl<'a> Model for Decoder<'a> {
+    ghost use Rattle.bitstream_formats.specs.declared.stream_info.StreamInfo.{StreamInfo};
+
+    ghost Value = { StreamInfo };
+
+    ghost view = { λ decoder. decoder.info };
+}
+
+/// Reads STREAMINFO, which the metadata of a file begins with.
+fn read_info(blocks: &mut Blocks<'_>) -> Result<StreamInfo, At<FlacError>> {
+    let info = match blocks.next_block()? {
+        Some(block) if block.kind == 0 && block.bytes.len() == 34 => StreamInfo::parse(block.bytes),
+        _ => return Err(At {
+            bit: 32,
+            error: FlacError::NoStreamInfo,
+        }),
+    };
+    match info {
+        Ok(info) => Ok(info),
+        Err(_) => Err(At {
+            bit: 64,
+            error: FlacError::NoStreamInfo,
+        }),
+    }
 }
 
 impl<'a> Decoder<'a> {
-    /// Reads the metadata of a file.
+    /// Reads the metadata of a file. The MD5 of the samples is not computed.
     ///
     /// # Errors
     ///
     /// `NoFlac`, `NoStreamInfo`, and those of the reader.
     pub fn over(file: &'a [u8]) -> Result<Decoder<'a>, At<FlacError>> {
         let mut blocks = Blocks::over(file)?;
-        let info = match blocks.next_block()? {
-            Some(block) if block.kind == 0 && block.bytes.len() == 34 => StreamInfo::parse(
-                block.bytes,
-            ),
-            _ => return Err(At {
-                bit: 32,
-                error: FlacError::NoStreamInfo,
-            }),
-        };
-        let Ok(info) = info else {
-            return Err(At {
-                bit: 64,
-                error: FlacError::NoStreamInfo,
-            });
-        };
+        let info = read_info(&mut blocks)?;
         for _ in 0..file.len() {
             if blocks.next_block()?.is_none() {
                 break;
@@ -54,11 +75,28 @@ impl<'a> Decoder<'a> {
             info,
             crc16: Crc16::new(),
             done: 0,
+            sum: None,
         })
     }
 
-    /// Returns what the file says of all its frames.
-    pub fn stream_info(&self) -> &StreamInfo {
+    /// Reads the metadata of a file, and computes the MD5 of the samples as they are decoded. At the end of the
+    /// file it is compared with that of STREAMINFO, unless that is 0, which stands for unknown.
+    ///
+    /// # Errors
+    ///
+    /// Those of [`Decoder::over`].
+    pub fn with_md5(alloc: Global, file: &'a [u8]) -> Result<Decoder<'a>, At<FlacError>> {
+        let mut decoder = Decoder::over(file)?;
+        if decoder.info.checksum != [0; 16] {
+            decoder.sum = Some(SampleSum::new(alloc));
+        }
+        Ok(decoder)
+    }
+
+    /// Returns the STREAMINFO of the file.
+    pub fn stream_info(&self) -> &StreamInfo
+        ensures { result.now ≡ self.now }
+    {
         &self.info
     }
 
@@ -67,32 +105,58 @@ impl<'a> Decoder<'a> {
         self.reader.rest()
     }
 
-    /// Decodes the next frame, or answers `None` at the end of the file.
+    /// Decodes the next frame, or returns `None` at the end of the file.
     ///
     /// # Errors
     ///
-    /// Those of [`FlacError`]: `SampleCount` at the end alone. No later frame is found then.
-    pub fn next_frame(&mut self, alloc: Global) -> Result<Option<Frame>, At<FlacError>> {
-        if self.reader.is_at_end() {
-            let total = self.info.total_samples;
-            if total != 0 && total != self.done {
-                let bit = self.reader.bits_read();
-                return Err(At {
-                    bit,
-                    error: FlacError::SampleCount,
-                });
-            }
-            return Ok(None);
-        }
-        match read_frame(&mut self.reader, alloc, &self.info, &self.crc16) {
-            Ok(frame) => {
-                self.done = self.done.saturating_add(frame.header.block_size as u64);
-                Ok(Some(frame))
-            }
+    /// Those of [`FlacError`]. `OtherChannels`, `OtherSampleSize` and `OtherSampleRate` for a frame that differs
+    /// from STREAMINFO, after its header. `SampleCount` and then `WrongMd5` at the end of the file: the number
+    /// of samples is refused at each call, the MD5 once. After another error no later frame is found.
+    pub fn next_frame(&mut self, alloc: Global) -> Result<Option<Frame>, At<FlacError>>
+        ensures of_file { IfOk result (λ frame. IfSome frame (IsOfFile self.old)) }
+        ensures same { self.new ≡ self.old }
+    {
+        let read = if self.reader.is_at_end() {
+            self.finish()
+        } else {
+            self.read_next(alloc)
+        };
+        match read {
+            Ok(frame) => Ok(frame),
             Err(error) => Err(At {
                 bit: self.reader.bits_read(),
                 error,
             }),
         }
+    }
+
+    /// Decodes a frame.
+    fn read_next(&mut self, alloc: Global) -> Result<Option<Frame>, FlacError>
+        ensures of_file { IfOk result (λ frame. IfSome frame (IsOfFile self.old)) }
+        ensures same { self.new ≡ self.old }
+    {
+        let frame = read_frame(&mut self.reader, alloc, &self.info, &self.crc16)?;
+        self.done = self.done.saturating_add(frame.header.block_size as u64);
+        if let Some(sum) = &mut self.sum {
+            sum.add(&frame)?;
+        }
+        Ok(Some(frame))
+    }
+
+    /// Compares what was decoded with STREAMINFO, and returns no frame.
+    fn finish(&mut self) -> Result<Option<Frame>, FlacError>
+        ensures of_file { IfOk result (λ frame. IfSome frame (IsOfFile self.old)) }
+        ensures same { self.new ≡ self.old }
+    {
+        let total = self.info.total_samples;
+        if total != 0 && total != self.done {
+            return Err(FlacError::SampleCount);
+        }
+        if let Some(sum) = self.sum.take() {
+            if sum.finish() != self.info.checksum {
+                return Err(FlacError::WrongMd5);
+            }
+        }
+        Ok(None)
     }
 }

@@ -63,9 +63,21 @@ pub enum FlacError {
     /// The block is not of whole partitions, or the first one has fewer samples than come before it.
     #[error("the partitions do not fit the block")]
     Partitions,
+    /// The frame has another number of channels than STREAMINFO.
+    #[error("the frame has {0} channels, and STREAMINFO has {1}")]
+    OtherChannels(u8, u8),
+    /// The samples of the frame have another number of bits than those of STREAMINFO.
+    #[error("the samples of the frame have {0} bits, and those of STREAMINFO have {1}")]
+    OtherSampleSize(u8, u8),
+    /// The frame has another sample rate than STREAMINFO.
+    #[error("the frame has {0} samples a second, and STREAMINFO has {1}")]
+    OtherSampleRate(u32, u32),
     /// The file has another number of samples than its metadata says.
     #[error("the number of samples is another than the metadata says")]
     SampleCount,
+    /// The MD5 of the samples is not that of STREAMINFO.
+    #[error("the MD5 of the samples is another than the metadata says")]
+    WrongMd5,
 }
 
 impl From<Error> for FlacError {

@@ -1,5 +1,7 @@
 //! Frames (section 9).
-ghost use Rattle.std.specs.Prelude.{◌≤◌};
+ghost use Rattle.std.specs.Prelude.{◌≡◌, ◌≤◌, IfOk, IsOk, length};
+ghost use Rattle.std.specs.Int.NonZero.{non_zero_u8_get};
+ghost use Rattle.bitstream_formats.specs.Frames.{IsOfFile, channel_count};
 
 use super::crc::{Crc16, crc8};
 use super::error::FlacError;
@@ -59,23 +61,42 @@ fn bytes_before<'a>(bytes: &'a [u8], rest: &[u8]) -> &'a [u8] {
         .unwrap_or(bytes)
 }
 
+/// Compares the header of a frame with STREAMINFO. A sample size or a sample rate of 0 is that of STREAMINFO.
+fn check_header(header: &FrameHeader, info: &StreamInfo) -> Result<(), FlacError>
+    ensures { IsOk result → channel_count header.now.channels ≡ non_zero_u8_get info.now.channels }
+{
+    let channels = header.channels.count();
+    if channels != info.channels.get() {
+        return Err(FlacError::OtherChannels(channels, info.channels.get()));
+    }
+    let bits = header.bits_per_sample;
+    if bits != 0 && bits != info.bits_per_sample.get() {
+        return Err(FlacError::OtherSampleSize(bits, info.bits_per_sample.get()));
+    }
+    let rate = header.sample_rate;
+    if rate != 0 && rate != info.sample_rate {
+        return Err(FlacError::OtherSampleRate(rate, info.sample_rate));
+    }
+    Ok(())
+}
+
 /// Reads a frame of a file.
 pub(super) fn read_frame(
     reader: &mut SliceReader<'_, BE>,
     alloc: Global,
     info: &StreamInfo,
     crc16: &Crc16,
-) -> Result<Frame, FlacError> {
+) -> Result<Frame, FlacError>
+    ensures { IfOk result (IsOfFile info.now) }
+{
     let bytes = reader.rest();
     let header = read_header(reader)?;
     let checksum = crc8(bytes_before(bytes, reader.rest()));
     if reader.read::<Bits<8>, u8>()? != checksum {
         return Err(FlacError::HeaderChecksum);
     }
-    let bits_per_sample = match header.bits_per_sample {
-        0 => info.bits_per_sample.get(),
-        bits => bits,
-    };
+    check_header(&header, info)?;
+    let bits_per_sample = info.bits_per_sample.get();
     let mut channels = read_channels(reader, alloc, &header, bits_per_sample)?;
     reader.byte_align();
     let checksum = crc16.of(bytes_before(bytes, reader.rest()));
@@ -98,7 +119,9 @@ fn read_channels(
     alloc: Global,
     header: &FrameHeader,
     bits_per_sample: u8,
-) -> Result<Vec<Vec<i64>>, FlacError> {
+) -> Result<Vec<Vec<i64>>, FlacError>
+    ensures { IfOk result (λ channels. length channels.items ≡ channel_count header.now.channels) }
+{
     let mut channels = Vec::new(alloc);
     for channel in 0..header.channels.count() {
         let bits = bits_per_sample as u32 + header.channels.is_side(channel) as u32;

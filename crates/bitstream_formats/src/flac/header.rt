@@ -1,5 +1,8 @@
 //! Headers of frames (section 9.1).
 
+ghost use Rattle.std.specs.Prelude.{◌≡◌};
+ghost use Rattle.bitstream_formats.specs.Frames.{channel_count};
+
 use super::coded::read_coded;
 use super::error::FlacError;
 use bitstream_io::{BitRead, BitReadExt, Bits};
@@ -19,7 +22,9 @@ pub enum Channels {
 
 impl Channels {
     /// Returns how many there are: 1 to 8 in a frame that was read.
-    pub fn count(self) -> u8 {
+    pub fn count(self) -> u8
+        ensures { result ≡ channel_count self }
+    {
         match self {
             Channels::Independent(count) => count,
             _ => 2,

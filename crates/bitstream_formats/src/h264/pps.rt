@@ -1,15 +1,45 @@
 //! Picture parameter sets (section 7.3.2.2).
 
+ghost use Rattle.std.specs.Prelude.{◌≡◌};
+ghost use Rattle.bitstream_formats.specs.ScalingLists.{lists_of_picture};
+
 use super::H264Error;
 use super::golomb::{read_se, read_ue};
 use super::scaling::read_scaling_lists;
+use super::sets::{ParameterSets, PictureSet, SequenceSet};
 use crate::element::Syntax;
 use bitstream_io::BE;
 
-/// Reads a picture parameter set, whose last 1 stands at `stop`.
-pub(super) fn read_pps(syntax: &mut Syntax<'_, '_, '_, BE>, stop: u64) -> Result<(), H264Error> {
-    read_ue(syntax, "pic_parameter_set_id")?;
-    read_ue(syntax, "seq_parameter_set_id")?;
+/// Reads a picture parameter set and returns its number. The last 1 of the unit is at `last`.
+pub(super) fn read_pps(
+    syntax: &mut Syntax<'_, '_, '_, BE>,
+    sets: &ParameterSets,
+    last: u64,
+) -> Result<(u32, PictureSet), H264Error> {
+    let number = read_ue(syntax, "pic_parameter_set_id")?;
+    if number > 255 {
+        return Err(H264Error::PictureNumber(number));
+    }
+    let named = read_ue(syntax, "seq_parameter_set_id")?;
+    let Some(sequence) = sets.sequence(named) else {
+        return Err(H264Error::MissingSequence(named));
+    };
+    read_common(syntax)?;
+    let mut large_transform = false;
+    if syntax.place() < last {
+        large_transform = read_more(syntax, &sequence)?;
+    }
+    Ok((
+        number,
+        PictureSet {
+            sequence: named,
+            large_transform,
+        },
+    ))
+}
+
+/// Reads the elements that each set has after its numbers.
+fn read_common(syntax: &mut Syntax<'_, '_, '_, BE>) -> Result<(), H264Error> {
     syntax.flag("entropy_coding_mode_flag")?;
     syntax.flag("bottom_field_pic_order_in_frame_present_flag")?;
     if read_ue(syntax, "num_slice_groups_minus1")? > 0 {
@@ -25,22 +55,30 @@ pub(super) fn read_pps(syntax: &mut Syntax<'_, '_, '_, BE>, stop: u64) -> Result
     syntax.flag("deblocking_filter_control_present_flag")?;
     syntax.flag("constrained_intra_pred_flag")?;
     syntax.flag("redundant_pic_cnt_present_flag")?;
-    if syntax.place() < stop {
-        read_more(syntax)?;
-    }
     Ok(())
 }
 
-/// Reads what the high profiles have.
-fn read_more(syntax: &mut Syntax<'_, '_, '_, BE>) -> Result<(), H264Error> {
+/// Returns how many scaling lists a picture parameter set may have.
+fn lists_of(sequence: &SequenceSet, large_transform: bool) -> u32
+    ensures { result ≡ lists_of_picture sequence.now.chroma_format large_transform }
+{
+    match (large_transform, sequence.chroma_format) {
+        (false, _) => 6,
+        (true, 3) => 12,
+        (true, _) => 8,
+    }
+}
+
+/// Reads the elements of the high profiles. Returns true if the transform of 8x8 samples is used.
+fn read_more(
+    syntax: &mut Syntax<'_, '_, '_, BE>,
+    sequence: &SequenceSet,
+) -> Result<bool, H264Error> {
     let large = syntax.flag("transform_8x8_mode_flag")?;
     if syntax.flag("pic_scaling_matrix_present_flag")? {
-        read_scaling_lists(
-            syntax,
-            "pic_scaling_list_present_flag",
-            if large { 8 } else { 6 },
-        )?;
+        let count = lists_of(sequence, large);
+        read_scaling_lists(syntax, "pic_scaling_list_present_flag", count)?;
     }
     read_se(syntax, "second_chroma_qp_index_offset")?;
-    Ok(())
+    Ok(large)
 }

@@ -3,6 +3,7 @@
 use super::H264Error;
 use super::golomb::{read_se, read_ue};
 use super::scaling::read_scaling_lists;
+use super::sets::SequenceSet;
 use super::vui::read_vui;
 use crate::element::Syntax;
 use bitstream_io::{BE, Error};
@@ -15,21 +16,22 @@ fn has_chroma(profile: u32) -> bool {
     )
 }
 
-/// Reads a sequence parameter set.
-pub(super) fn read_sps(syntax: &mut Syntax<'_, '_, '_, BE>) -> Result<(), H264Error> {
+/// Reads a sequence parameter set and returns its number.
+pub(super) fn read_sps(
+    syntax: &mut Syntax<'_, '_, '_, BE>,
+) -> Result<(u32, SequenceSet), H264Error> {
     let profile = syntax.number("profile_idc", 8)?;
-    syntax.flag("constraint_set0_flag")?;
-    syntax.flag("constraint_set1_flag")?;
-    syntax.flag("constraint_set2_flag")?;
-    syntax.flag("constraint_set3_flag")?;
-    syntax.flag("constraint_set4_flag")?;
-    syntax.flag("constraint_set5_flag")?;
-    syntax.number("reserved_zero_2bits", 2)?;
+    read_constraints(syntax)?;
     syntax.number("level_idc", 8)?;
-    read_ue(syntax, "seq_parameter_set_id")?;
-    if has_chroma(profile) {
-        read_chroma(syntax)?;
+    let number = read_ue(syntax, "seq_parameter_set_id")?;
+    if number > 31 {
+        return Err(H264Error::SequenceNumber(number));
     }
+    let chroma_format = if has_chroma(profile) {
+        read_chroma(syntax)?
+    } else {
+        1
+    };
     read_ue(syntax, "log2_max_frame_num_minus4")?;
     read_order(syntax)?;
     read_ue(syntax, "max_num_ref_frames")?;
@@ -38,11 +40,29 @@ pub(super) fn read_sps(syntax: &mut Syntax<'_, '_, '_, BE>) -> Result<(), H264Er
     if syntax.flag("vui_parameters_present_flag")? {
         read_vui(syntax)?;
     }
+    Ok((
+        number,
+        SequenceSet {
+            profile,
+            chroma_format,
+        },
+    ))
+}
+
+/// Reads the constraints that a stream keeps beyond its profile.
+fn read_constraints(syntax: &mut Syntax<'_, '_, '_, BE>) -> Result<(), Error> {
+    syntax.flag("constraint_set0_flag")?;
+    syntax.flag("constraint_set1_flag")?;
+    syntax.flag("constraint_set2_flag")?;
+    syntax.flag("constraint_set3_flag")?;
+    syntax.flag("constraint_set4_flag")?;
+    syntax.flag("constraint_set5_flag")?;
+    syntax.number("reserved_zero_2bits", 2)?;
     Ok(())
 }
 
-/// Reads how colors are coded.
-fn read_chroma(syntax: &mut Syntax<'_, '_, '_, BE>) -> Result<(), Error> {
+/// Reads the format of chroma and the scaling lists, and returns the format.
+fn read_chroma(syntax: &mut Syntax<'_, '_, '_, BE>) -> Result<u32, Error> {
     let chroma = read_ue(syntax, "chroma_format_idc")?;
     if chroma == 3 {
         syntax.flag("separate_colour_plane_flag")?;
@@ -54,7 +74,7 @@ fn read_chroma(syntax: &mut Syntax<'_, '_, '_, BE>) -> Result<(), Error> {
         let count = if chroma == 3 { 12 } else { 8 };
         read_scaling_lists(syntax, "seq_scaling_list_present_flag", count)?;
     }
-    Ok(())
+    Ok(chroma)
 }
 
 /// Reads how the order of pictures is coded.

@@ -1,19 +1,32 @@
 //! Units of a byte stream (annex B).
 
-/// The units of a byte stream. Each begins behind three bytes 0, 0 and 1.
+/// The units of a byte stream. Each begins after three bytes 0, 0 and 1.
 #[derive(Drop)]
 pub struct Units<'a> {
-    // Behind a start code; empty at the end.
-    rest: &'a [u8],
+    // The bytes after the last start code that was found. `None` after the last unit.
+    rest: Option<&'a [u8]>,
+    // How many bytes of the stream come before them.
+    before: usize,
 }
 
-/// Returns how many bytes come before a start code, with the zeros in front of it, and how many up to its
-/// end; those of all bytes if there is none.
-fn split_at_start(bytes: &[u8]) -> (usize, usize) {
+/// The place of a start code.
+#[derive(Clone, Copy)]
+struct StartCode {
+    // The bytes before it, without the zeros that precede it.
+    before: usize,
+    // The bytes up to its end.
+    end: usize,
+}
+
+/// Finds the first start code, or returns how many bytes precede the zeros at the end.
+fn find_start(bytes: &[u8]) -> Result<StartCode, usize> {
     let mut zeros = 0usize;
     for (at, byte) in bytes.iter().enumerate() {
         if *byte == 1 && zeros >= 2 {
-            return (at.saturating_sub(zeros), at + 1);
+            return Ok(StartCode {
+                before: at.saturating_sub(zeros),
+                end: at + 1,
+            });
         }
         zeros = if *byte == 0 {
             zeros.saturating_add(1)
@@ -21,31 +34,54 @@ fn split_at_start(bytes: &[u8]) -> (usize, usize) {
             0
         };
     }
-    (bytes.len(), bytes.len())
+    Err(bytes.len().saturating_sub(zeros))
 }
 
 impl<'a> Units<'a> {
-    /// Returns the units of these bytes.
+    /// Returns the units of `bytes`: none if there is no start code.
     pub fn over(bytes: &'a [u8]) -> Units<'a> {
-        let (_, end) = split_at_start(bytes);
-        Units {
-            rest: bytes.get(end..).unwrap_or(&[]),
+        match find_start(bytes) {
+            Ok(start) => Units {
+                rest: bytes.get(start.end..),
+                before: start.end,
+            },
+            Err(_) => Units {
+                rest: None,
+                before: bytes.len(),
+            },
         }
     }
 
-    /// Returns the bytes of the units that were not given yet.
+    /// Returns true if no unit is left.
+    pub fn is_at_end(&self) -> bool {
+        self.rest.is_none()
+    }
+
+    /// Returns the bytes from the next unit on.
     pub fn rest(&self) -> &'a [u8] {
-        self.rest
+        self.rest.unwrap_or(&[])
     }
 
-    /// Gives the next unit, without the zeros behind it.
+    /// Returns the place of the next unit's first byte in the stream.
+    pub fn place(&self) -> usize {
+        self.before
+    }
+
+    /// Returns the next unit, without its start code and the zeros after it. A unit is empty if a start
+    /// code follows another one.
     pub fn next_unit(&mut self) -> Option<&'a [u8]> {
-        let bytes = self.rest;
-        if bytes.is_empty() {
-            return None;
+        let bytes = self.rest?;
+        match find_start(bytes) {
+            Ok(start) => {
+                self.rest = bytes.get(start.end..);
+                self.before = self.before.saturating_add(start.end);
+                bytes.get(..start.before)
+            }
+            Err(length) => {
+                self.rest = None;
+                self.before = self.before.saturating_add(bytes.len());
+                bytes.get(..length)
+            }
         }
-        let (length, end) = split_at_start(bytes);
-        self.rest = bytes.get(end..).unwrap_or(&[]);
-        bytes.get(..length)
     }
 }

@@ -1,0 +1,40 @@
+//! The MD5 of the samples of a file (section 8.2).
+
+use super::frame::Frame;
+use md5::{Digest, Md5};
+use std::alloc::{AllocError, Global};
+
+/// The MD5 of the samples that were decoded, as [`Frame::append_pcm`] writes them.
+#[derive(Drop)]
+pub(super) struct SampleSum {
+    md5: Md5,
+    // The samples of a frame, as bytes. It is here to be used again.
+    bytes: Vec<u8>,
+}
+
+impl SampleSum {
+    /// Returns the MD5 of no sample.
+    pub(super) fn new(alloc: Global) -> SampleSum {
+        SampleSum {
+            md5: Md5::new(),
+            bytes: Vec::new(alloc),
+        }
+    }
+
+    /// Adds the samples of a frame.
+    ///
+    /// # Errors
+    ///
+    /// Memory was refused, and nothing is added.
+    pub(super) fn add(&mut self, frame: &Frame) -> Result<(), AllocError> {
+        self.bytes.clear();
+        frame.append_pcm(&mut self.bytes)?;
+        self.md5.update(self.bytes.as_slice());
+        Ok(())
+    }
+
+    /// Returns the MD5.
+    pub(super) fn finish(self) -> [u8; 16] {
+        self.md5.finalize()
+    }
+}

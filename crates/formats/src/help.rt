@@ -1,0 +1,105 @@
+//! How the program is called.
+
+use crate::command::Command;
+
+/// The text of `--help`.
+pub const HELP: &str = "\
+Reads files of audio, video, transport and compression, and prints the elements of their headers.
+
+usage: formats COMMAND [OPTION..] FILE..     FILE is - for standard input
+       formats COMMAND --help                prints what a command reads
+       formats --version
+
+  h264           NAL units of H.264, with parameter sets (profile, size, reference frames)
+  av1            OBUs of AV1 with sequence headers, bare or in IVF
+  adts           frames of AAC in ADTS, also after ID3v2
+  ogg            pages and packets of Ogg; the codecs are named
+  ts             packets of MPEG-TS, of 188 bytes or of 192 (M2TS)
+  flac-headers   metadata and frame headers of FLAC
+  gzip-headers   headers and trailers of the members of gzip
+  flac           writes the samples of FLAC, as whole bytes with a sign, the lowest byte first
+  gunzip         writes the bytes of gzip
+
+  --json         prints a JSON object for each unit, on a line of its own
+  --table        prints a heading for each unit, and its elements in columns
+  --only NAME    prints the elements of this name alone; several names are allowed
+  --errors       prints errors alone
+  --             ends the options
+
+With no option a line has an element: its place in bits, its name and its value. A unit that is refused is reported
+on standard error with its number, its byte in the file and the bit in the unit, and the next one is read.
+
+Status: 0 all was read; 1 a unit was refused, or the file has none; 2 a wrong call; 3 a file was not read, or the
+output not written; 4 all was read, and bytes after it were ignored.
+
+For tests: formats rows LIST; formats damaged COMMAND FILE.
+";
+
+/// Returns the text of `--help` after a command.
+pub fn help_of(command: Command) -> &'static str {
+    match command {
+        Command::H264 => "\
+usage: formats h264 [--json | --table | --errors] [--only NAME].. FILE..
+
+Reads an H.264 byte stream (annex B). A unit is a NAL unit: the header of each, and all elements of sequence and
+picture parameter sets, with the names and places of the standard. Places count in the unit, without its start code
+and its bytes against emulation. A sequence parameter set also has its profile, width, height and reference_frames.
+e.g.   formats h264 --json FILE | jq -c 'select(.type == \"SPS\") | .about'
+",
+        Command::Av1 => "\
+usage: formats av1 [--json | --table | --errors] [--only NAME].. FILE..
+
+Reads AV1 in the low-overhead format, bare or in a file of IVF. A unit is an OBU, the header of the file, or the
+header of a frame of IVF: the header of each OBU, and all elements of sequence headers. Places count in the file.
+e.g.   formats av1 --json FILE | jq -c 'select(.type == \"sequence_header\") | .about'
+",
+        Command::Adts => "\
+usage: formats adts [--json | --table | --errors] [--only NAME].. FILE..
+
+Reads AAC in ADTS, also after a tag of ID3v2. A unit is a frame, of which the header is read, or the tag.
+e.g.   formats adts --only aac_frame_length FILE
+",
+        Command::Ogg => "\
+usage: formats ogg [--json | --table | --errors] [--only NAME].. FILE..
+
+Reads Ogg. A unit is a page: its header, the checksum of which is checked, and the length of each packet that ends
+in it. The first page of a stream names its codec. Packets of Opus have their first byte: config, s and c.
+e.g.   formats ogg --json FILE | jq -r .about.codec | sort | uniq -c
+",
+        Command::Ts => "\
+usage: formats ts [--json | --table | --errors] [--only NAME].. FILE..
+
+Reads an MPEG transport stream, of packets of 188 bytes, or of 192 as in M2TS. A unit is a packet: its header, its
+adaptation field, and the header of a PES packet that begins in it.
+e.g.   formats ts --only PTS FILE
+",
+        Command::FlacHeaders => "\
+usage: formats flac-headers [--json | --table | --errors] [--only NAME].. FILE..
+
+Reads the metadata of FLAC (STREAMINFO, tags, the sizes of pictures, seek points) and the header of each frame. A
+unit is a block of metadata or a frame, which is decoded and checked.
+e.g.   formats flac-headers --json FILE | jq 'select(.type == \"STREAMINFO\")'
+",
+        Command::GzipHeaders => "\
+usage: formats gzip-headers [--json | --table | --errors] [--only NAME].. FILE..
+
+Reads gzip in constant memory. A unit is a member: its header and its trailer, with the names of RFC 1952. Its bytes
+are unpacked and checked, and not written.
+e.g.   formats gzip-headers --json FILE | jq .elements.ISIZE
+",
+        Command::Flac => "\
+usage: formats flac FILE..
+
+Writes the samples of FLAC to standard output, as whole bytes with a sign, the lowest byte first.
+",
+        Command::Gunzip => "\
+usage: formats gunzip FILE..
+
+Writes the bytes of gzip to standard output, of all members, in constant memory. Zeros after the last member are
+ignored; other bytes too, with status 4. Of a member that is cut the bytes that are there are written.
+",
+    }
+}
+
+/// The text of `--version`.
+pub const VERSION: &str = "formats 1.0.0\n";

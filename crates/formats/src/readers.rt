@@ -1,0 +1,6 @@
+//! The units of each format.
+
+pub mod audio;
+pub mod compressed;
+pub mod containers;
+pub mod video;

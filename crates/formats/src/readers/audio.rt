@@ -1,0 +1,441 @@
+//! The frames of ADTS, and the blocks and frames of FLAC.
+
+use crate::unit::{Fault, ReadUnits, Step, Unit};
+use anyhow::Error;
+use bitstream_formats::adts;
+use bitstream_formats::flac::{Block, Blocks, Channels, Decoder, Frame};
+use bitstream_formats::stream_info::StreamInfo;
+use std::alloc::{AllocError, Global};
+use std::io::Write;
+
+/// The frames of ADTS, after a tag of ID3v2 if there is one.
+#[derive(Drop)]
+pub struct AdtsUnits<'a> {
+    file: &'a [u8],
+    at: usize,
+}
+
+/// Returns the length of a frame of ADTS, if one begins with these bytes.
+fn frame_length(bytes: &[u8]) -> Option<usize> {
+    let [a, b, _, d, e, f, ..] = bytes else {
+        return None;
+    };
+    if *a != 0xff || *b & 0xf6 != 0xf0 {
+        return None;
+    }
+    Some(((*d & 3) as usize) << 11 | (*e as usize) << 3 | (*f >> 5) as usize)
+}
+
+impl<'a> AdtsUnits<'a> {
+    /// Returns the frames of a file.
+    pub fn over(file: &'a [u8]) -> AdtsUnits<'a> {
+        AdtsUnits { file, at: 0 }
+    }
+
+    /// Returns the bytes from a place on.
+    fn from(&self, at: usize) -> &'a [u8] {
+        self.file.get(at..).unwrap_or(&[])
+    }
+
+    /// Returns the place of the next frame from a place on: one with another frame after it, or the last one.
+    fn find_frame(&self, from: usize) -> usize {
+        for at in from..self.file.len() {
+            if let Some(length) = frame_length(self.from(at)) {
+                let next = self.from(at.saturating_add(length));
+                if length >= 7 && (next.is_empty() || frame_length(next).is_some()) {
+                    return at;
+                }
+            }
+        }
+        self.file.len()
+    }
+
+    /// Reads the header of the tag of ID3v2 with which the file begins.
+    fn read_tag(&mut self, unit: &mut Unit) -> Result<Step, Error> {
+        unit.begin("ID3v2", 0);
+        let [_, _, _, version, revision, flags, a, b, c, d, ..] = self.file else {
+            self.at = self.file.len();
+            return Ok(Step::End);
+        };
+        let size = ((*a & 127) as usize) << 21
+            | ((*b & 127) as usize) << 14
+            | ((*c & 127) as usize) << 7
+            | (*d & 127) as usize;
+        unit.push(24, "version", *version as i64)?;
+        unit.push(32, "revision", *revision as i64)?;
+        unit.push(40, "flags", *flags as i64)?;
+        unit.push(48, "size", size as i64)?;
+        let footer = if *flags & 0x10 != 0 { 10 } else { 0 };
+        self.at = (10 + size + footer).min(self.file.len());
+        Ok(Step::Read)
+    }
+}
+
+impl ReadUnits for AdtsUnits<'_> {
+    fn next_unit<W: Write>(
+        &mut self,
+        alloc: Global,
+        unit: &mut Unit,
+        _out: &mut W,
+    ) -> Result<Step, Error> {
+        let start = self.at;
+        let bytes = self.from(start);
+        if start == 0 && bytes.starts_with(b"ID3".as_slice()) && bytes.len() >= 10 {
+            return self.read_tag(unit);
+        }
+        // A tag of ID3v1 may end the file.
+        let is_tag = bytes.len() == 128 && bytes.starts_with(b"TAG".as_slice());
+        if bytes.is_empty() || is_tag {
+            return Ok(Step::End);
+        }
+        unit.begin("frame", start as u64);
+        let mut frames = adts::Frames::over(bytes);
+        let read = frames.next_frame(&mut unit.elements);
+        unit.move_places(start as u64);
+        self.at = match &read {
+            Ok(_) => self.file.len().saturating_sub(frames.rest().len()),
+            Err(_) => self.find_frame(start.saturating_add(1)),
+        };
+        Ok(Step::of(alloc, read, 0)?)
+    }
+
+    fn bytes_done(&self) -> u64 {
+        self.at as u64
+    }
+}
+
+/// The blocks of metadata of a FLAC file, and then its frames, each of which is decoded.
+#[derive(Drop)]
+pub struct FlacUnits<'a> {
+    file: &'a [u8],
+    // Whether the samples are written.
+    writes: bool,
+    at: usize,
+    blocks: Option<Blocks<'a>>,
+    decoder: Option<Decoder<'a>>,
+    ended: bool,
+}
+
+impl<'a> FlacUnits<'a> {
+    /// Returns the units of a file, the samples of which are written if `writes` is true.
+    pub fn over(file: &'a [u8], writes: bool) -> FlacUnits<'a> {
+        FlacUnits {
+            file,
+            writes,
+            at: 0,
+            blocks: None,
+            decoder: None,
+            ended: false,
+        }
+    }
+
+    /// Begins with the blocks of metadata.
+    fn begin<W: Write>(
+        &mut self,
+        alloc: Global,
+        unit: &mut Unit,
+        out: &mut W,
+    ) -> Result<Step, Error> {
+        unit.begin("file", 0);
+        match Blocks::over(self.file) {
+            Ok(blocks) => {
+                self.blocks = Some(blocks);
+                self.at = 4;
+                self.read_block(alloc, unit, out)
+            }
+            Err(at) => {
+                self.ended = true;
+                Ok(Step::Refused(Fault::of(alloc, at.bit, at.error)?))
+            }
+        }
+    }
+
+    /// Reads a block of metadata, or the first frame after the last one.
+    fn read_block<W: Write>(
+        &mut self,
+        alloc: Global,
+        unit: &mut Unit,
+        out: &mut W,
+    ) -> Result<Step, Error> {
+        let start = self.at;
+        unit.begin("block", start as u64);
+        let next = match &mut self.blocks {
+            Some(blocks) => blocks.next_block(),
+            None => Ok(None),
+        };
+        match next {
+            Ok(Some(block)) => {
+                self.at = start.saturating_add(4).saturating_add(block.bytes.len());
+                note_block(alloc, unit, start as u64, block)?;
+                Ok(Step::Read)
+            }
+            Ok(None) => {
+                self.blocks = None;
+                match Decoder::with_md5(alloc, self.file) {
+                    Ok(decoder) => {
+                        self.decoder = Some(decoder);
+                        self.read_frame(alloc, unit, out)
+                    }
+                    Err(at) => {
+                        self.ended = true;
+                        let bit = at.bit.saturating_sub((start as u64).saturating_mul(8));
+                        Ok(Step::Refused(Fault::of(alloc, bit, at.error)?))
+                    }
+                }
+            }
+            Err(at) => {
+                self.ended = true;
+                let bit = at.bit.saturating_sub((start as u64).saturating_mul(8));
+                Ok(Step::Refused(Fault::of(alloc, bit, at.error)?))
+            }
+        }
+    }
+
+    /// Decodes a frame.
+    fn read_frame<W: Write>(
+        &mut self,
+        alloc: Global,
+        unit: &mut Unit,
+        out: &mut W,
+    ) -> Result<Step, Error> {
+        let start = self.at;
+        unit.begin("frame", start as u64);
+        let Some(decoder) = &mut self.decoder else {
+            return Ok(Step::End);
+        };
+        let read = decoder.next_frame(alloc);
+        self.at = self.file.len().saturating_sub(decoder.rest().len());
+        match read {
+            Ok(Some(frame)) => {
+                note_frame(alloc, unit, (start as u64).saturating_mul(8), &frame)?;
+                if self.writes {
+                    let mut bytes = Vec::new(alloc);
+                    frame.append_pcm(&mut bytes)?;
+                    out.write_all(bytes.as_slice())?;
+                }
+                Ok(Step::Read)
+            }
+            Ok(None) => Ok(Step::End),
+            Err(at) => {
+                self.ended = true;
+                let bit = at.bit.saturating_sub((start as u64).saturating_mul(8));
+                Ok(Step::Refused(Fault::of(alloc, bit, at.error)?))
+            }
+        }
+    }
+}
+
+impl ReadUnits for FlacUnits<'_> {
+    fn next_unit<W: Write>(
+        &mut self,
+        alloc: Global,
+        unit: &mut Unit,
+        out: &mut W,
+    ) -> Result<Step, Error> {
+        if self.ended || self.file.is_empty() {
+            Ok(Step::End)
+        } else if self.at == 0 {
+            self.begin(alloc, unit, out)
+        } else if self.decoder.is_some() {
+            self.read_frame(alloc, unit, out)
+        } else {
+            self.read_block(alloc, unit, out)
+        }
+    }
+
+    fn bytes_done(&self) -> u64 {
+        self.at as u64
+    }
+}
+
+/// Returns the number of some bytes, the highest first, or 0 if they end early.
+fn big(bytes: &[u8], at: usize, count: usize) -> u64 {
+    let mut number = 0u64;
+    for byte in bytes.get(at..).unwrap_or(&[]).iter().take(count) {
+        number = (number & 0xff_ffff_ffff_ffff) << 8 | *byte as u64;
+    }
+    number
+}
+
+/// Returns the number of four bytes, the highest first, or 0 if they end early.
+fn length_at(bytes: &[u8], at: usize) -> usize {
+    match bytes.get(at..).unwrap_or(&[]).first_chunk::<4>() {
+        Some(four) => u32::from_be_bytes(*four) as usize,
+        None => 0,
+    }
+}
+
+/// Notes a block of metadata that begins at a byte.
+fn note_block(
+    alloc: Global,
+    unit: &mut Unit,
+    start: u64,
+    block: Block<'_>,
+) -> Result<(), AllocError> {
+    let place = start.saturating_mul(8);
+    unit.push(place.saturating_add(1), "block_type", block.kind as i64)?;
+    unit.push(
+        place.saturating_add(8),
+        "block_length",
+        block.bytes.len() as i64,
+    )?;
+    let place = place.saturating_add(32);
+    match block.kind {
+        0 => {
+            unit.kind = "STREAMINFO";
+            note_stream_info(alloc, unit, place, block.bytes)
+        }
+        1 => {
+            unit.kind = "PADDING";
+            Ok(())
+        }
+        2 => {
+            unit.kind = "APPLICATION";
+            unit.push(
+                place,
+                "application_id",
+                big(block.bytes, 0, 4).cast_signed(),
+            )
+        }
+        3 => {
+            unit.kind = "SEEKTABLE";
+            note_seek_points(unit, place, block.bytes)
+        }
+        4 => {
+            unit.kind = "VORBIS_COMMENT";
+            note_comments(alloc, unit, block.bytes)
+        }
+        5 => {
+            unit.kind = "CUESHEET";
+            Ok(())
+        }
+        6 => {
+            unit.kind = "PICTURE";
+            note_picture(alloc, unit, place, block.bytes)
+        }
+        _ => Ok(()),
+    }
+}
+
+/// Notes what STREAMINFO says.
+fn note_stream_info(
+    alloc: Global,
+    unit: &mut Unit,
+    place: u64,
+    bytes: &[u8],
+) -> Result<(), AllocError> {
+    let Ok(info) = StreamInfo::parse(bytes) else {
+        return Ok(());
+    };
+    let fields = [
+        (0, "minimum_block_size", info.minimum_block_size as i64),
+        (16, "maximum_block_size", info.maximum_block_size as i64),
+        (32, "minimum_frame_size", info.minimum_frame_size as i64),
+        (56, "maximum_frame_size", info.maximum_frame_size as i64),
+        (80, "sample_rate", info.sample_rate as i64),
+        (100, "channels", info.channels.get() as i64),
+        (103, "bits_per_sample", info.bits_per_sample.get() as i64),
+        (108, "total_samples", info.total_samples.cast_signed()),
+    ];
+    for (at, name, value) in fields {
+        unit.push(place.saturating_add(at), name, value)?;
+    }
+    let mut digits = String::new(alloc);
+    for byte in info.checksum {
+        let text = format!(in alloc; "{byte:02x}")?;
+        digits.push_str(text.as_str())?;
+    }
+    unit.note_text("MD5", None, digits)
+}
+
+/// Notes the points of a seek table.
+fn note_seek_points(unit: &mut Unit, place: u64, bytes: &[u8]) -> Result<(), AllocError> {
+    for (at, point) in bytes.chunks_exact(18).enumerate() {
+        let place = place.saturating_add((at as u64).saturating_mul(144));
+        unit.push(place, "sample_number", big(point, 0, 8).cast_signed())?;
+        unit.push(
+            place.saturating_add(64),
+            "stream_offset",
+            big(point, 8, 8).cast_signed(),
+        )?;
+        unit.push(
+            place.saturating_add(128),
+            "frame_samples",
+            big(point, 16, 2).cast_signed(),
+        )?;
+    }
+    Ok(())
+}
+
+/// Splits bytes after a text with its length before it. Returns the text and the rest, or `None` if the bytes end early.
+fn split_text(bytes: &[u8]) -> Option<(&[u8], &[u8])> {
+    let (length, rest) = bytes.split_first_chunk::<4>()?;
+    rest.split_at_checked(u32::from_le_bytes(*length) as usize)
+}
+
+/// Notes the texts of a Vorbis comment.
+fn note_comments(alloc: Global, unit: &mut Unit, bytes: &[u8]) -> Result<(), AllocError> {
+    let Some((vendor, rest)) = split_text(bytes) else {
+        return Ok(());
+    };
+    unit.note_text("vendor", None, String::from_utf8_lossy(alloc, vendor)?)?;
+    let mut rest = rest.get(4..).unwrap_or(&[]);
+    for index in 0..u32::MAX {
+        let Some((text, after)) = split_text(rest) else {
+            break;
+        };
+        unit.note_text(
+            "comment",
+            Some(index),
+            String::from_utf8_lossy(alloc, text)?,
+        )?;
+        rest = after;
+    }
+    Ok(())
+}
+
+/// Notes the kind and the sizes of a picture.
+fn note_picture(
+    alloc: Global,
+    unit: &mut Unit,
+    place: u64,
+    bytes: &[u8],
+) -> Result<(), AllocError> {
+    unit.push(place, "picture_type", big(bytes, 0, 4).cast_signed())?;
+    let media = length_at(bytes, 4);
+    let at = media.saturating_add(8);
+    let text = length_at(bytes, at);
+    let sizes = at.saturating_add(4).saturating_add(text);
+    let media = bytes.get(8..at).unwrap_or(&[]);
+    unit.note_text("media_type", None, String::from_utf8_lossy(alloc, media)?)?;
+    let names = ["width", "height", "color_depth", "colors", "data_length"];
+    for (number, name) in names.iter().enumerate() {
+        let at = sizes.saturating_add(number.saturating_mul(4));
+        let place = place.saturating_add((at as u64).saturating_mul(8));
+        unit.push(place, *name, big(bytes, at, 4).cast_signed())?;
+    }
+    Ok(())
+}
+
+/// Notes the header of a frame that begins at a bit.
+fn note_frame(alloc: Global, unit: &mut Unit, place: u64, frame: &Frame) -> Result<(), AllocError> {
+    let header = frame.header;
+    let fields = [
+        (15, "blocking_strategy", i64::from(header.variable)),
+        (16, "block_size", i64::from(header.block_size)),
+        (20, "sample_rate", i64::from(header.sample_rate)),
+        (24, "channels", i64::from(header.channels.count())),
+        (28, "bits_per_sample", i64::from(header.bits_per_sample)),
+        (32, "coded_number", header.number.cast_signed()),
+    ];
+    for (at, name, value) in fields {
+        unit.push(place.saturating_add(at), name, value)?;
+    }
+    let coding = match header.channels {
+        Channels::Independent(_) => "independent",
+        Channels::LeftSide => "left/side",
+        Channels::SideRight => "side/right",
+        Channels::MidSide => "mid/side",
+    };
+    unit.note_text("stereo", None, String::from_str(alloc, coding)?)
+}

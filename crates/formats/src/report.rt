@@ -1,0 +1,99 @@
+//! What is reported on standard error: how far a run is, and what was refused.
+
+use crate::unit::{Fault, Unit};
+use std::io;
+use std::io::{Read, Write};
+
+/// Reports how far a run is, a hundredth at a time, in one line that it overwrites, and what was refused.
+#[derive(Drop)]
+pub struct Report<P: Write> {
+    out: P,
+    // Whether progress is shown.
+    shown: bool,
+    total: u64,
+    // The hundredths that were shown.
+    told: u64,
+}
+
+impl<P: Write> Report<P> {
+    /// Returns a report over `total` bytes. It shows no progress if it is not `shown`.
+    pub fn new(out: P, shown: bool, total: u64) -> Report<P> {
+        Report {
+            out,
+            shown: shown && total > 0,
+            total,
+            told: 0,
+        }
+    }
+
+    /// Shows that so many bytes were read.
+    pub fn done(&mut self, bytes: u64) {
+        if !self.shown || self.total == 0 {
+            return;
+        }
+        let hundredths = (100 * bytes as u128 / self.total as u128).min(100) as u64;
+        if hundredths > self.told {
+            self.told = hundredths;
+            let _ = write!(self.out, "\r{hundredths} %");
+        }
+    }
+
+    /// Clears the line, if progress is shown.
+    pub fn clear(&mut self) {
+        if self.shown {
+            self.told = 0;
+            let _ = write!(self.out, "\r     \r");
+        }
+    }
+
+    /// Reports a unit that was refused.
+    pub fn refused(&mut self, file: &str, number: u64, unit: &Unit, fault: &Fault) {
+        self.clear();
+        let _ = writeln!(
+            self.out,
+            "formats: {file}: unit {number}, byte {}, bit {}: {}",
+            unit.byte,
+            fault.bit,
+            fault.text.as_str()
+        );
+    }
+
+    /// Returns the writer.
+    pub fn into_inner(self) -> P {
+        self.out
+    }
+
+    /// Reports something of a file.
+    pub fn say(&mut self, file: &str, text: &str) {
+        self.clear();
+        let _ = writeln!(self.out, "formats: {file}: {text}");
+    }
+}
+
+/// A reader that reports how much of it was read.
+#[derive(Drop)]
+pub struct Watched<R: Read, P: Write> {
+    reader: R,
+    report: Report<P>,
+    done: u64,
+}
+
+impl<R: Read, P: Write> Watched<R, P> {
+    /// Returns a reader that reports what is read of another one.
+    pub fn new(reader: R, report: Report<P>) -> Watched<R, P> {
+        Watched {
+            reader,
+            report,
+            done: 0,
+        }
+    }
+}
+
+impl<R: Read, P: Write> Read for Watched<R, P> {
+    fn read(&mut self, buf: &mut [u8]) -> io::Result<usize> {
+        let count = self.reader.read(buf)?;
+        self.done = self.done.saturating_add(count as u64);
+        self.report.done(self.done);
+        Ok(count)
+    }
+}

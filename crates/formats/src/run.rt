@@ -1,0 +1,164 @@
+//! A whole call of the program.
+
+use crate::command::{Command, decode, play, show};
+use crate::damaged::play_damaged;
+use crate::help::{HELP, VERSION, help_of};
+use crate::options::{Call, Options, Usage, parse};
+use crate::print::Printer;
+use crate::readers::compressed::GzipUnits;
+use crate::report::{Report, Watched};
+use crate::rows::play_rows;
+use crate::status::{Status, USAGE};
+use anyhow::Error;
+use std::fs::File;
+use std::io::{BufWriter, ErrorKind, IsTerminal, Read, Write};
+use std::{env, io};
+
+/// The bytes that are written at once.
+const OUT: usize = 65536;
+
+/// Returns the program's arguments, without its name.
+fn words(rt: &HostRuntime) -> io::Result<Vec<String>> {
+    let mut words = Vec::new(rt.alloc());
+    for word in env::args(rt)?.skip(1) {
+        words.push(word)?;
+    }
+    Ok(words)
+}
+
+/// Does what the arguments ask for, and returns the exit status.
+pub fn run(rt: &HostRuntime) -> io::Result<u8> {
+    let words = words(rt)?;
+    match parse(rt.alloc(), words.as_slice()) {
+        Ok(call) => answer(rt, call),
+        Err(usage) => {
+            refuse(rt, usage)?;
+            Ok(USAGE)
+        }
+    }
+}
+
+/// Reports why a call is refused.
+fn refuse(rt: &HostRuntime, usage: Usage) -> io::Result<()> {
+    match usage {
+        Usage::NoCommand(word) => eprintln!(rt; "formats: no command {}", word.as_str())?,
+        Usage::NoOption(word) => eprintln!(rt; "formats: no option {}", word.as_str())?,
+        Usage::NoValue(word) => eprintln!(rt; "formats: no name after {}", word.as_str())?,
+        Usage::NoFile => eprintln!(rt; "formats: no file is named, or too many are")?,
+        Usage::NoElements => eprintln!(rt; "formats: this command has no options")?,
+        Usage::NoMemory => eprintln!(rt; "formats: out of memory")?,
+    }
+    eprintln!(rt; "formats: `formats --help` prints how it is called")
+}
+
+/// Does what a call asks for, and returns the exit status.
+fn answer(rt: &HostRuntime, call: Call) -> io::Result<u8> {
+    match call {
+        Call::Help => print!(rt; "{HELP}")?,
+        Call::HelpOf(command) => print!(rt; "{}", help_of(command))?,
+        Call::Version => print!(rt; "{VERSION}")?,
+        Call::Rows(list) => return end(rt, play_rows(rt, list.as_str())),
+        Call::Damaged(command, path) => return end(rt, play_damaged(rt, command, path.as_str())),
+        Call::Read(command, options, files) => {
+            return read_files(rt, command, options, files.as_slice());
+        }
+    }
+    Ok(0)
+}
+
+/// Reports an error, and returns the exit status.
+fn end(rt: &HostRuntime, done: Result<(), Error>) -> io::Result<u8> {
+    match done {
+        Ok(()) => Ok(0),
+        Err(error) => {
+            eprintln!(rt; "formats: {error}")?;
+            Ok(Status::Refused.code())
+        }
+    }
+}
+
+/// Plays a command over files, and returns the exit status of the worst.
+fn read_files(
+    rt: &HostRuntime,
+    command: Command,
+    options: Options,
+    files: &[String],
+) -> io::Result<u8> {
+    let mut printer = Printer::new(rt.alloc(), options);
+    let mut out = BufWriter::with_capacity(rt.alloc(), OUT, io::writer(rt))?;
+    let mut status = Status::Read;
+    for file in files {
+        match read_file(rt, command, file.as_str(), &mut printer, &mut out) {
+            Ok(read) => status = status.max(read),
+            Err(error) => {
+                status = Status::Failed;
+                eprintln!(rt; "formats: {}: {error}", file.as_str())?;
+            }
+        }
+    }
+    match out.flush() {
+        Ok(()) => Ok(status.code()),
+        Err(error) if error.kind() == ErrorKind::BrokenPipe => Ok(Status::Failed.code()),
+        Err(error) => {
+            eprintln!(rt; "formats: {error}")?;
+            Ok(Status::Failed.code())
+        }
+    }
+}
+
+/// Plays a command over a file, or over standard input.
+fn read_file<W: Write + Drop>(
+    rt: &HostRuntime,
+    command: Command,
+    name: &str,
+    printer: &mut Printer,
+    out: &mut W,
+) -> Result<Status, Error> {
+    if name == "-" {
+        return read_from(rt, command, name, rt.stdin(), 0, printer, out);
+    }
+    let file = File::open(rt, name)?;
+    let length = file.metadata()?.len();
+    read_from(rt, command, name, file, length, printer, out)
+}
+
+/// Plays a command over a reader of so many bytes, or 0 if it is not known.
+fn read_from<R: Read + Drop, W: Write>(
+    rt: &HostRuntime,
+    command: Command,
+    name: &str,
+    reader: R,
+    length: u64,
+    printer: &mut Printer,
+    out: &mut W,
+) -> Result<Status, Error> {
+    let alloc = rt.alloc();
+    let shown = rt.stderr().is_terminal() && !rt.stdout().is_terminal();
+    let mut report = Report::new(rt.stderr(), shown, length);
+    let mut reader = Watched::new(reader, Report::new(rt.stderr(), shown, length));
+    let done = match command {
+        Command::Gunzip => {
+            let mut units = GzipUnits::over(alloc, reader)?;
+            decode(alloc, name, &mut units, out, &mut report)
+        }
+        Command::GzipHeaders => {
+            let mut units = GzipUnits::over(alloc, reader)?;
+            show(alloc, name, &mut units, printer, out, &mut report)
+        }
+        _ => {
+            let mut file = Vec::new(alloc);
+            reader.read_to_end(&mut file)?;
+            play(
+                alloc,
+                command,
+                name,
+                file.as_slice(),
+                printer,
+                out,
+                &mut report,
+            )
+        }
+    };
+    report.clear();
+    done
+}

@@ -1,0 +1,179 @@
+//! Units of a file: where each is, and its elements.
+
+use anyhow::Error;
+use bitstream_formats::at::At;
+use bitstream_formats::element::Element;
+use std::alloc::{AllocError, Global};
+use std::fmt::Display;
+use std::io::Write;
+
+/// The value of a note.
+#[derive(Drop)]
+pub enum NoteValue {
+    /// A number.
+    Number(i64),
+    /// A text.
+    Text(String),
+}
+
+/// A fact about a unit that is no element of the format's document: it follows from elements, or is a text.
+#[derive(Drop)]
+pub struct Note {
+    /// Its name.
+    pub name: &'static str,
+    /// Its number, of several notes of one name.
+    pub index: Option<u32>,
+    /// Its value.
+    pub value: NoteValue,
+}
+
+/// A unit of a file: a NAL unit, an OBU, a frame, a page, a packet, a block or a member.
+#[derive(Drop)]
+pub struct Unit {
+    /// What it is.
+    pub kind: &'static str,
+    /// The place of its first byte in the file.
+    pub byte: u64,
+    /// Its elements, as far as they were read.
+    pub elements: Vec<Element>,
+    /// What is known of it beyond its elements.
+    pub notes: Vec<Note>,
+}
+
+impl Unit {
+    /// Returns a unit with no element.
+    pub fn new(alloc: Global) -> Unit {
+        Unit {
+            kind: "unit",
+            byte: 0,
+            elements: Vec::new(alloc),
+            notes: Vec::new(alloc),
+        }
+    }
+
+    /// Makes the unit one with no element, at a byte of the file.
+    pub fn begin(&mut self, kind: &'static str, byte: u64) {
+        self.kind = kind;
+        self.byte = byte;
+        self.elements.clear();
+        self.notes.clear();
+    }
+
+    /// Returns the value of the first element of a name.
+    pub fn value_of(&self, name: &str) -> Option<i64> {
+        for element in self.elements.as_slice() {
+            if element.name == name {
+                return Some(element.value);
+            }
+        }
+        None
+    }
+
+    /// Appends an element.
+    pub fn push(&mut self, place: u64, name: &'static str, value: i64) -> Result<(), AllocError> {
+        self.elements.push(Element {
+            place,
+            name,
+            index: None,
+            value,
+        })?;
+        Ok(())
+    }
+
+    /// Notes a number.
+    pub fn note(&mut self, name: &'static str, value: i64) -> Result<(), AllocError> {
+        self.notes.push(Note {
+            name,
+            index: None,
+            value: NoteValue::Number(value),
+        })?;
+        Ok(())
+    }
+
+    /// Notes a text.
+    pub fn note_text(
+        &mut self,
+        name: &'static str,
+        index: Option<u32>,
+        text: String,
+    ) -> Result<(), AllocError> {
+        self.notes.push(Note {
+            name,
+            index,
+            value: NoteValue::Text(text),
+        })?;
+        Ok(())
+    }
+
+    /// Moves the places of all elements by some bytes.
+    pub fn move_places(&mut self, bytes: u64) {
+        for element in self.elements.as_mut_slice() {
+            element.place = element.place.saturating_add(bytes.saturating_mul(8));
+        }
+    }
+}
+
+/// The reason why a unit was refused.
+#[derive(Drop)]
+pub struct Fault {
+    /// The bit in the unit at which the reader was.
+    pub bit: u64,
+    /// What is wrong.
+    pub text: String,
+}
+
+impl Fault {
+    /// Returns the fault of an error at a bit of the unit.
+    pub fn of<E: Display + Drop>(alloc: Global, bit: u64, error: E) -> Result<Fault, AllocError> {
+        Ok(Fault {
+            bit,
+            text: format!(in alloc; "{error}")?,
+        })
+    }
+}
+
+/// What came of a unit.
+#[derive(Drop)]
+pub enum Step {
+    /// It was read.
+    Read,
+    /// It was refused.
+    Refused(Fault),
+    /// It is no unit, and was ignored.
+    Warned(Fault),
+    /// There is no unit left.
+    End,
+}
+
+impl Step {
+    /// Returns the step of a unit that was read, or refused at a bit that counts from `start`.
+    pub fn of<T: Drop, E: Display + Drop>(
+        alloc: Global,
+        read: Result<T, At<E>>,
+        start: u64,
+    ) -> Result<Step, AllocError> {
+        match read {
+            Ok(_) => Ok(Step::Read),
+            Err(At { bit, error }) => Ok(Step::Refused(Fault::of(
+                alloc,
+                bit.saturating_sub(start),
+                error,
+            )?)),
+        }
+    }
+}
+
+/// Units that are read one after the other.
+pub trait ReadUnits {
+    /// Reads the next unit, and writes to `out` what a decoder finds in it. After a unit that is refused the next call
+    /// goes on with the next unit that can be found.
+    fn next_unit<W: Write>(
+        &mut self,
+        alloc: Global,
+        unit: &mut Unit,
+        out: &mut W,
+    ) -> Result<Step, Error>;
+
+    /// Returns how many bytes of the file were read.
+    fn bytes_done(&self) -> u64;
+}
