@@ -117,7 +117,7 @@ room_less place (suc room) some enough =
     ∙ ap (λ n. place * n) (mul_comm 128 (128 ^ room) ∙ sym (pow-suc 128 room)) in
     rw (one, same) enough
 
--- a byte and the groups behind it
+-- a byte, and the groups after it
 pub groups_own : {R : Type 0} {K : BitSource R} {s t : R} {r : Result ℕ Av1Error} (o : Order) (room place value : ℕ)
     → 0 < room
     → ReadsOwn K becomes_av1 (chain (unsigned_entry o 64 8) (λ byte.

@@ -80,7 +80,7 @@ impl<'a> Decoder<'a> {
     }
 
     /// Reads the metadata of a file, and computes the MD5 of the samples as they are decoded. At the end of the
-    /// file it is compared with that of STREAMINFO, unless that is 0, which stands for unknown.
+    /// file it is compared with that of STREAMINFO, unless that is 0, which means unknown.
     ///
     /// # Errors
     ///
