@@ -1,4 +1,5 @@
-//! Formats of audio, video, transport and compression, read from bytes in memory over `bitstream_io`.
+//! Formats of audio, video, transport and compression, read over `bitstream_io`: from bytes in memory, and
+//! by `deflate` from any reader.
 //!
 //! What is wrong with some bytes is an error of the format's own, with the bit at which the reader
 //! stood ([`at::At`]). Nothing is asked of the bytes, and a length or a count that they say takes no
