@@ -1,60 +1,21 @@
 """Enums: a field whose number names a case."""
-import re
-
-from examples import Answer, listed, of_size, whole
-from lines import Line, kind, list_term
+from describing.model import snake
+from lines import Line, list_term
 from loops import WrittenInLoop
-from source import Refused, number
-
-
-def snake(name):
-    return re.sub(r"(?<!^)(?=[A-Z])", "_", name).lower()
 
 
 class Enum(Line):
     """A line NAME enum TYPE BITS: NUMBER CASE, .. [, .. CASE]; DOC. The case behind `..` has all other numbers."""
 
-    unfolds, long = ("unsigned", "unsigned_entry"), 4
-    alone = True  # whether its numbers are read one by one
+    unfolds = ("unsigned", "unsigned_entry")
+    repeats = False  # whether a line before it has its cases
     within = ""  # the part that it is of: its cases are called so in the rows
     shared = ()  # the cases whose names something else has in specs: there they begin with the enum's name
 
-    def __init__(self, name, words, said):
-        self.repeats = not re.match(r"\s*(\d|\.\.)", said)  # whether a line before it has its cases
-        cases, _, self.doc = ("", "", said) if self.repeats else said.partition(";")
-        self.name, self.enum, self.other, self.cases, self.error = name, words[1], "", [], ""
-        self.type = self.kind = self.enum
-        self.wide, self.doc = number(words[2], 1, 32, "the width of an enum"), self.doc.strip()
-        self.s = snake(self.enum)
-        self.width = next(it for it in (8, 16, 32) if it >= self.wide)
-        for it in [] if self.repeats else cases.split(","):
-            value, case = it.split()
-            if value == "..":
-                self.other = case
-            else:
-                self.cases.append((number(value, 0, 2**self.wide - 1, "the number of a case"), case))
-        if not self.repeats:
-            self.check_cases()
-
-    def check_cases(self):
-        """Refuses cases that do not go together."""
-        if len(dict(self.cases)) < len(self.cases):
-            raise Refused("two cases have one number")
-        if len(set(self.case_names())) < len(self.case_names()):
-            raise Refused("two cases have one name, or one has that of the enum")
-        if len(self.cases) == 2**self.wide and self.other:
-            raise Refused("no number is left for the other case")
-        self.error = "" if self.other else f"No{self.enum}"
-
-    def check(self, before):
-        super().check(before)
-        if self.repeats:
-            first = next((it for it in before if isinstance(it, Enum) and it.enum == self.enum and it.alone), None)
-            if not first:
-                raise Refused(f"no line before it says the cases of `{self.enum}`: `0 CASE, 1 CASE, ..` behind a colon")
-            if first.wide != self.wide:
-                raise Refused(f"`{self.enum}` has {first.wide} bits above")
-            self.cases, self.other, self.error = first.cases, first.other, first.error
+    def __init__(self, it, enum):
+        self.name, self.doc, self.enum, self.other, self.cases = it.name, it.doc, enum.name, enum.other, list(enum.cases)
+        self.type, self.kind, self.error, self.s = enum.name, enum.name, enum.error, snake(enum.name)
+        self.wide, self.width = enum.width, next(it for it in (8, 16, 32) if it >= enum.width)
 
     bits = property(lambda self: self.wide)
     entry = property(lambda self: f"{self.s}_read o")
@@ -74,31 +35,10 @@ class Enum(Line):
     def why(self):
         return f"`{self.name}` is not the number of a case of `{self.enum}`."
 
-    def given(self, said):
-        return self.case_of(said)
-
-    def case_of(self, said):
-        """Gives the case that an example says."""
-        case, opened, held = said.partition("(")
-        if opened and self.other == case and held[-1:] == ")":
-            return f"{case}({whole(self.name, held[:-1])})"
-        if opened or case not in [it for _, it in self.cases]:
-            other = f"; `{case}` is `{case}(NUMBER)`" * (case == self.other)
-            raise Refused(f"`{self.enum}` has no case `{said}`{other}")
-        return case
-
     def term(self, value):
-        case, opened, held = value.rstrip(")").partition("(")
-        return f"{self.within}{self.called(case)}{' ' * bool(opened)}{held}"
-
-    def taken(self, row, before):
-        return self.case_with(row.number(self.wide))
-
-    def case_with(self, number):
-        """Gives the case that a number says."""
-        if number not in dict(self.cases) and self.error:
-            raise Answer(self.error)
-        return dict(self.cases).get(number, f"{self.other}({number})")
+        if isinstance(value, str):
+            return f"{self.within}{self.called(value)}"
+        return f"{self.within}{self.called(self.other)} {value[self.other]}"
 
     def fits(self):
         if not self.other:
@@ -310,9 +250,6 @@ class EachOfEnum(WrittenInLoop, Enum):
         fits = f"All (λ x. ({self.s}_number x < 2 ^ {self.wide}) × ({again})) {self.value}"
         return [(self.name, fits)] if self.other else []
 
-    def given(self, said):
-        return [self.case_of(it) for it in listed(self.name, said, "[CASE CASE]")]
-
     def term(self, value):
         return list_term(value, lambda it: f"({Enum.term(self, it)})")
 
@@ -320,13 +257,11 @@ class EachOfEnum(WrittenInLoop, Enum):
 class EnumItems(EachOfEnum):
     """A line NAME enum TYPE BITS x COUNT: NUMBER CASE, .. [, .. CASE]; DOC. Each says a case once all numbers are read."""
 
-    unfolds, long, alone = ("unsigned", "unsigned_entry", "items_entry"), 6, False
+    unfolds = ("unsigned", "unsigned_entry", "items_entry")
 
-    def __init__(self, name, words, said):
-        super().__init__(name, words, said)
-        if self.repeats:
-            raise Refused("an array says its cases itself: `0 CASE, 1 CASE, ..` behind a colon")
-        self.item, self.count = self.enum, number(words[4], 1, 4096, "the number of items")
+    def __init__(self, it):
+        super().__init__(it, it.item)
+        self.item, self.count = self.enum, it.count
         self.type, self.kind = f"[{self.enum}; {self.count}]", f"List {self.enum}"
 
     bits = property(lambda self: self.wide * self.count)
@@ -358,12 +293,6 @@ class EnumItems(EachOfEnum):
     def missed(self):
         shape = f"_ _ {self.bits} {self.wide} {self.count} {self.order} {self.width} {self.s}_each _"
         return f"part_items-misses {shape} {self.error} refl refl differs refl"
-
-    def given(self, said):
-        return of_size(self.name, super().given(said), self.count, "items")
-
-    def taken(self, row, before):
-        return [self.case_with(it) for it in [row.number(self.wide) for _ in range(self.count)]]
 
     def read_code(self, module):
         error, numbers = module.error if self.error else "Error", f"[u{self.width}; {self.count}]"
@@ -454,8 +383,3 @@ class EnumItems(EachOfEnum):
         own = " ".join(f"{self.s}_{it}" for it in ("of", "number", "each", "read_each"))
         return super().names(module) | {module.specs_path: own}
 
-
-@kind("enum", form="`NAME enum TYPE BITS: NUMBER CASE, ..; DOC`, without cases if a line before it has them, or `NAME enum TYPE BITS x COUNT: NUMBER CASE, ..; DOC`")
-def enum(name, words, said):
-    """A line NAME enum TYPE BITS [x COUNT]: NUMBER CASE, ..; DOC."""
-    return (EnumItems if words[3:4] == ["x"] else Enum)(name, words, said)

@@ -1,33 +1,6 @@
 """The kinds of lines of a description that have a constant number of bits: a class each."""
 import re
 
-from examples import Answer, hexed, numbers, spelled, whole
-from source import Refused, number
-
-KINDS, WORDS = {}, {}
-FORMS = {}  # how a line is spelled, by the word
-
-
-def kind(*words, form):
-    """Lists a class under the words that name its type, behind the name of a field."""
-
-    def listed(made):
-        KINDS.update((word, made) for word in words)
-        FORMS.update((word, form) for word in words)
-        return made
-
-    return listed
-
-
-def starts(word, form):
-    """Lists a class under the word that such a line begins with."""
-
-    def listed(made):
-        WORDS[word], FORMS[word] = made, form
-        return made
-
-    return listed
-
 
 def signed_term(found):
     """Gives a signed number, as specs have it."""
@@ -71,10 +44,7 @@ class Line:
     imports = ()  # paths that the code uses
     unfolds = ()  # what a worked row computes through
     reader_errors = ()  # the reader's errors that its bits answer, but for `EndOfInput`, and when
-    long = 3  # how many words such a line has at most
     held = ""  # the type of its value in code, if it is no field
-    leads, names_later = "", ""  # the word of the line that must follow, and what that describes
-    find = None  # gives what the description of a module says
     # of the proofs: `entry` is the read, `word` the write, `written` that it is accepted and how long it is
     entry = word = written = ""
 
@@ -101,15 +71,15 @@ class Line:
         """Gives how many bytes have all its bits."""
         return -(-(self.at + self.bits) // 8)
 
+    def see(self, before):
+        """Takes what it needs of the lines before it."""
+
     def settle(self):
         """Takes its place: behind `at` bits, if that is a constant."""
 
     def stand(self, at, order):
         """Takes a place and an order."""
         self.at, self.order = at, order
-
-    def check(self, before):
-        """Refuses what does not go with the lines before it."""
 
     def fits(self):
         """Gives the fields of `Fits`."""
@@ -158,15 +128,9 @@ class Line:
         """Gives what stands for it in the picture."""
         return self.name or "0"
 
-    # in an example: what is said of it, that value in terms of specs, and what the bytes say
-    def given(self, said):
-        return whole(self.name, said)
-
+    # the value of an example, in terms of specs
     def term(self, value):
         return str(value)
-
-    def taken(self, row, before):
-        return row.number(self.bits)
 
     # what the module has for it, by what it is: each gives lines of text, or names by the modules that have them
     def declares(self, module):
@@ -199,15 +163,9 @@ class Line:
 class Number(Line):
     """A line NAME TYPE BITS: a number of so many bits."""
 
-    most = 0  # by how many bits it is at least narrower than its type
-
-    def __init__(self, name, words, doc):
-        self.name, self.base, self.doc, self.type = name, words[0], doc, words[0]
-        self.width = int(self.base[1:])
-        self.bits = number(words[1], 1, self.width - self.most, f"the width of a {self.said()}")
-
-    def said(self):
-        return self.base
+    def __init__(self, it, integer):
+        self.name, self.doc, self.base, self.type = it.name, it.doc, integer.base, integer.base
+        self.width, self.bits = int(self.base[1:]), integer.width
 
     def read(self, error):
         return f"reader.read::<Bits<{self.bits}>, {self.type}>()"
@@ -271,18 +229,14 @@ class Signed(Number):
     def term(self, value):
         return signed_term(value)
 
-    def taken(self, row, before):
-        return row.signed(self.bits)
-
-
 class Items(Unsigned):
     """A line NAME TYPE BITS x COUNT: an array."""
 
-    kind, many, unfolds, long = "List ℕ", True, ("unsigned", "unsigned_entry", "items_entry"), 5
+    kind, many, unfolds = "List ℕ", True, ("unsigned", "unsigned_entry", "items_entry")
 
-    def __init__(self, name, words, doc):
-        super().__init__(name, words, doc)
-        self.each, self.count = self.bits, number(words[3], 1, 4096, "the number of items")
+    def __init__(self, it):
+        super().__init__(it, it.item)
+        self.each, self.count = self.bits, it.count
         self.type, self.bits = f"[{self.base}; {self.count}]", self.each * self.count
 
     more = property(lambda self: f"Each below 2^{self.each}." if self.each < self.width else "")
@@ -314,15 +268,8 @@ class Items(Unsigned):
     def found(self, left, behind):
         return f"items-finds _ _ {left} _ {self.each} {self.count} {self.order} {self.width} _ refl refl ({behind})"
 
-    def given(self, said):
-        return numbers(self.name, said, self.count)
-
     def term(self, value):
         return list_term(value)
-
-    def taken(self, row, before):
-        return [row.number(self.each) for _ in range(self.count)]
-
 
 class SignedItems(Items):
     """The same of signed numbers."""
@@ -355,30 +302,13 @@ class SignedItems(Items):
     def term(self, value):
         return list_term(value, signed_term)
 
-    def taken(self, row, before):
-        return [row.signed(self.each) for _ in range(self.count)]
-
-
-@kind("u8", "u16", "u32", "u64", "u128", form="`NAME TYPE BITS` or `NAME TYPE BITS x COUNT`")
-def unsigned(name, words, doc):
-    """A line NAME TYPE BITS [x COUNT]."""
-    return (Items if words[2:3] == ["x"] else Unsigned)(name, words, doc)
-
-
-@kind("i8", "i16", "i32", "i64", "i128", form="`NAME TYPE BITS` or `NAME TYPE BITS x COUNT`")
-def signed(name, words, doc):
-    """The same of signed numbers."""
-    return (SignedItems if words[2:3] == ["x"] else Signed)(name, words, doc)
-
-
-@kind("bool", form="`NAME bool`")
 class Bit(Line):
     """A line NAME bool."""
 
-    type, kind, bits, entry, long = "bool", "Bool", 1, "bit_entry", 2
+    type, kind, bits, entry = "bool", "Bool", 1, "bit_entry"
 
-    def __init__(self, name, words, doc):
-        self.name, self.doc = name, doc
+    def __init__(self, it):
+        self.name, self.doc = it.name, it.doc
 
     word = property(lambda self: f"bit {self.value}")
     written = property(lambda self: f"bit-written {self.value}")
@@ -398,26 +328,16 @@ class Bit(Line):
     def found(self, left, behind):
         return f"bit-finds _ _ {left} _ _ refl ({behind})"
 
-    def given(self, said):
-        if said not in ("true", "false"):
-            raise Refused(f"`{self.name} = {said}`: a bit is `true` or `false`")
-        return said == "true"
-
     def term(self, value):
-        return spelled(value)
+        return str(value).lower()
 
-    def taken(self, row, before):
-        return row.number(1) == 1
-
-
-@kind("bytes", form="`NAME bytes COUNT`")
 class Bytes(Line):
     """A line NAME bytes COUNT."""
 
     kind, unfolds = "List ℕ", ("bytes_entry", "bytes_of")
 
-    def __init__(self, name, words, doc):
-        self.name, self.doc, self.count = name, doc, number(words[1], 1, 4096, "the number of bytes")
+    def __init__(self, it):
+        self.name, self.doc, self.count = it.name, it.doc, it.count
         self.type, self.bits = f"[u8; {self.count}]", 8 * self.count
 
     entry = property(lambda self: f"bytes_entry o {self.count}")
@@ -444,30 +364,16 @@ class Bytes(Line):
     def found(self, left, behind):
         return f"bytes-finds _ _ {left} _ {self.count} {self.order} _ refl ({behind})"
 
-    def given(self, said):
-        return hexed(self.name, said, self.count)
-
     def term(self, value):
         return list_term(value)
-
-    def taken(self, row, before):
-        return bytes(row.number(8) for _ in range(self.count))
-
-
-def not_zero(name, said):
-    """Gives the number that an example says of a `NonZero`."""
-    if whole(name, said) < 1:
-        raise Refused(f"`{name} = {said}`: it is a number from 1 on")
-    return whole(name, said)
-
 
 class Named(Number):
     """A number that stands for a value of a type of std: how it is made of the value is said by the kinds."""
 
-    imports, long = ("std::num::NonZero",), 4
+    imports = ("std::num::NonZero",)
 
-    def __init__(self, name, words, doc):
-        super().__init__(name, words[1:], doc)
+    def __init__(self, it):
+        super().__init__(it, it.integer)
         self.type = self.wraps()
 
     again = property(lambda self: f"{self.lemma}_{self.base}-again {self.value}")
@@ -481,16 +387,14 @@ class Named(Number):
         return f"{self.lemma}-finds _ _ {self.bits} {left} _ {made} _ refl refl ({behind})"
 
 
-@kind("nonzero", form="`NAME nonzero TYPE BITS`")
 class NonZero(Named):
     """A line NAME nonzero TYPE BITS: the number is that of the value, less 1."""
 
-    most, lemma, unfolds = 1, "non_zero", ("unsigned", "unsigned_entry", "non_zero", "non_zero_entry")
+    lemma, unfolds = "non_zero", ("unsigned", "unsigned_entry", "non_zero", "non_zero_entry")
 
     def wraps(self):
         return f"NonZero<{self.base}>"
 
-    said = wraps
     kind = property(lambda self: f"NonZero{self.base.upper()}")
     more = property(lambda self: f"At most 2^{self.bits}.")
     entry = property(lambda self: f"non_zero_{self.base}_entry o {self.bits}")
@@ -508,17 +412,9 @@ class NonZero(Named):
     def place(self, bits):
         return f"non_zero_{self.base} (number {self.order} ({bits}))"
 
-    def given(self, said):
-        return not_zero(self.name, said)
-
     def term(self, value):
         return f"non_zero_{self.base} {value - 1}"
 
-    def taken(self, row, before):
-        return row.number(self.bits) + 1
-
-
-@kind("option", form="`NAME option TYPE BITS`")
 class OptionNonZero(Named):
     """A line NAME option TYPE BITS: 0 stands for no value."""
 
@@ -544,26 +440,16 @@ class OptionNonZero(Named):
     def place(self, bits):
         return f"if_any non_zero_{self.base} (number {self.order} ({bits}))"
 
-    def given(self, said):
-        return None if said == "None" else not_zero(self.name, said)
-
     def term(self, value):
         return "None" if value is None else f"Some (non_zero_{self.base} {value - 1})"
 
-    def taken(self, row, before):
-        return row.number(self.bits) or None
-
-
-@starts("const", "`const BITS VALUE ERROR`")
 class Const(Line):
     """A line const BITS VALUE ERROR."""
 
-    unfolds, long = ("const_entry",), 4
+    unfolds = ("const_entry",)
 
-    def __init__(self, words, doc):
-        self.bits = number(words[1], 1, 32, "the width of a constant")
-        self.number, self.error = number(words[2], 0, 2**self.bits - 1, "the constant"), words[3]
-        self.doc = doc or f"The bits are not {self.number}."
+    def __init__(self, it):
+        self.bits, self.number, self.error, self.doc = it.width, it.value, it.error, it.doc
 
     word = property(lambda self: f"plain (word o {self.bits} {self.number})")
     written = property(lambda self: f"const-written o {self.bits} {self.number}")
@@ -609,19 +495,13 @@ class Const(Line):
         shape = f"_ _ {self.bits} {self.bits} _ {self.order} {self.number} _ refl"
         return f"const-misses {shape} differs (gives-finds _ _ _)"
 
-    def taken(self, row, before):
-        if row.number(self.bits) != self.number:
-            raise Answer(self.error)
-
-
-@starts("any", "`any BITS`")
 class Any(Line):
-    """A line any BITS: written as zeros, and read as any bits."""
+    """A line any BITS or align: written as zeros, and read as any bits."""
 
-    unfolds, long = ("skip_entry",), 2
+    unfolds = ("skip_entry",)
 
-    def __init__(self, words, doc):
-        self.bits, self.doc = number(words[1], 1, 4096, "the number of zeros"), doc
+    def __init__(self, it):
+        self.bits, self.doc = it.width, it.doc
 
     word = property(lambda self: f"zeros {self.bits}")
     written = property(lambda self: f"zeros-written {self.bits}")
@@ -640,32 +520,3 @@ class Any(Line):
 
     def found(self, left, behind):
         return f"skip-finds _ _ {self.bits} {left} _ _ refl ({behind})"
-
-    def taken(self, row, before):
-        if "1" in row.take(self.bits):
-            row.other = f"`{'align' if isinstance(self, Align) else 'any'}` is written as zeros"
-
-
-@starts("align", "`align`")
-class Align(Any):
-    """A line align: up to a whole byte, as counted from the first bit of the format."""
-
-    long = 1
-
-    def __init__(self, words, doc):
-        self.bits, self.doc = 0, doc
-
-    def settle(self):
-        if self.at is None:
-            raise Refused("`align` behind what has no constant number of bits: how many it has is not known")
-        if self.at % 8 == 0:
-            raise Refused(f"nothing to align: {self.at} bits stand before it")
-        self.bits = -self.at % 8
-
-
-@starts("zeros", "`zeros BITS ERROR`")
-def zeros(words, doc):
-    """A line zeros BITS ERROR: other bits are refused."""
-    if len(words) != 3:
-        raise Refused("`zeros BITS ERROR`, or `any BITS` if any bits are read there")
-    return Const(["const", words[1], "0", words[2]], doc)

@@ -1,22 +1,17 @@
 """Lists, whose number of items is read before them: each is a `Vec` of the format's own."""
-import examples
 from enums import EachOfEnum, Enum
-from lines import Line, list_term, signed_term, starts
+from lines import Line, list_term, signed_term
 from loops import WrittenInLoop, placed
 from parts import Part
-from source import Refused, number
-from varying import WHOLE
 
 
-@starts("count", "`count LIST BITS`")
 class Count(Line):
     """A line count LIST BITS: how many items the list of that name has."""
 
-    unfolds, leads, held = ("unsigned", "unsigned_entry"), "list", "u64"
+    unfolds, held = ("unsigned", "unsigned_entry"), "u64"
 
-    def __init__(self, words, doc):
-        self.list, self.name, self.doc = words[1], f"{words[1]}_count", doc
-        self.bits, self.names_later = number(words[2], 1, 32, "the width of a count"), self.list
+    def __init__(self, it):
+        self.list, self.name, self.doc, self.bits = it.target, f"{it.target}_count", it.doc, it.width
 
     length = property(lambda self: f"length value.{self.list}")
     entry = property(lambda self: f"unsigned_entry o 64 {self.bits}")
@@ -47,12 +42,8 @@ class Listed(WrittenInLoop, Line):
     reads = "c.in_{}-read.ensures.reads"  # the clause of the read of an item
     each = ""  # what is said of each item
 
-    def check(self, before):
-        super().check(before)
-        counts = [it for it in before if isinstance(it, Count) and it.list == self.name]
-        if not counts:
-            raise Refused(f"no `count {self.name} BITS` before it")
-        self.bits_of_count = counts[0].bits
+    def see(self, before):
+        self.bits_of_count = next(it.bits for it in before if isinstance(it, Count) and it.list == self.name)
 
     more = property(lambda self: f"Fewer than 2^{self.bits_of_count}{self.each}.")
     count = property(lambda self: f"length {self.value}")
@@ -132,9 +123,6 @@ class Listed(WrittenInLoop, Line):
     def pushed(self):
         """Gives what is known of the list with one item more."""
         return "c.in_ok-push.ensures.items"
-
-    def taken(self, row, before):
-        return [self.taken_item(row) for _ in range(before[f"{self.name}_count"])]
 
     def answers(self, module):
         found = self.own_answers() if self.error else self.list_answers()
@@ -217,11 +205,9 @@ class Numbers(Listed):
 
     kind, unfolds = "List ℕ", ("unsigned", "unsigned_entry", "items_entry")
 
-    def __init__(self, words, doc):
-        self.name, self.item, self.doc, self.long = words[1], words[2], doc, 4
-        self.type = f"Vec<{self.item}>"
-        self.width = int(self.item[1:])
-        self.wide = number(words[3], 1, self.width, f"the width of a {self.item}")
+    def __init__(self, it):
+        self.name, self.doc, self.item, self.wide = it.name, it.doc, it.item.base, it.item.width
+        self.type, self.width = f"Vec<{self.item}>", int(self.item[1:])
 
     each = property(lambda self: f", each below 2^{self.wide}" if self.wide < self.width else "")
     size = property(lambda self: f"{self.count} * {self.wide}")
@@ -249,15 +235,8 @@ class Numbers(Listed):
         shape = f"({self.stored}) ({self.item_writes}) ({self.count}) {self.value}"
         return f"each-back _ _ {shape} _ refl {each} ({behind})"
 
-    def given(self, said):
-        return examples.numbers(self.name, said)
-
     def term(self, value):
         return list_term(value)
-
-    def taken_item(self, row):
-        return row.number(self.wide)
-
 
 class SignedNumbers(Numbers):
     """The same of signed numbers."""
@@ -291,18 +270,14 @@ class SignedNumbers(Numbers):
     def term(self, value):
         return list_term(value, signed_term)
 
-    def taken_item(self, row):
-        return row.signed(self.wide)
-
-
 class Bytes(Listed):
     """A line list NAME bytes."""
 
-    kind, type, item, unfolds, long = "List ℕ", "Vec<u8>", "u8", ("bytes_entry", "bytes_of"), 3
+    kind, type, item, unfolds = "List ℕ", "Vec<u8>", "u8", ("bytes_entry", "bytes_of")
     many = False
 
-    def __init__(self, words, doc):
-        self.name, self.doc = words[1], doc
+    def __init__(self, it):
+        self.name, self.doc = it.name, it.doc
 
     size = property(lambda self: f"8 * {self.count}")
     entry = property(lambda self: f"vec_entry o {self.name}_count")
@@ -324,14 +299,8 @@ class Bytes(Listed):
     def back(self, behind):
         return f"vec-back _ _ o ({self.count}) {self.value} _ refl fits.{self.name} ({behind})"
 
-    def given(self, said):
-        return examples.hexed(self.name, said)
-
     def term(self, value):
         return list_term(value)
-
-    def taken(self, row, before):
-        return bytes(row.number(8) for _ in range(before[f"{self.name}_count"]))
 
     def declares(self, module):
         return []
@@ -346,12 +315,12 @@ class Bytes(Listed):
 class Enums(Listed, EachOfEnum):
     """A line list NAME enum TYPE BITS: NUMBER CASE, .. [, .. CASE]; DOC."""
 
-    reads, long = "c.in_{}-read.ensures", 5
+    reads = "c.in_{}-read.ensures"
     unfolds = property(lambda self: ("unsigned", "unsigned_entry", self.all_items))
     bits = None
 
-    def __init__(self, words, said):
-        Enum.__init__(self, words[1], words[2:], said)
+    def __init__(self, it):
+        Enum.__init__(self, it, it.item)
         self.item, self.type, self.kind = self.enum, f"Vec<{self.enum}>", f"List {self.enum}"
 
     size = property(lambda self: f"{self.count} * {self.wide}")
@@ -373,15 +342,10 @@ class Enums(Listed, EachOfEnum):
     def answers(self, module):
         return Enum.answers(self, module) | Listed.answers(self, module)
 
-    def taken_item(self, row):
-        return Enum.taken(self, row, {})
-
-
 class Parts(Listed, Part):
     """A line list NAME TYPE of MODULE: parts that have a description of their own."""
 
-    reads, writes, counts, long = "c.in_{}-read.ensures", "c.in_{}-write.ensures", False, 5
-    may_grow = False
+    reads, writes, counts = "c.in_{}-read.ensures", "c.in_{}-write.ensures", False
 
     stops = property(lambda self: bool(self.theirs))
     mapped = stops
@@ -390,8 +354,8 @@ class Parts(Listed, Part):
         super().settle()
         self.grows = True
 
-    def __init__(self, words, doc):
-        Part.__init__(self, words[1:], doc)
+    def __init__(self, it):
+        Part.__init__(self, it, it.item)
         self.item, self.type, self.kind = self.part, f"Vec<{self.part}>", f"List {self.part}"
 
     @property
@@ -440,23 +404,5 @@ class Parts(Listed, Part):
     def answers(self, module):
         return Part.answers(self, module) | Listed.answers(self, module)
 
-    def given(self, said):
-        return [Part.given(self, it) for it in examples.listed(self.name, said, "[(FIELD = VALUE, ..) ..]")]
-
     def term(self, value):
         return list_term(value, lambda it: f"({Part.term(self, it)})")
-
-    def taken_item(self, row):
-        return Part.taken(self, row, {})
-
-
-@starts("list", "`list NAME TYPE BITS`, `list NAME bytes`, `list NAME enum TYPE BITS: ..` or `list NAME TYPE of MODULE`")
-def listed(words, doc):
-    """A line list NAME TYPE BITS, list NAME bytes, list NAME enum TYPE BITS: .., or list NAME TYPE of MODULE."""
-    if words[3:4] == ["of"]:
-        return Parts(words, doc)
-    if words[2] in ("bytes", "enum"):
-        return (Bytes if words[2] == "bytes" else Enums)(words, doc)
-    if words[2] not in WHOLE:
-        raise Refused(f"`{words[2]}` in a list: take u8 to u128, i8 to i128, bytes, an enum, or a part")
-    return (Numbers if words[2][0] == "u" else SignedNumbers)(words, doc)

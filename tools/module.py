@@ -1,4 +1,6 @@
 """What is printed for a format: the code, the specs and the proofs."""
+from describing.examples import vectors
+from from_model import lines_of
 from names import merged, spec_of
 from writes_code import Code
 from writes_proofs import Proofs
@@ -11,11 +13,12 @@ LONG, EACH = 16, 8
 
 
 class Module(Code, Specs, Proofs):
-    def __init__(self, crate, module, said, lines):
-        self.crate, self.m, self.lines, self.total = crate, module, lines, said["total"]
-        self.type, self.doc, self.error, self.examples = said["name"], said["doc"], said["error"], said["examples"]
-        self.made = f"Made by `./format` from {said['from']}: edit that file and make this one anew."
-        self.order, self.o = said["order"], {"BE": "High", "LE": "Low"}[said["order"]]
+    def __init__(self, crate, module, said, path):
+        lines = lines_of(said)
+        self.description, self.crate, self.m, self.lines, self.total = said, crate, module, lines, said.bits
+        self.type, self.doc, self.error, self.examples = said.name, said.doc, said.error, vectors(said)
+        self.made = f"Made by `./format` from {path}: edit that file and make this one anew."
+        self.order, self.o = said.order, {"BE": "High", "LE": "Low"}[said.order]
         self.grows = any(it.grows for it in lines)  # whether its read asks for memory
         self.own, self.sized, self.e = bool(self.error) or self.grows, self.total is not None, self.error or "Error"
         self.becomes_name = f"becomes_{module}" if self.error else "same_error"

@@ -1,44 +1,33 @@
 """Parts that have a description of their own, which may be there or not."""
-from enums import Enum, snake
-from examples import Answer, Some, fields, taken
-from lines import Line, starts
+from describing.model import snake
+from enums import Enum
+from lines import Line
 from names import article, merged, spec_of
-from source import Refused, number
 
 
 class Part(Line):
     """A line NAME TYPE of MODULE: a part that has a description of its own."""
 
-    many, long = True, 4
+    many = True
     counts = True  # whether its bits are those of its lines
     theirs, cases = "", ()  # its error, and the cases of that
-    may_grow = True  # whether it may have a list
-    some = ""  # what an example says before the fields
     described = ()  # its lines
 
-    def __init__(self, words, doc):
-        if words[2:3] != ["of"]:
-            raise Refused("`NAME TYPE of MODULE`")
-        self.name, self.part, self.module, self.doc = words[0], words[1], words[3], doc
+    def __init__(self, it, use):
+        self.name, self.doc, self.part, self.module, self.described_by = it.name, it.doc, use.name, use.module, use.description
         self.type = self.kind = self.part
         self.function = self.module
 
     def settle(self):
-        said = self.find(self.module)
-        if said["name"] != self.part:
-            raise Refused(f"`{self.module}` describes `{said['name']}`, and not `{self.part}`")
-        self.described = said["lines"]
         self.grows = any(it.grows for it in self.described)
-        if self.grows and not self.may_grow:
-            raise Refused(f"`{self.part}` has a list, so it stands neither in a list nor behind a condition")
         for it in self.described:
             it.within = self.part
-        if said["error"]:
-            tests = [it for it in said["lines"] if it.error]
-            self.theirs, self.error, self.counts = said["error"], f"In{self.part}", False
+        if self.described_by.error:
+            tests = [it for it in self.described if it.error]
+            self.theirs, self.error, self.counts = self.described_by.error, f"In{self.part}", False
             self.cases = list({it.error: it.theirs for it in tests}.items())
         if self.counts and not self.grows:
-            self.inner, self.bits = said["lines"], said["total"]
+            self.inner, self.bits = self.described, self.described_by.bits
             self.stand(self.at or 0, self.order)
 
     def stand(self, at, order):
@@ -125,20 +114,8 @@ class Part(Line):
     def unfolds(self):
         return [word for it in self.described for word in it.unfolds]
 
-    def given(self, said):
-        if not said.startswith(f"{self.some}(") or said[-1] != ")":
-            raise Refused(f"`{self.name} = {said}`: a part is `{self.some}(FIELD = VALUE, ..)`")
-        return fields(self.described, said[len(self.some) + 1 : -1])
-
     def term(self, value):
         return f"record {{ {'; '.join(f'{it.name} = {it.term(value[it.name])}' for it in self.described if it.type)} }}"
-
-    def taken(self, row, before):
-        try:
-            found = taken(self.described, row)
-        except Answer as it:
-            raise Answer(self.error if str(it) in dict(self.cases) else it) from None
-        return {it.name: found[it.name] for it in self.described if it.type}
 
     def row_names(self, module):
         """Gives where the cases of its enums come from, as the rows call them."""
@@ -231,10 +208,8 @@ class Part(Line):
 class Optional(Part):
     """A part that is there or not: `there` says when, in code, `when` in specs, `known` of the value's own fields."""
 
-    some, may_grow = "Some", False
-
-    def __init__(self, words, doc):
-        super().__init__(words, doc)
+    def __init__(self, it):
+        super().__init__(it, it.use)
         self.counts = False
         self.type, self.kind, self.function = f"Option<{self.part}>", f"Option {self.part}", f"{snake(self.part)}_if"
 
@@ -273,14 +248,8 @@ class Optional(Part):
         entry, value = self.if_there(self.known), self.answered(self.value)
         return f"part-back ({entry}) _ ({self.word}) _ {value} _ {self.name} ({behind})"
 
-    def given(self, said):
-        return None if said == "None" else Some(super().given(said))
-
     def term(self, value):
         return "None" if value is None else f"Some ({super().term(value)})"
-
-    def taken(self, row, before):
-        return Some(super().taken(row, before)) if self.asks(before) else None
 
     def declares(self, module):
         out = super().declares(module)
@@ -326,16 +295,13 @@ class Optional(Part):
         return [f"read_{self.function}"]
 
 
-@starts("flag", "`flag NAME`")
 class Flag(Line):
     """A line flag NAME: a bit that says whether the optional part of that name is there."""
 
-    bits, kind, entry, long, leads = 1, "Bool", "bit_entry", 2, "option"
-    held = "bool"
+    bits, kind, entry, held = 1, "Bool", "bit_entry", "bool"
 
-    def __init__(self, words, doc):
-        self.part, self.name, self.doc = words[1], f"has_{words[1]}", doc
-        self.names_later = self.part
+    def __init__(self, it):
+        self.part, self.name, self.doc = it.target, f"has_{it.target}", it.doc
 
     word = property(lambda self: f"bit (is_some value.{self.part})")
     written = property(lambda self: f"bit-written (is_some value.{self.part})")
@@ -350,55 +316,29 @@ class Flag(Line):
         return f"bit-back (is_some value.{self.part}) _ _ _ ({behind})"
 
 
-@starts("option", "`option NAME TYPE of MODULE`")
 class Option(Optional):
     """A line option NAME TYPE of MODULE: a part that is there if its flag is set."""
 
-    long = 5
-
-    def __init__(self, words, doc):
-        super().__init__(words[1:], doc)
+    def __init__(self, it):
+        super().__init__(it)
         self.there = self.when = f"has_{self.name}"
         self.known = f"(is_some {self.value})"
-
-    def check(self, before):
-        if not any(isinstance(it, Flag) and it.part == self.name for it in before):
-            raise Refused(f"no `flag {self.name}` before it")
 
     def lets(self):
         return [f"let {self.name} = {self.goes()} in"]
 
-    def asks(self, before):
-        """Tells whether it is there, by what was taken."""
-        return before[self.there]
-
-
-@starts("if", "`if FIELD == VALUE NAME TYPE of MODULE`")
 class If(Optional):
     """A line if FIELD == VALUE NAME TYPE of MODULE: a part that is there if a field before it has that value.
 
     The field is a number, or an enum, of which the value is a case.
     """
 
-    long = 8
+    def __init__(self, it):
+        super().__init__(it)
+        self.field, self.enum, self.number = it.field, "", it.value
 
-    def __init__(self, words, doc):
-        if words[2] != "==":
-            raise Refused("`if FIELD == VALUE NAME TYPE of MODULE`")
-        super().__init__(words[4:], doc)
-        self.field, self.asked, self.enum, self.number = words[1], words[3], "", 0
-
-    def check(self, before):
-        for it in before:
-            if it.name == self.field and isinstance(it, Enum) and it.kind == it.enum:
-                self.enum, self.number = it.s, {case: value for value, case in it.cases}.get(self.asked)
-                if self.number is None:
-                    raise Refused(f"`{self.asked}` is no case of {it.enum} with a number of its own")
-                return
-            if it.name == self.field and it.kind == "ℕ":
-                self.number = number(self.asked, 0, 2**128 - 1, "what is asked for")
-                return
-        raise Refused(f"no number or enum `{self.field}` before it")
+    def see(self, before):
+        self.enum = next((it.s for it in before if it.name == self.field and isinstance(it, Enum)), "")
 
     there = property(lambda self: f"{self.field}{'.number()' if self.enum else ''} == {self.number}")
     when = property(lambda self: self.test(self.field))
@@ -406,10 +346,6 @@ class If(Optional):
 
     def test(self, value):
         return f"({f'{self.enum}_number ' if self.enum else ''}{value} == {self.number})"
-
-    def asks(self, before):
-        """Tells whether it is there, by what was taken."""
-        return before[self.field] == (self.asked if self.enum else self.number)
 
     def fits(self):
         return [*super().fits(), (f"{self.name}_there", f"is_some {self.value} ≡ {self.known}")]

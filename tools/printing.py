@@ -5,11 +5,12 @@ import subprocess
 import tempfile
 
 from chains import answers_of
-from description import described
+from describing.examples import described
+from describing.model import Refused
 from module import Module
 from names import TAKEN
 from parts import Part
-from source import Refused, Unknown
+from source import Unknown
 
 
 def put(folder, place, text):
@@ -24,20 +25,6 @@ def text_of(*path):
         return file.read()
 
 
-def beside(description, within):
-    """Gives the function that finds the description of a part's module, beside the one that names it."""
-
-    def find(name):
-        path = os.path.join(os.path.dirname(description), f"{name}.fields")
-        if name in within:
-            raise Refused(f"`{name}` is a part of itself")
-        if not os.path.exists(path):
-            raise Refused(f"no description `{name}.fields` stands beside this one")
-        return described(text_of(path), path, beside(path, [*within, name]))[0]
-
-    return find
-
-
 def module_of(description, folder, name):
     """Gives what a description says, as a module of the crate."""
     taken = {f"{name}_{it}" for it in ("entry", "writes", "bits", "size", "at")} & (TAKEN | {"groups_at"})
@@ -45,8 +32,8 @@ def module_of(description, folder, name):
         raise Refused(f"the library has a `{min(taken)}`: take another name for the module")
     inside = os.path.relpath(description, folder)
     path = os.path.basename(description) if inside.startswith("..") else inside
-    said = described(text_of(description), path, beside(description, [name]))
-    return Module(os.path.basename(os.path.abspath(folder)), name, *said)
+    said = described(text_of(description), description, name)
+    return Module(os.path.basename(os.path.abspath(folder)), name, said, path)
 
 
 def root_of(folder):
@@ -64,7 +51,7 @@ def print_into(crate, made):
     """Puts the files of a format into a crate; gives their places."""
     for it in made.lines:
         if isinstance(it, Part) and not os.path.exists(os.path.join(crate, "src", f"{it.module}.rt")):
-            raise Refused(f"line {it.line}: `{it.module}` is not printed: run `./format` on `{it.module}.fields` first")
+            raise Refused(f"`{it.module}` is not printed: run `./format` on `{it.module}.fields` first", it.where)
     files = made.files()
     for place, text in files.items():
         put(crate, place, text)

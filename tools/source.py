@@ -1,4 +1,4 @@
-"""What the scripts share: what they refuse, and how a file of Rattle is read."""
+"""What the scripts share: how a file of Rattle is read."""
 import re
 from collections import namedtuple
 
@@ -11,21 +11,6 @@ Function = namedtuple("Function", "name owner trait generic params clauses resul
 
 class Unknown(Exception):
     """What the script does not know, with its line."""
-
-
-class Refused(Exception):
-    """A description that is refused, with the reason."""
-
-
-def number(text, least, most, what):
-    """Gives the number that a word of a description is, if it is in this range."""
-    try:
-        found = int(text, 0)
-    except ValueError:
-        raise Refused(f"{what} is `{text}`, which is no number") from None
-    if not least <= found <= most:
-        raise Refused(f"{what} is {found}, and not in {least}..={most}")
-    return found
 
 
 def unknown(line, what):

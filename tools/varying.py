@@ -1,22 +1,17 @@
 """Numbers of no constant width: unary, in groups of bits, and Exp-Golomb."""
-from examples import Answer
-from lines import Line, kind, signed_term
-from source import Refused, number
+from lines import Line, signed_term
 
 OVERFLOW = ("VariableWidthOverflow", "if a number of variable width has more bits than its type")
 REDUNDANT = ("RedundantGroup", "if a number ends in a group of 0 behind others")
-WHOLE = [f"{sign}{width}" for sign in "ui" for width in (8, 16, 32, 64, 128)]
 
 
-@kind("unary", form="`NAME unary STOP`")
 class Unary(Line):
     """A line NAME unary STOP: how many bits stand in front of the first STOP."""
 
     type, unfolds = "u32", ("unary_entry",)
 
-    def __init__(self, name, words, doc):
-        self.name, self.doc = name, doc
-        self.stop = ("false", "true")[number(words[1], 0, 1, "the bit that ends it")]
+    def __init__(self, it):
+        self.name, self.doc, self.stop = it.name, it.doc, ("false", "true")[it.stop]
 
     bit = property(lambda self: int(self.stop == "true"))
     entry = property(lambda self: f"unary_entry {self.stop}")
@@ -39,24 +34,14 @@ class Unary(Line):
     def back(self, behind):
         return f"unary-back _ _ {self.stop} {self.value} _ fits.{self.name} ({behind})"
 
-    def taken(self, row, before):
-        return row.unary(self.bit)
-
-
-@kind("vbr", form="`NAME vbr BITS TYPE` or `NAME vbr BITS TYPE any`, and TYPE is u8 to u128, or i8 to i128")
 class Vbr(Line):
-    """A line NAME vbr FIELD TYPE [any]: groups of FIELD bits; with `any` also such as end in a group of 0."""
+    """A line NAME vbr FIELD TYPE [any], or leb128: groups of FIELD bits; with `any` also such as end in a group of 0."""
 
-    unfolds, long = ("groups", "groups_at", "groups_entry", "signed_groups_entry"), 5
+    unfolds = ("groups", "groups_at", "groups_entry", "signed_groups_entry")
 
-    def __init__(self, name, words, doc):
-        self.name, self.doc, self.type, self.any = name, doc, words[2], words[3:] == ["any"]
-        if words[3:] and not self.any:
-            raise Refused(f"`any` or nothing, and not `{words[3]}`")
-        if self.type not in WHOLE:
-            raise Refused(f"`{self.type}` in groups: take u8 to u128, or i8 to i128")
-        self.signed, self.width = self.type[0] == "i", int(self.type[1:])
-        self.field = number(words[1], 2, self.width - 1, "the bits of a group")
+    def __init__(self, it):
+        self.name, self.doc, self.type, self.any, self.field = it.name, it.doc, it.integer.base, it.any, it.group
+        self.signed, self.width = it.integer.signed, it.integer.width
 
     reader_errors = property(lambda self: [OVERFLOW] if self.any else [OVERFLOW, REDUNDANT])
     kind = property(lambda self: "ℤ" if self.signed else "ℕ")
@@ -90,42 +75,15 @@ class Vbr(Line):
     def term(self, value):
         return signed_term(value) if self.signed else str(value)
 
-    def taken(self, row, before):
-        found, place, digits = 0, 0, self.field - 1
-        while (group := row.number(self.field)) >> digits:
-            found, place = found + (group % 2**digits << place), place + digits
-            if place >= self.width:
-                raise Answer("VariableWidthOverflow")
-        found += group << place
-        if place and not group and not self.any:
-            raise Answer("RedundantGroup")
-        if found >> self.width:
-            raise Answer("VariableWidthOverflow")
-        if place and not group:
-            row.other = f"`{self.name}` ends in a group of zeros"
-        return found if not self.signed else -(found // 2) - 1 if found % 2 else found // 2
-
-
-@kind("leb128", form="`NAME leb128 TYPE`, and TYPE is u16 to u128, or i16 to i128")
-class Leb128(Vbr):
-    """A line NAME leb128 TYPE: groups of 8 bits, also such as end in a group of 0."""
-
-    long = 3
-
-    def __init__(self, name, words, doc):
-        super().__init__(name, ["vbr", "8", words[1], "any"], doc)
-
-
-@kind("ue", form="`NAME ue`")
 class Golomb(Line):
     """A line NAME ue: an Exp-Golomb number, by `bitstream_io::golomb`."""
 
-    many, type, long, short, reader_errors = True, "u32", 2, "ue", [OVERFLOW]
+    many, type, short, reader_errors = True, "u32", "ue", [OVERFLOW]
     more = "Below 2^32 - 1."
     unfolds = ("unary_entry", "unsigned", "unsigned_entry", "lib.Count.count_leading_zeros")
 
-    def __init__(self, name, words, doc):
-        self.name, self.doc = name, doc
+    def __init__(self, it):
+        self.name, self.doc = it.name, it.doc
 
     imports = property(lambda self: (f"bitstream_io::golomb::{{read_{self.short}, write_{self.short}}}",))
     entry = property(lambda self: f"{self.short}_entry o")
@@ -149,15 +107,6 @@ class Golomb(Line):
         goes = f"({self.short}-back o {self.value} fits.{self.name}).back"
         return f"part-back ({self.entry}) _ ({self.word}) _ {self.value} _ {goes} ({behind})"
 
-    def taken(self, row, before):
-        zeros = row.unary(1)
-        if zeros > 31:
-            raise Answer("VariableWidthOverflow")
-        return 2**zeros - 1 + row.number(zeros)
-
-
-
-@kind("se", form="`NAME se`")
 class SignedGolomb(Golomb):
     """A line NAME se: a signed one."""
 
@@ -168,7 +117,3 @@ class SignedGolomb(Golomb):
 
     def term(self, value):
         return signed_term(value)
-
-    def taken(self, row, before):
-        place = super().taken(row, before)
-        return place // 2 + 1 if place % 2 else -(place // 2)

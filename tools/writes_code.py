@@ -1,8 +1,8 @@
 """The code of a format's module."""
 import re
 
+from describing import picture
 from names import SPECS, article, uses
-from picture import picture
 
 LIBRARY = """BE LE BitRead BitReadExt BitReader BitWrite BitWriteExt BitWriter Bits Error FromBitStream
     FromBitStreamUsing SliceMut ToBitStream pack_into"""
@@ -65,7 +65,7 @@ class Code:
         return [*ghosts, "", *mine, library, *(f"use {it};" for it in paths if it.startswith("std"))]
 
     def struct_code(self):
-        drawn = [f"/// {it}".rstrip() for it in picture(self.lines)]
+        drawn = [f"/// {it}".rstrip() for it in picture.text(self.description.kinds)]
         derives = "Debug, Drop" if self.grows else "Clone, Copy, Debug, PartialEq"
         out = [f"/// {self.doc}", *drawn, f"#[derive({derives})]", f"pub struct {self.type} {{"]
         for it in self.fields:

@@ -25,6 +25,15 @@ def described(text: str, path: str, module: str, names: bool = True) -> m.Descri
     return found
 
 
+def vectors(description: m.Description) -> list[tuple[bytes, dict[str, Value] | str]]:
+    """Returns the bytes of each example, with its values or the case of its error."""
+    found: list[tuple[bytes, dict[str, Value] | str]] = []
+    for it in description.examples:
+        said = fields(description, it.answer) if "=" in it.answer else it.answer
+        found.append((bytes.fromhex(it.digits), said))
+    return found
+
+
 def apart(text: str, at: str) -> list[str]:
     """Splits a text at each `at` outside of brackets."""
     found, depth = [""], 0
