@@ -4,7 +4,8 @@ import os
 import re
 from collections import Counter, namedtuple
 
-from source import COLUMNS, Unknown, behind, filled, read_source, split, unknown, words
+from describing.text import COLUMNS, filled
+from source import Unknown, behind, read_source, split, unknown, words
 
 # The modules of the library, whose functions may be calls of a body too.
 LIBRARY = os.path.join(os.path.dirname(os.path.dirname(os.path.abspath(__file__))), "crates", "bitstream_io", "src")

@@ -8,7 +8,7 @@ import parts
 import varying
 from describing import model as m
 from describing.model import Refused, snake
-from names import TAKEN
+from describing.names import TAKEN
 
 ORDERS = {"BE": "High", "LE": "Low"}
 

@@ -1,7 +1,10 @@
 """What is printed for a format: the code, the specs and the proofs."""
 from describing.examples import vectors
+from describing.layout import Format
+from describing.rust import printed as rust
+from describing.specs import printed as specs
 from from_model import lines_of
-from names import merged, spec_of
+from describing.names import merged, spec_of
 from writes_code import Code
 from writes_proofs import Proofs
 from writes_specs import Specs
@@ -15,6 +18,7 @@ LONG, EACH = 16, 8
 class Module(Code, Specs, Proofs):
     def __init__(self, crate, module, said, path):
         lines = lines_of(said)
+        self.format = Format(crate, module, said, path)
         self.description, self.crate, self.m, self.lines, self.total = said, crate, module, lines, said.bits
         self.type, self.doc, self.error, self.examples = said.name, said.doc, said.error, vectors(said)
         self.made = f"Made by `./format` from {path}: edit that file and make this one anew."
@@ -33,15 +37,11 @@ class Module(Code, Specs, Proofs):
 
     def files(self):
         """Gives the texts by their places in the crate, but for the answers that the other script prints."""
-        found = {
-            f"src/{self.m}.rt": self.code(),
-            f"specs/{self.spec}.antt": self.specs(),
-            f"proofs/{self.spec}Lemmas.antt": self.lemmas(),
-        }
+        found = rust.files(self.format) | specs.files(self.format)
+        found[f"proofs/{self.spec}Lemmas.antt"] = self.lemmas()
         if self.examples:
             found[f"proofs/{self.spec}Rows.antt"] = self.rows()
-        if self.grows:
-            found[f"specs/{self.spec}Fields.antt"] = self.fields_specs()
+        found |= specs.fields_files(self.format)
         for path, text in self.line_invariants().items():
             found[f"proofs/{self.m}/{path}/Invariants.antt"] = text
         answers = self.law() | self.parse_answers() | self.pack_answers() | self.trait_answers() | self.line_answers()

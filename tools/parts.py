@@ -2,7 +2,8 @@
 from describing.model import snake
 from enums import Enum
 from lines import Line
-from names import article, merged, spec_of
+from describing.names import merged, spec_of
+from describing.text import article
 
 
 class Part(Line):

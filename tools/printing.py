@@ -8,7 +8,7 @@ from chains import answers_of
 from describing.examples import described
 from describing.model import Refused
 from module import Module
-from names import TAKEN
+from describing.names import TAKEN
 from parts import Part
 from source import Unknown
 

@@ -1,6 +1,6 @@
 """The rows of a description's examples, which the prover computes."""
 from lines import list_term
-from names import merged
+from describing.names import merged
 from parts import Part
 UNFOLDS = {
     "chain": "Entry",

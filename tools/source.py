@@ -4,7 +4,6 @@ from collections import namedtuple
 
 WORD = re.compile(r"""//[^\n]*|"(?:\\.|[^"\\])*"|'(?:\\.|[^'\\])'|'\w+|\w+|::|->|=>|\S""")
 CLOSES = {"(": ")", "[": "]", "{": "}"}
-COLUMNS = 120
 Token = namedtuple("Token", "word line")
 Function = namedtuple("Function", "name owner trait generic params clauses result body ghosts line")
 
@@ -140,14 +139,3 @@ def read_source(path):
         else:
             at = behind(tokens, at) if word in CLOSES else at + 1
     return functions, structs
-
-
-def filled(text, indent):
-    """Breaks a line at blanks, but in no list: there `rt fmt` would have each item on a line of its own."""
-    first, lines = len(text) - len(text.lstrip()), []
-    for word in re.split(r"(?<!,) ", text.strip()):
-        if lines and len(lines[-1]) + 1 + len(word) <= COLUMNS:
-            lines[-1] += f" {word}"
-        else:
-            lines.append(" " * (indent if lines else first) + word)
-    return "\n".join(lines)

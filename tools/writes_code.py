@@ -2,7 +2,8 @@
 import re
 
 from describing import picture
-from names import SPECS, article, uses
+from describing.names import SPECS, uses
+from describing.text import article
 
 LIBRARY = """BE LE BitRead BitReadExt BitReader BitWrite BitWriteExt BitWriter Bits Error FromBitStream
     FromBitStreamUsing SliceMut ToBitStream pack_into"""

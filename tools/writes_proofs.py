@@ -1,5 +1,6 @@
 """The lemmas and the answers of a format."""
-from names import PROOFS, article, uses, wrapped
+from describing.names import PROOFS, uses
+from describing.text import article, wrapped
 from rows import rows
 
 

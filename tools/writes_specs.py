@@ -1,7 +1,8 @@
 """The definitions that a format's contracts cite."""
 import re
 
-from names import SPECS, article, uses, wrapped
+from describing.names import SPECS, uses
+from describing.text import article, wrapped
 
 
 class Specs:

@@ -29,8 +29,8 @@ def vectors(description: m.Description) -> list[tuple[bytes, dict[str, Value] | 
     """Returns the bytes of each example, with its values or the case of its error."""
     found: list[tuple[bytes, dict[str, Value] | str]] = []
     for it in description.examples:
-        said = fields(description, it.answer) if "=" in it.answer else it.answer
-        found.append((bytes.fromhex(it.digits), said))
+        data = bytes.fromhex(it.digits)
+        found.append((data, fields(description, it.answer) if "=" in it.answer else it.answer))
     return found
 
 

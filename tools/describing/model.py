@@ -317,6 +317,11 @@ Described: TypeAlias = (
 )  # fmt: skip
 Hidden: TypeAlias = Const | Skip | Flag | Count | Tag | Size
 Kind: TypeAlias = Described | Hidden
+# The kinds of which code is printed.
+Printed: TypeAlias = (
+    Bool | Number | NonZero | MaybeNonZero | Enum | Array | Unary | Groups | Golomb | Part | Optional | If | List
+    | Const | Skip | Flag | Count
+)  # fmt: skip
 
 
 def is_field(kind: Kind) -> TypeGuard[Described]:
@@ -418,14 +423,6 @@ def open_ended(description: Description) -> bool:
 def any_octets(kind: Choose) -> bool:
     """Returns true if a case of a choice holds bytes."""
     return any(isinstance(it.held, Octet) for it in kind.arms)
-
-
-def unprinted(description: Description) -> Line | None:
-    """Returns the first line that `--show` and `--pack` know, and of which no code is printed yet."""
-    for it in description.kinds:
-        if isinstance(it, Tag | Size | Sized | Fill | Choose | Rest | Until):
-            return it
-    return None
 
 
 def uses(kind: Kind) -> list[Use]:

@@ -1,25 +1,23 @@
-"""Where names come from: the imports of a text are found by the names that it has."""
-import re
+"""Where names come from: the imports of a printed text are found by the names in it."""
+from __future__ import annotations
 
-from source import COLUMNS, filled
+import re
+from typing import TypeAlias
+
+Table: TypeAlias = dict[str, str]  # the names of each module, with blanks between them
 
 SYMBOLS = {it: f"◌{it}◌" for it in "≡ ≢ ∷ ++ ^ < ≤ + - * ∙ == ⊎".split()}
 SYMBOLS |= {"[]": "[]", "if": "if◌then◌else◌", "←": "◌>>=◌"}
 TOKEN = re.compile(r"\+\+|==|\[\]|[^\W\d][\w]*(?:-[^\W\d][\w]*)*(?:-\d+)?|\S")
 
 
-def spec_of(module):
-    """Gives the name of a module's file of specs."""
+def spec_of(module: str) -> str:
+    """Returns the name of the file of specs of a module."""
     return "".join(it.capitalize() for it in module.split("_"))
 
 
-def article(name):
-    """Gives a type's name behind its article."""
-    return f"{'an' if name[0] in 'AEIOU' else 'a'} `{name}`"
-
-
-def table(text):
-    """Gives the names of each module, of lines `MODULE: NAMES`, which go on where they are indented."""
+def table(text: str) -> Table:
+    """Returns the names of each module from lines `MODULE: NAMES`; an indented line continues the line before it."""
     lines = re.sub(r"\n +", " ", text.strip()).split("\n")
     return {module: names.strip() for module, _, names in (it.partition(":") for it in lines)}
 
@@ -56,7 +54,7 @@ Rattle.bitstream_io.specs.Word: zig
 )
 SPECS |= {f"Rattle.std.specs.declared.num.NonZeroU{n}": f"NonZeroU{n}" for n in (8, 16, 32, 64, 128)}
 
-# In proofs: of the first module that has a name.
+# In proofs. A name comes from the first module that has it.
 PROOFS = table(
     """
 Rattle.std.proofs.Common: w8 w16 w32 w64 ≡ ≢ ^ < ≤ + - * ++ ∷ [] == ⊎ ∙ ℕ ℤ Bool true false List Result Ok Err Option Some None length
@@ -98,12 +96,12 @@ Rattle.bitstream_io.proofs.WriteParts: all_none
 )
 PROOFS |= {module: names for module, names in SPECS.items() if module != "Rattle.std.specs.Prelude"}
 
-# What the types and cases of a format may not be called.
+# Names that no type or case of a format may have.
 TAKEN = {it for names in SPECS.values() for it in names.split()} - {"NonZero"} | {"Reader", "Fits"}
 
 
-# What names no definition: a field behind its holder; what a line binds, declares or sets, or a record names twice; the
-# parameters of the reads behind what may be refused.
+# Words that name no definition: a field after its holder; a name that a line binds, declares or sets; a name that a
+# record has twice; the parameters of a definition of reads.
 BOUND = re.compile(
     r"\b[a-z]\w*(?:\.[\w-]+)+|(?<=\))\.[\w-]+|^ +\w+ (?=←)|^ +pub \w+ :|(?:^|[{;]) +\w+ =(?= )"
     r"|\b(\w+) = \1(?= ?[;}])|(?<=_entry_)\d+ o( \w+)+",
@@ -111,20 +109,21 @@ BOUND = re.compile(
 )
 
 
-def words_of(text):
-    """Gives the words of a text that may name a definition."""
+def words_of(text: str) -> set[str]:
+    """Returns the words of a text that may name a definition."""
     lines = [it for it in text.split("\n") if not it.startswith(("use ", "--"))]
     return set(TOKEN.findall(BOUND.sub(" ", "\n".join(lines).replace("(← ", "("))))
 
 
-def short(name):
-    """Gives what a name is called in the text: NAME=OTHER is NAME, there called OTHER."""
+def short(name: str) -> str:
+    """Returns the name that a text uses: NAME=OTHER is NAME, imported as OTHER."""
     return name if name in SYMBOLS else name.split("=")[-1]
 
 
-def uses(text, *tables, begins="use ", ends=""):
-    """Gives the imports of what a text names, each name from the first module that has it."""
-    left, lines = words_of(text), []
+def uses(text: str, *tables: Table, begins: str = "use ", ends: str = "") -> list[str]:
+    """Returns the imports of a text, each name from the first module that has it."""
+    left = words_of(text)
+    lines: list[str] = []
     for module, names in (it for one in tables for it in one.items()):
         named = [it for it in dict.fromkeys(names.split()) if short(it) in left]
         left -= {short(it) for it in named}
@@ -134,18 +133,9 @@ def uses(text, *tables, begins="use ", ends=""):
     return lines
 
 
-def wrapped(text):
-    """Breaks the long lines of specs and proofs, but for imports."""
-    lines = []
-    for it in text.split("\n"):
-        indent = len(it) - len(it.lstrip())
-        lines.append(filled(it, indent + 4) if len(it) > COLUMNS and not it.startswith("use ") else it)
-    return "\n".join(lines)
-
-
-def merged(*tables):
-    """Gives one table of several, with all names of each module."""
-    found = {}
+def merged(*tables: Table) -> Table:
+    """Returns one table from several, with all names of each module."""
+    found: Table = {}
     for module, names in (it for one in tables for it in one.items()):
         found[module] = f"{found.get(module, '')} {names}".strip()
     return found
