@@ -691,7 +691,7 @@ def functions_near(folder, path):
     return imported, [one for functions in found.values() for one in functions]
 
 
-def answers_of(folder, file, wanted):
+def answers_of(folder: str, file: str, wanted: str) -> str:
     """Gives the answers of a function, as `rt check --only` names it."""
     path = os.path.join(folder, file)
     functions, structs = read_source(path)
