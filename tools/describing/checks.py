@@ -7,6 +7,7 @@ from typing import Iterator
 from describing import model as m
 from describing import reserved
 from describing.model import Position, Refused
+from describing.names import TAKEN
 from describing.parse import beside, parsed
 
 CLAUSES = ("there", "short", "answer", "back")
@@ -153,5 +154,5 @@ def check_types(it: m.Description, own: bool) -> None:
         if name and (name in [one for _, one in types[:index]] or name in parts):
             raise Refused(f"two types have one name, `{name}`", at)
     for at, name in [*types, *[(kind.at, m.error(kind)) for kind in it.kinds]]:
-        if own and name in reserved.NAMES:
+        if own and name in TAKEN:
             raise Refused(f"`{name}` is a name of the specs: take another one", at)

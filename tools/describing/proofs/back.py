@@ -47,14 +47,11 @@ def back(f: Format, line: Line, behind: str) -> str:
         case m.Skip():
             return f"skip-back _ _ {kind.width} _ ({behind})"
         case m.Enum():
-            made = f"{enum_shape(kind.enum)} ({enum_number(kind.enum, term)}) {snake(kind.enum.name)}_of"
-            answer = f"(Ok {term})" if line.error else term
-            return f"made-back _ _ {made} {answer} _ refl {small(kind)} {again(kind)} ({behind})"
+            return enum_back(line, kind, behind)
         case m.Unary():
             return f"unary-back _ _ {bit(kind.stop)} {term} _ fits.{kind.name} ({behind})"
         case m.Groups():
-            made = f"_ _ o {kind.group} {kind.integer.width} {term}"
-            return f"{groups_call(kind)}-back {made} _ refl refl fits.{kind.name} ({behind})"
+            return groups_back(kind, behind)
         case m.Golomb():
             goes = f"({short(kind)}-back o {term} fits.{kind.name}).back"
             return f"part-back ({entry(f, line)}) _ ({word(line)}) _ {term} _ {goes} ({behind})"
@@ -79,12 +76,26 @@ def number_back(kind: m.Number, behind: str) -> str:
     return f"{sign(kind.integer)}-back o {bits} _ _ {width(kind.integer)} value.{kind.name} _ {fits} ({behind})"
 
 
+def groups_back(kind: m.Groups, behind: str) -> str:
+    """Returns the term for a number in groups."""
+    made = f"_ _ o {kind.group} {kind.integer.width} value.{kind.name}"
+    return f"{groups_call(kind)}-back {made} _ refl refl fits.{kind.name} ({behind})"
+
+
 def named_back(kind: m.NonZero | m.MaybeNonZero, behind: str) -> str:
     """Returns the term for a `NonZero`, or an optional one."""
     lemma, number = ("non_zero", non_zero(kind)) if isinstance(kind, m.NonZero) else ("option", or_zero(kind))
     base, term = kind.integer.base, f"value.{kind.name}"
     made = f"non_zero_{base} {width(kind.integer)} {kind.integer.width} ({number}) {term}"
     return f"{lemma}-back _ _ o {made} _ refl fits.{kind.name} ({lemma}_{base}-again {term}) ({behind})"
+
+
+def enum_back(line: Line, kind: m.Enum, behind: str) -> str:
+    """Returns the term for a case."""
+    term = value(line)
+    made = f"{enum_shape(kind.enum)} ({enum_number(kind.enum, term)}) {snake(kind.enum.name)}_of"
+    answer = f"(Ok {term})" if line.error else term
+    return f"made-back _ _ {made} {answer} _ refl {small(kind)} {again(kind)} ({behind})"
 
 
 def small(kind: m.Enum) -> str:
