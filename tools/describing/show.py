@@ -16,6 +16,8 @@ flags, counts, tags and sizes are not printed: `--pack` computes them.
   --in FIELD OTHER  read the bytes of FIELD by the description OTHER, which has an order of its own. Bytes that OTHER
                     does not read are not printed. `--pack` takes the option too
   --table           print a table of the lines with their positions (byte in hex, bit), with colours on a terminal
+  --html            print a page for a browser, which links the bytes with the fields: one file that needs no network,
+                    with at most 100000 records. The whole input is read first
   --picture, --svg  print the picture of the bits, and read nothing
 
 Lines of which no code is printed yet are known here: `tag`, `choose`, `size`, `sized`, `fill`, `rest` and `until`.
@@ -32,7 +34,7 @@ import sys
 from typing import BinaryIO, Iterable, Iterator, NoReturn
 
 from describing import model as m
-from describing import picture, table
+from describing import picture, table, web
 from describing.examples import described
 from describing.input import Input, Value
 from describing.model import Refused
@@ -92,6 +94,35 @@ def show_table(found: Iterator[Record]) -> None:
         print(table.table(it.number, it.start, it.end, it.nodes, colours))
 
 
+def show_page(asked: argparse.Namespace, it: m.Description, options: Options, file: BinaryIO) -> None:
+    """Prints a page for a browser. It says why the records end early, and then the command ends as it does without."""
+    data, why = file.read(), list[str]()
+    options.count = min(options.count, web.MOST)
+    found = Records(it, Input(data, it.order), options, why.append)
+    ended: list[Ended] = []
+
+    def records() -> Iterator[Record]:
+        try:
+            yield from found.records()
+        except Ended as early:
+            ended.append(early)
+            why.append(str(early))
+
+    text = web.page(
+        [it, *[other for _, other in options.inside]], data, limited(found, records(), why), asked.file or "-", why
+    )
+    sys.stdout.write(text)
+    if ended:
+        raise ended[0]
+
+
+def limited(found: Records, records: Iterator[Record], why: list[str]) -> Iterator[Record]:
+    """Returns records, and adds to `why` where the next one begins if there are more of them than a page shows."""
+    yield from records
+    if found.number == web.MOST and found.row.at < found.row.end:
+        why.append(f"{web.MOST} records are shown; the next one begins at byte {found.row.at // 8}: see --offset.")
+
+
 # ---- the commands
 
 
@@ -107,6 +138,8 @@ def input_of(file: BinaryIO, order: str) -> Input:
 
 def show(asked: argparse.Namespace, it: m.Description, options: Options, file: BinaryIO) -> None:
     """Runs `--show`."""
+    if asked.html:
+        return show_page(asked, it, options, file)
     found = Records(it, input_of(file, it.order), options, report)
     if asked.table:
         show_table(found.records())
@@ -151,7 +184,7 @@ def arguments(words: list[str]) -> argparse.Namespace:
     what = parser.add_mutually_exclusive_group(required=True)
     for name in ("show", "pack", "help"):
         what.add_argument(f"--{name}", action="store_true")
-    for name in ("repeat", "table", "picture", "svg", "keep-going"):
+    for name in ("repeat", "table", "html", "picture", "svg", "keep-going"):
         parser.add_argument(f"--{name}", action="store_true")
     parser.add_argument("--offset", type=whole, default=0)
     parser.add_argument("--skip", default="0")
