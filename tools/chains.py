@@ -4,7 +4,8 @@ import os
 import re
 from collections import Counter, namedtuple
 
-from source import COLUMNS, Unknown, behind, filled, read_source, split, unknown, words
+from describing.text import COLUMNS, filled
+from source import Unknown, behind, read_source, split, unknown, words
 
 # The modules of the library, whose functions may be calls of a body too.
 LIBRARY = os.path.join(os.path.dirname(os.path.dirname(os.path.abspath(__file__))), "crates", "bitstream_io", "src")
@@ -690,7 +691,7 @@ def functions_near(folder, path):
     return imported, [one for functions in found.values() for one in functions]
 
 
-def answers_of(folder, file, wanted):
+def answers_of(folder: str, file: str, wanted: str) -> str:
     """Gives the answers of a function, as `rt check --only` names it."""
     path = os.path.join(folder, file)
     functions, structs = read_source(path)

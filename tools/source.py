@@ -1,31 +1,15 @@
-"""What the scripts share: what they refuse, and how a file of Rattle is read."""
+"""What the scripts share: how a file of Rattle is read."""
 import re
 from collections import namedtuple
 
 WORD = re.compile(r"""//[^\n]*|"(?:\\.|[^"\\])*"|'(?:\\.|[^'\\])'|'\w+|\w+|::|->|=>|\S""")
 CLOSES = {"(": ")", "[": "]", "{": "}"}
-COLUMNS = 120
 Token = namedtuple("Token", "word line")
 Function = namedtuple("Function", "name owner trait generic params clauses result body ghosts line")
 
 
 class Unknown(Exception):
     """What the script does not know, with its line."""
-
-
-class Refused(Exception):
-    """A description that is refused, with the reason."""
-
-
-def number(text, least, most, what):
-    """Gives the number that a word of a description is, if it is in this range."""
-    try:
-        found = int(text, 0)
-    except ValueError:
-        raise Refused(f"{what} is `{text}`, which is no number") from None
-    if not least <= found <= most:
-        raise Refused(f"{what} is {found}, and not in {least}..={most}")
-    return found
 
 
 def unknown(line, what):
@@ -155,14 +139,3 @@ def read_source(path):
         else:
             at = behind(tokens, at) if word in CLOSES else at + 1
     return functions, structs
-
-
-def filled(text, indent):
-    """Breaks a line at blanks, but in no list: there `rt fmt` would have each item on a line of its own."""
-    first, lines = len(text) - len(text.lstrip()), []
-    for word in re.split(r"(?<!,) ", text.strip()):
-        if lines and len(lines[-1]) + 1 + len(word) <= COLUMNS:
-            lines[-1] += f" {word}"
-        else:
-            lines.append(" " * (indent if lines else first) + word)
-    return "\n".join(lines)

@@ -1,0 +1,158 @@
+"""Refuses lines that do not belong together, and names that the printed text uses itself."""
+from __future__ import annotations
+
+import re
+from typing import Iterator
+
+from describing import model as m
+from describing import reserved
+from describing.model import Position, Refused
+from describing.names import TAKEN
+from describing.parse import beside, parsed
+
+CLAUSES = ("there", "short", "answer", "back")
+
+
+def described(text: str, path: str, module: str, names: bool = True) -> m.Description:
+    """Returns the model of a description. With `names`, names that the printed text uses itself are refused."""
+    found = parsed(text, beside(path, (module,), lambda it: check(it, names)))
+    check(found, names)
+    return found
+
+
+def check(it: m.Description, names: bool = True) -> None:
+    """Refuses what does not go checks."""
+    if not it.name:
+        raise Refused("no line `struct NAME`")
+    if it.order not in ("BE", "LE"):
+        raise Refused("the order is BE or LE", it.heads["order"])
+    check_lines(it, names)
+    if names:
+        check_shadowed(it)
+    check_types(it, names)
+    if it.error and not any(m.error(kind) for kind in it.kinds):
+        why = f"no line refuses bits, so there is no `{it.error}`: leave this line out"
+        raise Refused(why, it.heads["error"])
+    if it.bits is not None and it.bits % 8:
+        raise Refused(f"the fields have {it.bits} bits, which are no whole bytes: end with `any {-it.bits % 8}`")
+    if not it.fields:
+        raise Refused("no field")
+
+
+def check_lines(it: m.Description, own: bool) -> None:
+    """Refuses a line that needs a later one, the name of an earlier line, or an error that is not declared."""
+    names: list[str] = []
+    for index, kind in enumerate(it.kinds):
+        name = "" if isinstance(kind, m.Const | m.Skip) else m.label(kind)
+        check_target(it, index, kind)
+        if own and name in reserved.WORDS:
+            raise Refused(f"`{name}` is a word of the proofs: take another name", kind.at)
+        if name and name in names:
+            raise Refused(f"two fields have one name, `{name}`", kind.at)
+        check_error(it, kind)
+        names.append(name)
+
+
+def check_error(it: m.Description, kind: m.Kind) -> None:
+    """Refuses a case of an error that is not declared, or has the name of a clause."""
+    error = m.error(kind)
+    if error and not it.error:
+        raise Refused("this line refuses bits, and the description has no line `error NAME`", kind.at)
+    if m.snake(error) in CLAUSES:
+        why = "`There`, `Short`, `Answer` and `Back` are names of the contract: take other ones"
+        raise Refused(why, kind.at)
+
+
+def check_target(it: m.Description, index: int, kind: m.Kind) -> None:
+    """Refuses a flag, a count, a tag or a size that no later line uses."""
+    later = it.kinds[index + 1 :]
+    match kind:
+        case m.Flag(target=name):
+            found, word = any(isinstance(one, m.Optional) and one.name == name for one in later), "option"
+        case m.Count(target=name):
+            found, word = any(isinstance(one, m.List) and one.name == name for one in later), "list"
+        case m.Size(target=name):
+            sized = (m.Sized, m.Fill, m.Choose)
+            found, word = any(isinstance(one, sized) and one.name == name for one in later), "sized"
+        case m.Tag(name=name):
+            found, word = any(isinstance(one, m.Choose) and one.by == name for one in later), "choose"
+        case _:
+            return
+    if not found:
+        raise Refused(f"no `{word} {name}` behind it", kind.at)
+
+
+def fits_words(kind: m.Kind) -> list[tuple[str, set[str]]]:
+    """Returns the clauses of `Fits` for a line, each with the words in it that a field may not be called."""
+    match kind:
+        case m.Number() | m.Unary() | m.Groups():
+            return [(kind.name, {"value"})]
+        case m.Golomb(signed=signed):
+            return [(kind.name, {"value", "unsigned_abs"} if signed else {"value"})]
+        case m.NonZero():
+            return [(kind.name, {"value", f"non_zero_{kind.integer.base}_get"})]
+        case m.MaybeNonZero():
+            return [(kind.name, {"value", "number_or_zero", f"non_zero_{kind.integer.base}_get"})]
+        case m.Array() | m.List() | m.Rest() | m.Fill() | m.Until():
+            return many_words(kind)
+        case m.Enum(enum=enum) if enum.other:
+            s = m.snake(enum.name)
+            return [
+                (kind.name, {"value", f"{s}_number"}),
+                (f"{kind.name}_again", {"value", f"{s}_of", f"{s}_number"}),
+            ]
+        case m.Count():
+            return [(m.label(kind), {"value", "length"})]
+        case m.If():
+            return [(kind.name, {"value"}), (f"{kind.name}_there", {"value", "is_some"})]
+        case m.Part() | m.Optional() | m.Sized() | m.Choose():
+            return [(kind.name, {"value"})]
+    return []
+
+
+def many_words(kind: m.Array | m.List | m.Rest | m.Fill | m.Until) -> list[tuple[str, set[str]]]:
+    """Returns the clauses of `Fits` for an array or a list."""
+    found = [(f"{kind.name}_count", {"value", "length"})] * isinstance(kind, m.Array)
+    item = m.held_item(kind)
+    if not isinstance(item, m.EnumType):
+        return [*found, (kind.name, {"value"})]
+    s = m.snake(item.name)
+    return [*found, (kind.name, {"value", f"{s}_of", f"{s}_number"})] if item.other else found
+
+
+def check_shadowed(it: m.Description) -> None:
+    """Refuses a field whose name is a word of a clause of `Fits` for a later line, such as `length`."""
+    said: dict[str, Position] = {}
+    for kind in it.kinds:
+        for name, words in fits_words(kind):
+            for word in sorted(words):
+                if word in said:
+                    why = f"`{word}` is a word of what is said of `{name}` behind it: take another name"
+                    raise Refused(why, said[word])
+            said[name] = kind.at
+
+
+def new_enums(it: m.Description) -> Iterator[tuple[Position, m.EnumType]]:
+    """Returns the enums that lines define, each with its position."""
+    seen: set[int] = set()
+    for kind in it.kinds:
+        item = m.held_item(kind)
+        repeats = isinstance(kind, m.Enum) and kind.repeats or id(item) in seen
+        if isinstance(item, m.EnumType) and not repeats:
+            seen.add(id(item))
+            yield kind.at, item
+
+
+def check_types(it: m.Description, own: bool) -> None:
+    """Refuses two types with one name, and a type or a case of the error with a name of the specs."""
+    enums = list(new_enums(it))
+    types = [(it.heads["struct"], it.name), (it.heads.get("error", Position(1, 1)), it.error)]
+    types += [(at, enum.name) for at, enum in enums]
+    types += [(kind.at, kind.type) for kind in it.kinds if isinstance(kind, m.Choose)]
+    parts = [item.name for kind in it.kinds if isinstance(item := m.held_item(kind), m.Use)]
+    for index, (at, name) in enumerate(types):
+        if name and (name in [one for _, one in types[:index]] or name in parts):
+            raise Refused(f"two types have one name, `{name}`", at)
+    for at, name in [*types, *[(kind.at, m.error(kind)) for kind in it.kinds]]:
+        if own and name in TAKEN:
+            raise Refused(f"`{name}` is a name of the specs: take another one", at)

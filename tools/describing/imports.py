@@ -1,0 +1,104 @@
+"""The modules where the names of a format come from: its types, its definitions and its lemmas, and those of its parts."""
+from __future__ import annotations
+
+from describing import model as m
+from describing.layout import Format, Line, all_fit
+from describing.model import snake
+from describing.names import Table, merged, spec_of
+from describing.specs.terms import called
+
+
+def enum_names(f: Format, line: Line, enum: m.EnumType) -> Table:
+    """Returns where the names of an enum come from."""
+    base, each = f"{f.declared}.{enum.name}", isinstance(line.kind, m.Array)
+    words = ("of", "number", "each", "read_each") if each else ("of", "number", "read")
+    cases = [f"{it}={called(line, it)}" if it in line.shared else it for it in enum.names()]
+    own = {f.specs_path: " ".join(f"{snake(enum.name)}_{it}" for it in words)}
+    return {base: enum.name, f"{base}.TheVariants": " ".join(cases)} | own
+
+
+def part_names(f: Format, line: Line, use: m.Use) -> Table:
+    """Returns where the names of a part come from."""
+    base = f"Rattle.{f.crate}.specs.declared.{use.module}"
+    words = " ".join(f"{use.module}_{it}" for it in ("entry", "writes", "size"))
+    found = {
+        f"{base}.{use.name}": use.name,
+        f"Rattle.{f.crate}.specs.{spec_of(use.module)}": f"{words} Fits={use.name}Fits",
+    }
+    error = use.description.error
+    if error:
+        found[f"{base}.{error}"] = error
+        cases = ["Reader", *[case for case, _ in part_cases(use)]]
+        found[f"{base}.{error}.TheVariants"] = " ".join(f"{it}={use.name}{it}" for it in cases)
+    if f.mapped(line.kind):
+        found[f.specs_path] = " ".join(f"{use.module}_{it}" for it in ("error", "answer", "here"))
+    return found
+
+
+def part_cases(use: m.Use) -> list[tuple[str, str]]:
+    """Returns the cases of the error of a part, each with the type that it holds."""
+    kinds = use.description.kinds
+    return list({m.error(it): held_error(it) for it in kinds if m.error(it)}.items())
+
+
+def held_error(kind: m.Kind) -> str:
+    """Returns the error of a part that a case of the error holds, or an empty text."""
+    return next((it.description.error for it in m.uses(kind)), "")
+
+
+def line_names(f: Format, line: Line) -> Table:
+    """Returns where the names of a line come from."""
+    if line.enum:
+        return enum_names(f, line, line.enum)
+    return part_names(f, line, line.use) if line.use else {}
+
+
+def all_names(f: Format) -> Table:
+    """Returns where the names of all lines come from."""
+    return merged(*[line_names(f, it) for it in f.lines])
+
+
+def types(f: Format) -> Table:
+    """Returns where the types of the format and of its parts come from."""
+    own = {f"{f.declared}.{f.type}": f.type}
+    if f.error:
+        own[f"{f.declared}.{f.error}"] = f.error
+        own[f"{f.declared}.{f.error}.TheVariants"] = " ".join(dict.fromkeys(["Reader", *[it.error for it in f.tests]]))
+    return {module: names for module, names in merged(own, all_names(f)).items() if ".declared." in module}
+
+
+def parts_specs(f: Format) -> Table:
+    """Returns where the definitions of the parts come from."""
+    return {module: it for module, it in all_names(f).items() if ".declared." not in module and module != f.specs_path}
+
+
+def own_specs(f: Format) -> Table:
+    """Returns where the definitions of the format and of its parts come from."""
+    names = [f"{f.m}_{it}" for it in ("entry", "writes", "size", "bits", "at")] + ["Fits", f"becomes_{f.m}", "bits_at"]
+    names += [f"{f.m}_entry_{k}" for k in range(1, len(f.entry_parts()))] + [f"const_at_{it.at}" for it in f.tests]
+    names += [f"{f.m}_writes_{k + 1}" for k in range(1, len(f.pieces()))]
+    lines = {module: it for module, it in all_names(f).items() if ".declared." not in module}
+    return merged({f.specs_path: " ".join(names)}, lines)
+
+
+def line_lemmas(f: Format, line: Line) -> Table:
+    """Returns where the lemmas of a line come from."""
+    if line.enum:
+        return {f.lemmas_path: f"{snake(line.enum.name)}_small {snake(line.enum.name)}_again"}
+    if not line.use:
+        return {}
+    use = line.use
+    fits = f" {use.module}_fits" * all_fit(use.description.kinds)
+    return {f"Rattle.{f.crate}.proofs.{spec_of(use.module)}Lemmas": f"{use.module}_goes {use.module}_packs{fits}"}
+
+
+def parts_lemmas(f: Format) -> Table:
+    """Returns where the lemmas of the parts come from."""
+    found = merged(*[line_lemmas(f, it) for it in f.lines])
+    return {module: names for module, names in found.items() if module != f.lemmas_path}
+
+
+def own_lemmas(f: Format) -> Table:
+    """Returns where the lemmas of the format and of its parts come from."""
+    own = {f.lemmas_path: f"{f.m}_goes {f.m}_packs{f' {f.m}_fits' * f.fitting} told"}
+    return merged(own, *[line_lemmas(f, it) for it in f.lines])

@@ -1,0 +1,238 @@
+"""A format as the back ends print it: its lines with their places, and what follows from them for the whole."""
+from __future__ import annotations
+
+from dataclasses import dataclass
+from typing import Iterable, Iterator
+
+from describing import model as m
+from describing.model import Refused, snake
+from describing.names import TAKEN, spec_of
+
+ORDERS = {"BE": "High", "LE": "Low"}
+# The reads and writes of more than LONG lines are split into functions of EACH lines: twice the calls in one function
+# take about eight times as long to prove.
+LONG, EACH = 16, 8
+OVERFLOW = ("VariableWidthOverflow", "if a number of variable width has more bits than its type")
+REDUNDANT = ("RedundantGroup", "if a number ends in a group of 0 behind others")
+
+
+@dataclass(frozen=True, eq=False)
+class Line:
+    """A line of a format.
+
+    `at` is the number of bits before it, or None if that is not a constant. `clause` names the clause of its refusal.
+    `repeats` is true if an earlier line defines its enum. `inner` are the lines of a part, `shared` the cases of its
+    enum whose names something else has in specs.
+    """
+
+    kind: m.Printed
+    index: int
+    at: int | None
+    clause: str
+    repeats: bool
+    inner: tuple[Line, ...]
+    shared: frozenset[str]
+
+    @property
+    def name(self) -> str:
+        """The name of its value, or an empty text."""
+        return "" if isinstance(self.kind, m.Const | m.Skip) else m.label(self.kind)
+
+    @property
+    def is_field(self) -> bool:
+        """True if the record has a field for it."""
+        return m.is_field(self.kind)
+
+    @property
+    def bits(self) -> int | None:
+        """The number of bits, or None if it is not a constant."""
+        return m.bits(self.kind)
+
+    @property
+    def wide(self) -> int:
+        """The number of bits of a line that has a constant number."""
+        return self.bits or 0
+
+    @property
+    def error(self) -> str:
+        """The case of the error for bits that it refuses, or an empty text."""
+        return m.error(self.kind)
+
+    @property
+    def use(self) -> m.Use | None:
+        """The part that it has one or many of."""
+        item = m.held_item(self.kind)
+        return item if isinstance(item, m.Use) else None
+
+    @property
+    def enum(self) -> m.EnumType | None:
+        """The enum that it has one or many of."""
+        item = m.held_item(self.kind)
+        return item if isinstance(item, m.EnumType) else None
+
+    @property
+    def stops(self) -> bool:
+        """True if its read may return an error of the format's own, after which nothing is read."""
+        return bool(self.error) or isinstance(self.kind, m.Part) and m.has_list(self.kind.use)
+
+    @property
+    def many(self) -> bool:
+        """True if it is written by a list of writes, and not by one."""
+        match self.kind:
+            case m.Array() | m.List():
+                return not isinstance(self.kind.item, m.Octet)
+        return isinstance(self.kind, m.Golomb | m.Part | m.Optional | m.If)
+
+    def least(self, at: int = 0) -> int:
+        """Returns the number of bytes that have all its bits."""
+        return -(-((self.at or 0) + at + self.wide) // 8)
+
+
+def enum_bits(enum: m.EnumType) -> int:
+    """Returns the bits of the number type that holds a number of an enum."""
+    return next(it for it in (8, 16, 32) if it >= enum.width)
+
+
+def all_fit(kinds: Iterable[m.Kind]) -> bool:
+    """Returns true if values fit their bits whenever all writes are accepted."""
+    return all(fits_if_accepted(it) for it in kinds)
+
+
+def fits_if_accepted(kind: m.Kind) -> bool:
+    """Returns true if the value of a line fits its bits whenever its write is accepted."""
+    match kind:
+        case m.Enum():
+            return not kind.enum.other
+        case m.List():
+            item = kind.item
+            return isinstance(item, m.Integer) or isinstance(item, m.EnumType) and not item.other
+        case m.Part():
+            return all_fit(kind.use.description.kinds)
+    return isinstance(kind, m.Number | m.NonZero | m.MaybeNonZero | m.Bool | m.Const | m.Skip | m.Flag | m.Count)
+
+
+def reader_errors(kinds: Iterable[m.Kind]) -> Iterator[tuple[str, str]]:
+    """Returns the errors of the reader besides `EndOfInput` that lines may return, each with its condition."""
+    for it in kinds:
+        if isinstance(it, m.Groups | m.Golomb):
+            yield OVERFLOW
+        if isinstance(it, m.Groups) and not it.any:
+            yield REDUNDANT
+        for use in m.uses(it):
+            yield from reader_errors(use.description.kinds)
+
+
+# ---- the lines of a description
+
+
+def lines_of(description: m.Description) -> tuple[Line, ...]:
+    """Returns the lines of a description, each with its place."""
+    at: int | None = 0
+    found: list[Line] = []
+    shared, seen = shared_cases(description), set[int]()
+    for index, kind in enumerate(description.kinds):
+        if isinstance(kind, m.Tag | m.Size | m.Sized | m.Fill | m.Choose | m.Rest | m.Until):
+            raise Refused("`--show` and `--pack` know this line, but no code is printed for it yet", kind.at)
+        enum, error, width = m.held_item(kind), m.error(kind), m.bits(kind)
+        again = f"_{at}" if error in [it.error for it in found] else ""
+        repeats = id(enum) in seen
+        names = frozenset(enum.names()) & shared if isinstance(enum, m.EnumType) else frozenset[str]()
+        found.append(Line(kind, index, at, snake(error) + again, repeats, inner_lines(kind), names))
+        seen.add(id(enum) if isinstance(enum, m.EnumType) else 0)
+        at = None if at is None or width is None else at + width
+    return tuple(found)
+
+
+def inner_lines(kind: m.Printed) -> tuple[Line, ...]:
+    """Returns the lines of a part; a refusal has the position of the part."""
+    for use in m.uses(kind):
+        try:
+            return lines_of(use.description)
+        except Refused as why:
+            raise Refused(f"`{use.module}`: {why}", kind.at) from None
+    return ()
+
+
+def shared_cases(description: m.Description) -> set[str]:
+    """Returns the names of cases that something else has in specs, too."""
+    names = [description.name, description.error]
+    uses = [use.name for kind in description.kinds for use in m.uses(kind)]
+    names += [*dict.fromkeys(uses), *dict.fromkeys(filter(None, map(m.error, description.kinds)))]
+    enums = {id(it): it for kind in description.kinds if isinstance(it := m.held_item(kind), m.EnumType)}
+    cases = [case for it in enums.values() for case in it.names()]
+    names += [it.name for it in enums.values()] + cases
+    return {it for it in cases if it in TAKEN or names.count(it) > 1}
+
+
+# ---- the whole format
+
+
+class Format:
+    """A format of a crate: its description, its lines, and what all back ends derive from them."""
+
+    def __init__(self, crate: str, module: str, description: m.Description, path: str) -> None:
+        self.crate, self.m, self.description = crate, module, description
+        self.lines = lines_of(description)
+        self.made = f"Made by `./format` from {path}: edit that file and make this one anew."
+        self.type, self.doc, self.error = description.name, description.doc, description.error
+        self.total, self.order, self.o = description.bits, description.order, ORDERS[description.order]
+        self.grows = any(m.grows(it.kind) for it in self.lines)  # the read allocates memory
+        self.own, self.sized, self.e = bool(self.error) or self.grows, self.total is not None, self.error or "Error"
+        self.becomes_name = f"becomes_{module}" if self.error else "same_error"
+        self.fields = [it for it in self.lines if it.is_field]
+        self.tests = [it for it in self.lines if it.error]
+        self.fitting = all_fit(description.kinds)
+        self.result = f"(Result {self.type} {self.e})" if self.own else self.type
+        self.spec = spec_of(module)
+        self.declared = f"Rattle.{crate}.specs.declared.{module}"
+        self.goals = f"Rattle.{crate}.proofs.{module}"
+        self.specs_path = f"Rattle.{crate}.specs.{self.spec}"
+        self.lemmas_path = f"Rattle.{crate}.proofs.{self.spec}Lemmas"
+
+    @property
+    def bytes(self) -> int:
+        """The number of bytes of a format that has a constant number."""
+        return (self.total or 0) // 8
+
+    def pieces(self) -> list[tuple[Line, ...]]:
+        """Returns the lines that each function reads and writes."""
+        each = EACH if len(self.lines) > LONG else len(self.lines)
+        return [self.lines[k : k + each] for k in range(0, len(self.lines), each)]
+
+    def entry_parts(self) -> list[list[Line]]:
+        """Returns the lines of each definition of the reads: one ends after a line that stops, or with a piece."""
+        parts: list[list[Line]] = [[]]
+        ends = [it[-1] for it in self.pieces()[:-1]]
+        for it in self.lines:
+            parts[-1].append(it)
+            if it.stops or it in ends:
+                parts.append([])
+        return parts
+
+    def entry_at(self, line: Line) -> tuple[str, list[Line]]:
+        """Returns the definition of the reads that begins with a line, and the earlier lines whose values it takes."""
+        k = next(k for k, part in enumerate(self.entry_parts()) if part[:1] == [line])
+        seen = [it for it in self.lines[: line.index] if it.name]
+        return (f"{self.m}_entry_{k}" if k else f"{self.m}_entry"), seen
+
+    def mapped(self, kind: m.Printed) -> bool:
+        """Returns true if errors of a part become errors of the format."""
+        for use in m.uses(kind):
+            return bool(use.description.error or isinstance(kind, m.Part) and m.has_list(use) and self.error)
+        return False
+
+    def is_first(self, line: Line) -> bool:
+        """Returns true if no earlier line has the same part."""
+        return next(it for it in self.lines if it.use and line.use and it.use.module == line.use.module) is line
+
+    def is_first_optional(self, line: Line) -> bool:
+        """Returns true if no earlier line has the same optional part."""
+        optional = [it for it in self.lines if isinstance(it.kind, m.Optional | m.If)]
+        return next(it for it in optional if it.use and line.use and it.use.name == line.use.name) is line
+
+    def functions(self) -> list[str]:
+        """Returns the functions whose bodies are calls one after another."""
+        later = [f"{self.type}::{what}_{k + 1}" for what in ("read", "write") for k in range(1, len(self.pieces()))]
+        optional = [it for it in self.lines if isinstance(it.kind, m.Optional | m.If)]
+        own = [f"read_{snake(it.kind.use.name)}_if" for it in optional if isinstance(it.kind, m.Optional | m.If)]
+        return list(dict.fromkeys([f"{self.type}::read", f"{self.type}::write", *later, *own]))

@@ -1,0 +1,569 @@
+"""The model of a description: one frozen class for each kind of line. Nothing here belongs to a back end."""
+from __future__ import annotations
+
+import re
+from dataclasses import dataclass, field
+from typing import Mapping, TypeAlias, TypeGuard
+
+
+@dataclass(frozen=True, slots=True)
+class Position:
+    """A line and a column of a description, both counted from 1."""
+
+    line: int
+    column: int
+
+
+class Refused(Exception):
+    """The reason why a description, or an option of a command, is refused, with its position if it has one."""
+
+    def __init__(self, why: str, at: Position | None = None) -> None:
+        super().__init__(why)
+        self.why, self.at = why, at
+
+    def __str__(self) -> str:
+        return f"line {self.at.line}, column {self.at.column}: {self.why}" if self.at else self.why
+
+
+@dataclass(frozen=True, slots=True)
+class Line:
+    """The position of a line, and its comment."""
+
+    at: Position
+    doc: str
+
+
+@dataclass(frozen=True, slots=True)
+class Field(Line):
+    """A line that describes a field of the record."""
+
+    name: str
+
+
+@dataclass(frozen=True, slots=True)
+class Integer:
+    """A number of `width` bits, held by the Rust type `base`."""
+
+    base: str
+    width: int
+
+    @property
+    def signed(self) -> bool:
+        """True for a type `i8` to `i128`."""
+        return self.base[0] == "i"
+
+    @property
+    def least(self) -> int:
+        """The least number of `width` bits."""
+        return -(1 << (self.width - 1)) if self.signed else 0
+
+    @property
+    def most(self) -> int:
+        """The greatest number of `width` bits."""
+        return (1 << (self.width - self.signed)) - 1
+
+
+@dataclass(frozen=True, slots=True)
+class EnumType:
+    """The cases of an enum. `other` names the case of all other numbers; if it is empty, they are refused."""
+
+    name: str
+    width: int
+    cases: tuple[tuple[int, str], ...]
+    other: str
+
+    @property
+    def error(self) -> str:
+        """The case of the error for other numbers, if they are refused."""
+        return "" if self.other else f"No{self.name}"
+
+    def names(self) -> list[str]:
+        """Returns the names of all cases."""
+        return [case for _, case in self.cases] + [self.other] * bool(self.other)
+
+    def number(self, case: str) -> int | None:
+        """Returns the number of a case, or None if there is no such case or it has no number."""
+        return next((number for number, name in self.cases if name == case), None)
+
+
+@dataclass(frozen=True, slots=True)
+class Use:
+    """A reference to the description of another module."""
+
+    name: str
+    module: str
+    description: Description
+
+    @property
+    def error(self) -> str:
+        """The case of the error that holds an error of the part, if it has any."""
+        return f"In{self.name}" * bool(self.description.error)
+
+
+@dataclass(frozen=True, slots=True)
+class Octet:
+    """A byte."""
+
+    width: int = 8
+
+
+Item: TypeAlias = Integer | EnumType | Use | Octet
+
+
+@dataclass(frozen=True, slots=True)
+class Bool(Field):
+    """NAME bool"""
+
+
+@dataclass(frozen=True, slots=True)
+class Number(Field):
+    """NAME TYPE BITS"""
+
+    integer: Integer
+
+
+@dataclass(frozen=True, slots=True)
+class NonZero(Field):
+    """NAME nonzero TYPE BITS: the value less 1 is stored."""
+
+    integer: Integer
+
+
+@dataclass(frozen=True, slots=True)
+class MaybeNonZero(Field):
+    """NAME option TYPE BITS: 0 is stored for `None`."""
+
+    integer: Integer
+
+
+@dataclass(frozen=True, slots=True)
+class Enum(Field):
+    """NAME enum TYPE BITS: .."""
+
+    enum: EnumType
+    repeats: bool
+
+
+@dataclass(frozen=True, slots=True)
+class Array(Field):
+    """NAME TYPE BITS x COUNT, NAME bytes COUNT, NAME enum TYPE BITS x COUNT: .."""
+
+    item: Integer | EnumType | Octet
+    count: int
+
+
+@dataclass(frozen=True, slots=True)
+class Const(Line):
+    """const BITS VALUE ERROR, zeros BITS ERROR"""
+
+    width: int
+    value: int
+    error: str
+
+
+@dataclass(frozen=True, slots=True)
+class Skip(Line):
+    """any BITS, align"""
+
+    width: int
+    align: bool
+
+
+@dataclass(frozen=True, slots=True)
+class Unary(Field):
+    """NAME unary STOP"""
+
+    stop: int
+
+
+@dataclass(frozen=True, slots=True)
+class Groups(Field):
+    """NAME vbr BITS TYPE [any], NAME leb128 TYPE"""
+
+    integer: Integer
+    group: int
+    any: bool
+
+
+@dataclass(frozen=True, slots=True)
+class Golomb(Field):
+    """NAME ue, NAME se"""
+
+    signed: bool
+
+
+@dataclass(frozen=True, slots=True)
+class Part(Field):
+    """NAME TYPE of MODULE"""
+
+    use: Use
+
+
+@dataclass(frozen=True, slots=True)
+class Flag(Line):
+    """flag NAME"""
+
+    target: str
+
+
+@dataclass(frozen=True, slots=True)
+class Optional(Field):
+    """option NAME TYPE of MODULE"""
+
+    use: Use
+
+
+@dataclass(frozen=True, slots=True)
+class If(Field):
+    """if FIELD == VALUE NAME TYPE of MODULE: `asked` is VALUE as it is spelled, a number or the name of a case."""
+
+    use: Use
+    field: str
+    value: int
+    asked: str
+
+
+@dataclass(frozen=True, slots=True)
+class Count(Line):
+    """count LIST BITS"""
+
+    target: str
+    width: int
+
+
+@dataclass(frozen=True, slots=True)
+class List(Field):
+    """list NAME ITEM: its `count` line has the number of items."""
+
+    item: Item
+
+
+@dataclass(frozen=True, slots=True)
+class Tag(Line):
+    """tag NAME BITS: the number of the case of a later choice."""
+
+    name: str
+    width: int
+
+
+@dataclass(frozen=True, slots=True)
+class Size(Line):
+    """size NAME BITS [plus N | less N] [by N]: stores (bytes + `plus`) / `unit`."""
+
+    target: str
+    width: int
+    unit: int
+    plus: int
+
+
+@dataclass(frozen=True, slots=True)
+class Sized(Field):
+    """sized NAME TYPE of MODULE ERROR, sized NAME bytes: one part, or bytes, of exactly the size."""
+
+    item: Use | Octet
+    error: str
+
+
+@dataclass(frozen=True, slots=True)
+class Fill(Field):
+    """fill NAME TYPE of MODULE ERROR: parts up to the end of the size."""
+
+    use: Use
+    error: str
+
+
+@dataclass(frozen=True, slots=True)
+class Arm:
+    """A case of a choice, and what it holds. The case without a number takes all other numbers."""
+
+    number: int | None
+    case: str
+    held: Use | Octet | None
+
+
+@dataclass(frozen=True, slots=True)
+class Choose(Field):
+    """choose NAME TYPE [by FIELD] [sized ERROR]: ARM, ..; DOC. `overrun` is the error of a wrong size."""
+
+    type: str
+    by: str
+    sized: bool
+    overrun: str
+    arms: tuple[Arm, ...]
+
+    def arm(self, number: int) -> Arm | None:
+        """Returns the case that a number selects, or None if the number is refused."""
+        return next((it for it in self.arms if it.number in (number, None)), None)
+
+
+@dataclass(frozen=True, slots=True)
+class Rest(Field):
+    """rest NAME ITEM: items up to the end of the bytes, or of the size around them."""
+
+    item: Item
+
+
+@dataclass(frozen=True, slots=True)
+class Until(Field):
+    """until NAME TYPE BITS STOP: numbers up to the first STOP, which is not an item."""
+
+    item: Integer
+    stop: int
+
+
+Described: TypeAlias = (
+    Bool | Number | NonZero | MaybeNonZero | Enum | Array | Unary | Groups | Golomb | Part | Optional | If | List
+    | Sized | Fill | Choose | Rest | Until
+)  # fmt: skip
+Hidden: TypeAlias = Const | Skip | Flag | Count | Tag | Size
+Kind: TypeAlias = Described | Hidden
+# The kinds of which code is printed.
+Printed: TypeAlias = (
+    Bool | Number | NonZero | MaybeNonZero | Enum | Array | Unary | Groups | Golomb | Part | Optional | If | List
+    | Const | Skip | Flag | Count
+)  # fmt: skip
+
+
+def is_field(kind: Kind) -> TypeGuard[Described]:
+    """Returns true if the record has a field for this line."""
+    return isinstance(kind, Field)
+
+
+@dataclass(frozen=True, slots=True)
+class Example:
+    """A test vector: bytes in hex, and the text of their fields or of the error."""
+
+    at: Position
+    digits: str
+    answer: str
+
+
+@dataclass(frozen=True, slots=True)
+class Description:
+    """A format: its type, the order of its bits, its error, and its lines in order."""
+
+    name: str
+    doc: str
+    order: str
+    error: str
+    kinds: tuple[Kind, ...]
+    heads: Mapping[str, Position] = field(default_factory=dict)
+    examples: tuple[Example, ...] = ()
+
+    @property
+    def fields(self) -> list[Described]:
+        """The lines that describe a field."""
+        return [it for it in self.kinds if is_field(it)]
+
+    @property
+    def bits(self) -> int | None:
+        """The number of bits, or None if it is not a constant or a part has an error."""
+        return total(self.kinds)
+
+
+# ---- properties of a line that several back ends need
+
+
+def total(kinds: tuple[Kind, ...] | list[Kind]) -> int | None:
+    """Returns the number of bits of some lines, or None if it is not a constant."""
+    found = 0
+    for it in kinds:
+        width = bits(it)
+        if width is None:
+            return None
+        found += width
+    return found
+
+
+def bits(kind: Kind) -> int | None:
+    """Returns the number of bits of a line, or None if it is not a constant or belongs to a part with an error."""
+    match kind:
+        case Bool() | Flag():
+            return 1
+        case Number() | NonZero() | MaybeNonZero():
+            return kind.integer.width
+        case Enum():
+            return kind.enum.width
+        case Array():
+            return kind.item.width * kind.count
+        case Const() | Skip() | Count() | Tag() | Size():
+            return kind.width
+        case Part() if not kind.use.description.error:
+            return kind.use.description.bits
+    return None
+
+
+def case_named(number: int, enum: EnumType) -> str | None:
+    """Returns the case of a number, or None if it is the number of no case."""
+    return next((name for value, name in enum.cases if value == number), None)
+
+
+def fixed_bits(description: Description) -> int | None:
+    """Returns the number of bits of every record, also of one that is refused, or None if it is not a constant."""
+    found = 0
+    for it in description.kinds:
+        width = fixed_bits(it.use.description) if isinstance(it, Part) else bits(it)
+        if width is None:
+            return None
+        found += width
+    return found
+
+
+def open_ended(description: Description) -> bool:
+    """Returns true if a record reads up to the end of the bytes."""
+    for it in description.kinds:
+        if isinstance(it, Rest) or isinstance(it, Choose) and not it.sized and any_octets(it):
+            return True
+        limited = isinstance(it, Sized | Fill) or isinstance(it, Choose) and it.sized
+        if not limited and any(open_ended(use.description) for use in uses(it)):
+            return True
+    return False
+
+
+def any_octets(kind: Choose) -> bool:
+    """Returns true if a case of a choice holds bytes."""
+    return any(isinstance(it.held, Octet) for it in kind.arms)
+
+
+def uses(kind: Kind) -> list[Use]:
+    """Returns the other descriptions that a line refers to."""
+    if isinstance(kind, Choose):
+        return [it.held for it in kind.arms if isinstance(it.held, Use)]
+    item = held_item(kind)
+    return [item] if isinstance(item, Use) else []
+
+
+def held_item(kind: Kind) -> Item | None:
+    """Returns the item that a line has one or many of, or None if its value has no items."""
+    match kind:
+        case Enum():
+            return kind.enum
+        case Array() | List() | Rest() | Sized():
+            return kind.item
+        case Part() | Optional() | If() | Fill():
+            return kind.use
+    return None
+
+
+def error(kind: Kind) -> str:
+    """Returns the case of the error for bits that a line refuses, or an empty text if it refuses none."""
+    match kind:
+        case Const() | Fill():
+            return kind.error
+        case Sized():
+            return kind.error
+        case Choose():
+            unknown = "" if kind.arms[-1].number is None else f"No{kind.type}"
+            inside = [it.held.error for it in kind.arms if isinstance(it.held, Use) and it.held.error]
+            return next((it for it in (unknown, kind.overrun, *inside) if it), "")
+    item = held_item(kind)
+    return item.error if isinstance(item, EnumType | Use) else ""
+
+
+def grows(kind: Kind) -> bool:
+    """Returns true if the value of a line allocates memory."""
+    if isinstance(kind, List | Fill | Rest | Until):
+        return True
+    if isinstance(kind, Choose):
+        return any(isinstance(it.held, Octet) or isinstance(it.held, Use) and has_list(it.held) for it in kind.arms)
+    item = held_item(kind)
+    return isinstance(kind, Sized) and isinstance(item, Octet) or isinstance(item, Use) and has_list(item)
+
+
+def has_list(use: Use) -> bool:
+    """Returns true if a part has a list."""
+    return any(grows(it) for it in use.description.kinds)
+
+
+def item_type(item: Item) -> str:
+    """Returns the Rust type of an item."""
+    match item:
+        case Integer():
+            return item.base
+        case Octet():
+            return "u8"
+    return item.name
+
+
+def rust_type(kind: Described) -> str:
+    """Returns the Rust type of a field."""
+    match kind:
+        case Bool():
+            return "bool"
+        case Number() | Groups():
+            return kind.integer.base
+        case NonZero():
+            return f"NonZero<{kind.integer.base}>"
+        case MaybeNonZero():
+            return f"Option<NonZero<{kind.integer.base}>>"
+        case Array():
+            return f"[{item_type(kind.item)}; {kind.count}]"
+        case Unary():
+            return "u32"
+        case Golomb():
+            return "i32" if kind.signed else "u32"
+        case Enum():
+            return kind.enum.name
+        case Part():
+            return kind.use.name
+        case Optional() | If():
+            return f"Option<{kind.use.name}>"
+        case Choose():
+            return kind.type
+        case Sized():
+            return kind.item.name if isinstance(kind.item, Use) else "Vec<u8>"
+        case Fill():
+            return f"Vec<{kind.use.name}>"
+        case List() | Rest() | Until():
+            return f"Vec<{item_type(kind.item)}>"
+
+
+def span(item: Item) -> tuple[int, int] | None:
+    """Returns the least and the greatest number of an item, or None if it is not a number."""
+    match item:
+        case Integer():
+            return item.least, item.most
+        case Octet():
+            return 0, 255
+    return None
+
+
+def range_of(kind: Kind) -> tuple[int, int] | None:
+    """Returns the least and the greatest value of a number, or of each number of a list."""
+    match kind:
+        case Number() | Groups():
+            return kind.integer.least, kind.integer.most
+        case NonZero():
+            return 1, kind.integer.most + 1
+        case MaybeNonZero():
+            return 0, kind.integer.most
+        case Unary():
+            return 0, (1 << 32) - 1
+        case Golomb():
+            return (-(1 << 31) + 1, (1 << 31) - 1) if kind.signed else (0, (1 << 32) - 2)
+        case Array() | List() | Rest() | Until():
+            return span(kind.item)
+    return None
+
+
+def label(kind: Kind) -> str:
+    """Returns the text of a line in a picture, which is also the name of its value."""
+    match kind:
+        case Const():
+            return f"={kind.value}"
+        case Skip():
+            return "0"
+        case Flag():
+            return f"has_{kind.target}"
+        case Count():
+            return f"{kind.target}_count"
+        case Size():
+            return f"{kind.target}_bytes"
+        case Tag():
+            return f"{kind.name}_tag"
+    return kind.name
+
+
+def snake(name: str) -> str:
+    """Returns the name of a type in snake case."""
+    return re.sub(r"(?<!^)(?=[A-Z])", "_", name).lower()

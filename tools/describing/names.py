@@ -1,0 +1,160 @@
+"""Where names come from: the imports of a printed text are found by the names in it."""
+from __future__ import annotations
+
+import re
+from typing import TypeAlias
+
+Table: TypeAlias = dict[str, str]  # the names of each module, with blanks between them
+
+SYMBOLS = {it: f"◌{it}◌" for it in "≡ ≢ ∷ ++ ^ < ≤ + - * ∙ == ⊎".split()}
+SYMBOLS |= {"[]": "[]", "if": "if◌then◌else◌", "←": "◌>>=◌"}
+TOKEN = re.compile(r"\+\+|==|\[\]|[^\W\d][\w]*(?:-[^\W\d][\w]*)*(?:-\d+)?|\S")
+
+
+def spec_of(module: str) -> str:
+    """Returns the name of the file of specs of a module."""
+    return "".join(it.capitalize() for it in module.split("_"))
+
+
+def table(text: str) -> Table:
+    """Returns the names of each module from lines `MODULE: NAMES`; an indented line continues the line before it."""
+    lines = re.sub(r"\n +", " ", text.strip()).split("\n")
+    return {module: names.strip() for module, _, names in (it.partition(":") for it in lines)}
+
+
+# In specs, and in the contracts of code.
+SPECS = table(
+    """
+Rattle.std.specs.Prelude: ≡ ≢ ^ < ≤ + - * ++ ∷ [] == ⊎ if ℕ ℤ Bool true false List Result Ok Err Option Some None
+    is_some length take drop map IfOk IsOk unsigned_abs
+Rattle.std.specs.List: All flat_map
+Rattle.std.specs.Option: ForSome
+Rattle.std.specs.Result: IsErrAnd
+Rattle.std.specs.declared.io.ErrorKind.TheVariants: WriteZero
+Rattle.std.specs.Int.NonZero: non_zero_u8_get non_zero_u16_get non_zero_u32_get non_zero_u64_get non_zero_u128_get
+Rattle.bitstream_io.specs.Callers: ← ReadEntry WriteEntry Takes gives list_item Error EndOfInput Order High Low bits number chain
+    signed_number FitsSignedBits word first_bit bit_entry unsigned_entry signed_entry const_entry unary_entry
+    bytes_entry vec_entry bytes_of skip_entry vbr_entry any_vbr_entry signed_vbr_entry any_signed_vbr_entry items_entry
+    option_entry plain bit unsigned signed unary_word buffer zeros align vbr signed_vbr non_zero write_run words
+    Reads ReadsOwn OwnAnswer WritesAll AllAccepted run_length sure_answer GrowsOwn MayAllocate OutOfMemory Stream seen
+    same_error plain_reads part_then parts_entry all_ok if_any number_or_zero optional own_optional optional_writes
+    optional_size
+    non_zero_u8 non_zero_u16 non_zero_u32 non_zero_u64 non_zero_u128
+    non_zero_u8_entry non_zero_u16_entry non_zero_u32_entry non_zero_u64_entry non_zero_u128_entry
+Rattle.bitstream_io.specs.Error.TheVariants: VariableWidthOverflow RedundantGroup
+Rattle.bitstream_io.specs.Golomb: ue_entry ue_writes ue_size se_entry se_writes se_size
+Rattle.bitstream_io.specs.Grows: GrowingOutcome PartsRead
+Rattle.bitstream_io.specs.Loop: parts_size ItemsRead ItemsWritten
+Rattle.bitstream_io.specs.SliceMut: HoldsFirst written_bytes
+Rattle.bitstream_io.specs.ReadBack: IsReadAs
+Rattle.bitstream_io.specs.Unary: unary
+Rattle.bitstream_io.specs.Vbr: vbr_word
+Rattle.bitstream_io.specs.Word: zig
+"""
+)
+SPECS |= {f"Rattle.std.specs.declared.num.NonZeroU{n}": f"NonZeroU{n}" for n in (8, 16, 32, 64, 128)}
+
+# In proofs. A name comes from the first module that has it.
+PROOFS = table(
+    """
+Rattle.std.proofs.Common: w8 w16 w32 w64 ≡ ≢ ^ < ≤ + - * ++ ∷ [] == ⊎ ∙ ℕ ℤ Bool true false List Result Ok Err Option Some None length
+    refl ap sym subst arith rules
+Rattle.std.specs.Prelude: is_some if take drop pos negsuc map
+Rattle.std.specs.Int: w128
+Rattle.std.proofs.lemmas.List.Elements: All-weaker
+Rattle.std.proofs.lemmas.Int: to_z-of_z
+borrow.Author.Rules: sfits_of
+Rattle.bitstream_io.proofs.WriteSteps: signed_value
+Rattle.std.proofs.lemmas.Bool: eq-eqb ne_eqb cases_lt
+Rattle.std.proofs.lemmas.Bool.Decides: eqb_tells
+Rattle.bitstream_io.proofs.CallerLemmas: GoesBack Finds Packs inl inr is_error own_answered own_fields_there own_fields_short
+    own_front_answered fields_there fields_short front_answered slice_ends
+    packed-bits packed-accepted packed-room packed-short
+    unsigned-accepted signed-accepted non_zero-accepted items-accepted signed_items-accepted
+    accepted-first accepted-second
+    next_own_read exit_own_read Reads-chain-ok Reads-gives exit own_end plainly_read plainly_written
+    bit-back signed-back unsigned-back any_vbr-back bytes-back non_zero-back option-back skip-back unary-back vbr-back
+    gives-back items-back made-back literal-back part-back optional-back
+    bit-finds signed-finds unsigned-finds bytes-finds non_zero-finds option-finds skip-finds const-finds const-misses
+    gives-finds chain-finds items-finds made-finds part-finds part-misses
+    bit-written signed-written unsigned-written bytes-written non_zero-written const-written zeros-written
+    unary-written vbr-written packs-none packs-more packs-part packs-items packs-optional
+    packs-is packs-whole packs-parts packs-signed_items each-back signed_items-back signed_items-finds
+    own_grown_answered if_grown own_made item-read vec-back unsigned-each signed-each parts-begin parts-push parts-stop parts-refused
+    items-begin items-push items-stop items-refused grown written-begin written-more written-stop
+    non_zero_u8-again non_zero_u16-again non_zero_u32-again non_zero_u64-again non_zero_u128-again
+    option_u8-again option_u16-again option_u32-again option_u64-again option_u128-again
+Rattle.bitstream_io.proofs.EachLemmas: all-made own_seen_err own_optional-back each_part-back made-each packs-made made_items-back
+    made_items-finds part_items-finds part_items-misses all_ok-items made-put made-all made-stop
+Rattle.bitstream_io.proofs.GolombLemmas: ue-back ue-packs se-back se-packs
+Rattle.std.proofs.lemmas.List: map-id length-set
+Rattle.bitstream_io.proofs.SliceLemmas: new_answer
+Rattle.bitstream_io.proofs.ReadsLemmas: seen_err
+Rattle.bitstream_io.proofs.CallsBack: signed_vbr-back any_signed_vbr-back mapped-read
+Rattle.bitstream_io.proofs.WriteParts: all_none
+"""
+)
+PROOFS |= {module: names for module, names in SPECS.items() if module != "Rattle.std.specs.Prelude"}
+
+# Names that no type or case of a format may have.
+TAKEN = {it for names in SPECS.values() for it in names.split()} - {"NonZero"} | {"Reader", "Fits"}
+
+
+# Words that name no definition: a field after its holder; a name that a line binds, declares or sets; a name that a
+# record has twice; the parameters of a definition of reads.
+BOUND = re.compile(
+    r"\b[a-z]\w*(?:\.[\w-]+)+|(?<=\))\.[\w-]+|^ +\w+ (?=←)|^ +pub \w+ :|(?:^|[{;]) +\w+ =(?= )"
+    r"|\b(\w+) = \1(?= ?[;}])|(?<=_entry_)\d+ o( \w+)+",
+    re.MULTILINE,
+)
+
+
+def words_of(text: str) -> set[str]:
+    """Returns the words of a text that may name a definition."""
+    lines = [it for it in text.split("\n") if not it.startswith(("use ", "--"))]
+    return set(TOKEN.findall(BOUND.sub(" ", "\n".join(lines).replace("(← ", "("))))
+
+
+def short(name: str) -> str:
+    """Returns the name that a text uses: NAME=OTHER is NAME, imported as OTHER."""
+    return name if name in SYMBOLS else name.split("=")[-1]
+
+
+# The modules of the definitions that proofs unfold: a name that is passed on cannot be unfolded.
+UNFOLDS: Table = {
+    "Entry": "chain",
+    "Word": "digits digits_number bytes_of",
+    "WriteTable": "unsigned signed",
+    "ReadTable": "unsigned_entry signed_entry const_entry skip_entry unary_entry bytes_entry groups_entry signed_groups_entry",
+    "Array": "items_entry",
+    "Grows": "parts_entry",
+    "NonZero": "non_zero non_zero_entry option_entry",
+    "Vbr": "groups groups_at",
+}
+
+
+def modules_of(unfolded: set[str]) -> Table:
+    """Returns the modules of the definitions that proofs unfold."""
+    named = {place: " ".join(it for it in names.split() if it in unfolded) for place, names in UNFOLDS.items()}
+    return {f"Rattle.bitstream_io.specs.{place}": names for place, names in named.items() if names}
+
+
+def uses(text: str, *tables: Table, begins: str = "use ", ends: str = "") -> list[str]:
+    """Returns the imports of a text, each name from the first module that has it."""
+    left = words_of(text)
+    lines: list[str] = []
+    for module, names in (it for one in tables for it in one.items()):
+        named = [it for it in dict.fromkeys(names.split()) if short(it) in left]
+        left -= {short(it) for it in named}
+        if named:
+            said = ", ".join(SYMBOLS.get(it) or it.replace("=", " as ") for it in named)
+            lines.append(f"{begins}{module}.{{{said}}}{ends}")
+    return lines
+
+
+def merged(*tables: Table) -> Table:
+    """Returns one table from several, with all names of each module."""
+    found: Table = {}
+    for module, names in (it for one in tables for it in one.items()):
+        found[module] = f"{found.get(module, '')} {names}".strip()
+    return found

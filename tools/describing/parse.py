@@ -1,0 +1,597 @@
+"""The parser of descriptions. Each refusal names the line and the column.
+
+A function `.._line` parses the rest of a line that begins so; `describing.model` has the form of each line.
+"""
+from __future__ import annotations
+
+import os
+import re
+from dataclasses import dataclass, field
+from typing import Callable, Protocol
+
+from describing import model as m
+from describing.model import Position, Refused
+from describing.words import Early, Words, number
+
+UNSIGNED = ("u8", "u16", "u32", "u64", "u128")
+SIGNED = ("i8", "i16", "i32", "i64", "i128")
+HEADS = {"struct": "`struct NAME: DOC`", "order": "`order BE` or `order LE`", "error": "`error NAME`"}
+GIVEN = "`0 CASE, 1 CASE, ..` behind a colon"
+INTEGER = "`NAME TYPE BITS` or `NAME TYPE BITS x COUNT`"
+ENUM = "`NAME enum TYPE BITS{}: NUMBER CASE, ..; DOC`"
+LIST = "`{0} NAME TYPE BITS`, `{0} NAME bytes`, `{0} NAME enum TYPE BITS: ..` or `{0} NAME TYPE of MODULE`"
+ARMS = "NUMBER CASE [of MODULE], .. CASE [bytes]; DOC"
+# The form of a line, by its type (the word after the name of the field) or by its first word.
+TYPES = {it: INTEGER for it in (*UNSIGNED, *SIGNED)} | {
+    "bool": "`NAME bool`",
+    "bytes": "`NAME bytes COUNT`",
+    "nonzero": "`NAME nonzero TYPE BITS`",
+    "option": "`NAME option TYPE BITS`",
+    "enum": f"{ENUM.format('')}, without cases if a line before it has them, or {ENUM.format(' x COUNT')}",
+    "unary": "`NAME unary STOP`",
+    "vbr": "`NAME vbr BITS TYPE` or `NAME vbr BITS TYPE any`, and TYPE is u8 to u128, or i8 to i128",
+    "leb128": "`NAME leb128 TYPE`, and TYPE is u16 to u128, or i16 to i128",
+    "ue": "`NAME ue`",
+    "se": "`NAME se`",
+}
+STARTS = {
+    "const": "`const BITS VALUE ERROR`",
+    "any": "`any BITS`",
+    "align": "`align`",
+    "zeros": "`zeros BITS ERROR`",
+    "flag": "`flag NAME`",
+    "option": "`option NAME TYPE of MODULE`",
+    "if": "`if FIELD == VALUE NAME TYPE of MODULE`",
+    "count": "`count LIST BITS`",
+    "list": LIST.format("list"),
+    "tag": "`tag NAME BITS`",
+    "size": "`size NAME BITS [plus N | less N] [by N]`",
+    "sized": "`sized NAME TYPE of MODULE ERROR` or `sized NAME bytes`",
+    "fill": "`fill NAME TYPE of MODULE ERROR`",
+    "choose": f"`choose NAME TYPE [by FIELD] [sized ERROR]: {ARMS}`",
+    "rest": LIST.format("rest"),
+    "until": "`until NAME TYPE BITS STOP`",
+}
+COMING = ("tag", "size", "sized", "fill", "choose", "rest", "until")
+
+
+class Find(Protocol):
+    """Finds the description of a module."""
+
+    def __call__(self, module: str, /) -> m.Description:
+        ...
+
+
+@dataclass
+class Context:
+    """The lines so far, and the function that finds the description of a part."""
+
+    find: Find
+    kinds: list[m.Kind] = field(default_factory=list)
+
+    def enum(self, name: str) -> m.EnumType | None:
+        """Returns the enum of this name that an earlier line defines."""
+        for it in self.kinds:
+            match it:
+                case m.Enum(enum=enum) | m.List(item=m.EnumType() as enum) | m.Rest(item=m.EnumType() as enum):
+                    if enum.name == name:
+                        return enum
+        return None
+
+    def counted(self, name: str) -> bool:
+        """Returns true if an earlier line counts the items of a list."""
+        return any(isinstance(it, m.Count) and it.target == name for it in self.kinds)
+
+    def measured(self, name: str) -> bool:
+        """Returns true if an earlier line has the size of a field."""
+        return any(isinstance(it, m.Size) and it.target == name for it in self.kinds)
+
+
+# ---- parts of lines
+
+
+def integer(words: Words, known: str = "", wraps: str = "", most: int = 0) -> m.Integer:
+    """Takes TYPE BITS, or BITS if the type is `known`. A type that wraps it has `most` bits fewer at most."""
+    base = known or words.next()
+    what = f"the width of a {wraps.format(base) if wraps else base}"
+    if base[1:] not in ("8", "16", "32", "64", "128") or base[0] not in "ui":
+        raise words.refuse(f"`{base}` is no type of a number: take u8 to u128, or i8 to i128")
+    return m.Integer(base, words.number(1, int(base[1:]) - most, what))
+
+
+def use(words: Words, context: Context, lists: bool = True) -> m.Use:
+    """Takes TYPE of MODULE. Without `lists` a part that has a list is refused."""
+    name, at = words.next(), words.place(1)
+    if words.next() != "of":
+        raise words.refuse("`NAME TYPE of MODULE`")
+    module = words.next()
+    found = m.Use(name, module, finding(context, module, words.place(1)))
+    check_use(found, lists, at)
+    return found
+
+
+def finding(context: Context, module: str, at: Position) -> m.Description:
+    """Returns the description of a module; a refusal has the position of its name here."""
+    try:
+        return context.find(module)
+    except Refused as it:
+        raise Refused(f"`{module}`: {it}" if it.at else it.why, at) from None
+
+
+def check_use(found: m.Use, lists: bool, at: Position) -> None:
+    """Refuses a part of another type than its module describes, or with a list where none may be."""
+    if found.description.name != found.name:
+        raise Refused(f"`{found.module}` describes `{found.description.name}`, and not `{found.name}`", at)
+    if not lists and m.has_list(found):
+        raise Refused(f"`{found.name}` has a list, so it stands neither in a list nor behind a condition", at)
+
+
+def count(words: Words) -> int:
+    """Takes the number of items of an array."""
+    return words.number(1, 4096, "the number of items")
+
+
+def new_enum(words: Words, name: str, width: int) -> tuple[m.EnumType, str]:
+    """Parses the cases after the colon, and returns the enum and the comment after them."""
+    cases, _, doc = words.behind.partition(";")
+    found: list[tuple[int, str]] = []
+    other = ""
+    for said in cases.split(","):
+        value, case = said.split()
+        if value == "..":
+            other = case
+        else:
+            found.append((number(value, 0, (1 << width) - 1, "the number of a case", words.place(1)), case))
+    enum = m.EnumType(name, width, tuple(found), other)
+    check_enum(enum, words.place(1))
+    return enum, doc.strip()
+
+
+def check_enum(enum: m.EnumType, at: Position) -> None:
+    """Refuses cases with the same number or name, and a case for other numbers if there are none."""
+    names = [enum.name, *enum.names()]
+    if len(dict(enum.cases)) < len(enum.cases):
+        raise Refused("two cases have one number", at)
+    if len(set(names)) < len(names):
+        raise Refused("two cases have one name, or one has that of the enum", at)
+    if len(enum.cases) == 1 << enum.width and enum.other:
+        raise Refused("no number is left for the other case", at)
+
+
+def enum_of(words: Words, context: Context) -> tuple[m.EnumType, str, bool]:
+    """Takes TYPE BITS: CASES; DOC. Without cases, an earlier line has them, and the last value is true."""
+    name = words.next()
+    width, at = words.number(1, 32, "the width of an enum"), words.place(1)
+    if re.match(r"\s*(\d|\.\.)", words.behind):
+        return (*new_enum(words, name, width), False)
+    if words.peek() == "x":
+        raise Refused(f"an array says its cases itself: {GIVEN}", at)
+    known = context.enum(name)
+    if not known:
+        raise Refused(f"no line before it says the cases of `{name}`: {GIVEN}", at)
+    if known.width != width:
+        raise Refused(f"`{name}` has {known.width} bits above", at)
+    return known, words.behind, True
+
+
+def item(words: Words, context: Context, lists: bool) -> tuple[m.Item, str]:
+    """Takes the item of a list, and returns it with the comment."""
+    word = words.peek()
+    if words.peek(1) == "of":
+        return use(words, context, lists), words.behind
+    words.next()
+    if word == "bytes":
+        return m.Octet(), words.behind
+    if word == "enum":
+        enum, doc, _ = enum_of(words, context)
+        return enum, doc
+    if word not in (*UNSIGNED, *SIGNED):
+        why = f"`{word}` in a list: take u8 to u128, i8 to i128, bytes, an enum, or a part"
+        raise words.refuse(why)
+    return integer(words, word), words.behind
+
+
+# ---- lines that begin with the name of a field
+
+
+def typed(words: Words, context: Context) -> m.Kind:
+    """Parses a line NAME TYPE and so on."""
+    name, at = words.next(), words.place(1)
+    if words.peek(1) == "of":
+        return m.Part(at, words.behind, name, use(words, context))
+    if not words.peek():
+        raise words.refuse(f"`{name}` is no kind of a line, and names no type behind it")
+    word = words.next()
+    if word not in TYPES:
+        raise words.refuse(f"`{word}` is no kind of a field")
+    return TYPED[word](words, context, word, Position(at.line, at.column), name)
+
+
+def integer_line(words: Words, context: Context, word: str, at: Position, name: str) -> m.Kind:
+    number = integer(words, word)
+    if words.skip("x"):
+        return m.Array(at, words.behind, name, number, count(words))
+    return m.Number(at, words.behind, name, number)
+
+
+def bool_line(words: Words, context: Context, word: str, at: Position, name: str) -> m.Kind:
+    return m.Bool(at, words.behind, name)
+
+
+def bytes_line(words: Words, context: Context, word: str, at: Position, name: str) -> m.Kind:
+    return m.Array(at, words.behind, name, m.Octet(), words.number(1, 4096, "the number of bytes"))
+
+
+def nonzero_line(words: Words, context: Context, word: str, at: Position, name: str) -> m.Kind:
+    return m.NonZero(at, words.behind, name, integer(words, wraps="NonZero<{}>", most=1))
+
+
+def option_line(words: Words, context: Context, word: str, at: Position, name: str) -> m.Kind:
+    return m.MaybeNonZero(at, words.behind, name, integer(words))
+
+
+def enum_line(words: Words, context: Context, word: str, at: Position, name: str) -> m.Kind:
+    enum, doc, repeats = enum_of(words, context)
+    if words.skip("x"):
+        return m.Array(at, doc, name, enum, count(words))
+    return m.Enum(at, doc, name, enum, repeats)
+
+
+def unary_line(words: Words, context: Context, word: str, at: Position, name: str) -> m.Kind:
+    return m.Unary(at, words.behind, name, words.number(0, 1, "the bit that ends it"))
+
+
+def groups_type(words: Words, base: str) -> m.Integer:
+    """Returns the type of a number in groups, which has all its bits."""
+    if base not in (*UNSIGNED, *SIGNED):
+        raise words.refuse(f"`{base}` in groups: take u8 to u128, or i8 to i128")
+    return m.Integer(base, int(base[1:]))
+
+
+def vbr_line(words: Words, context: Context, word: str, at: Position, name: str) -> m.Kind:
+    words.next()
+    whole = groups_type(words, words.next())
+    words.at -= 2
+    group = words.number(2, whole.width - 1, "the bits of a group")
+    words.next()
+    if words.peek() not in ("any", "") and len(words.found) == words.at + 1:
+        raise words.refuse(f"`any` or nothing, and not `{words.peek()}`", 0)
+    return m.Groups(at, words.behind, name, whole, group, words.skip("any"))
+
+
+def leb128_line(words: Words, context: Context, word: str, at: Position, name: str) -> m.Kind:
+    whole = groups_type(words, words.next())
+    number("8", 2, whole.width - 1, "the bits of a group", words.place(1))
+    return m.Groups(at, words.behind, name, whole, 8, True)
+
+
+def golomb_line(words: Words, context: Context, word: str, at: Position, name: str) -> m.Kind:
+    return m.Golomb(at, words.behind, name, word == "se")
+
+
+# ---- lines that begin with a word of their own
+
+
+def const_line(words: Words, context: Context, at: Position) -> m.Kind:
+    width = words.number(1, 32, "the width of a constant")
+    value = words.number(0, (1 << width) - 1, "the constant")
+    return m.Const(at, words.behind or f"The bits are not {value}.", width, value, words.next())
+
+
+def zeros_line(words: Words, context: Context, at: Position) -> m.Kind:
+    if len(words.found) != 3:
+        raise Refused("`zeros BITS ERROR`, or `any BITS` if any bits are read there", at)
+    width = words.number(1, 32, "the width of a constant")
+    return m.Const(at, words.behind or "The bits are not 0.", width, 0, words.next())
+
+
+def any_line(words: Words, context: Context, at: Position) -> m.Kind:
+    return m.Skip(at, words.behind, words.number(1, 4096, "the number of zeros"), False)
+
+
+def align_line(words: Words, context: Context, at: Position) -> m.Kind:
+    width = m.total(context.kinds)
+    if width is None:
+        why = "`align` behind what has no constant number of bits: how many it has is not known"
+        raise Refused(why, at)
+    if width % 8 == 0:
+        raise Refused(f"nothing to align: {width} bits stand before it", at)
+    return m.Skip(at, words.behind, -width % 8, True)
+
+
+def flag_line(words: Words, context: Context, at: Position) -> m.Kind:
+    return m.Flag(at, words.behind, words.next())
+
+
+def option_part(words: Words, context: Context, at: Position) -> m.Kind:
+    name = words.next()
+    if not any(isinstance(it, m.Flag) and it.target == name for it in context.kinds):
+        raise words.refuse(f"no `flag {name}` before it")
+    return m.Optional(at, words.behind, name, use(words, context, lists=False))
+
+
+def if_line(words: Words, context: Context, at: Position) -> m.Kind:
+    asked, place = words.next(), words.place(1)
+    if words.next() != "==":
+        raise words.refuse(STARTS["if"])
+    said, there = words.next(), words.place(1)
+    value = asked_value(context, asked, said, place, there)
+    name = words.next()
+    return m.If(at, words.behind, name, use(words, context, lists=False), asked, value, said)
+
+
+def asked_value(context: Context, asked: str, said: str, place: Position, there: Position) -> int:
+    """Returns the number that a condition compares an earlier field with."""
+    for it in context.kinds:
+        match it:
+            case m.Enum(name=name, enum=enum) if name == asked:
+                found = enum.number(said)
+                if found is None:
+                    raise Refused(f"`{said}` is no case of {enum.name} with a number of its own", there)
+                return found
+            case (m.Number() | m.Groups()) if it.name == asked and not it.integer.signed:
+                return number(said, 0, (1 << 128) - 1, "what is asked for", there)
+            case (m.Unary() | m.Golomb(signed=False) | m.Tag()) if it.name == asked:
+                return number(said, 0, (1 << 128) - 1, "what is asked for", there)
+    raise Refused(f"no number or enum `{asked}` before it", place)
+
+
+def count_line(words: Words, context: Context, at: Position) -> m.Kind:
+    name = words.next()
+    return m.Count(at, words.behind, name, words.number(1, 32, "the width of a count"))
+
+
+def list_line(words: Words, context: Context, at: Position) -> m.Kind:
+    name, place = words.next(), words.place(1)
+    found, doc = item(words, context, lists=False)
+    if not context.counted(name):
+        raise Refused(f"no `count {name} BITS` before it", place)
+    return m.List(at, doc, name, found)
+
+
+def tag_line(words: Words, context: Context, at: Position) -> m.Kind:
+    name = words.next()
+    return m.Tag(at, words.behind, name, words.number(1, 32, "the width of a tag"))
+
+
+def size_line(words: Words, context: Context, at: Position) -> m.Kind:
+    name = words.next()
+    width, unit, plus = words.number(1, 64, "the width of a size"), 1, 0
+    if words.peek() in ("plus", "less"):
+        sign = 1 if words.next() == "plus" else -1
+        plus = sign * words.number(1, 1 << 16, "what is added")
+    if words.peek() == "by" and words.next():
+        unit = words.number(2, 4096, "the bytes of a unit")
+    return m.Size(at, words.behind, name, width, unit, plus)
+
+
+def sized_line(words: Words, context: Context, at: Position) -> m.Kind:
+    name = measured(words, context)
+    if words.peek() == "bytes" and words.next():
+        return m.Sized(at, words.behind, name, m.Octet(), "")
+    return m.Sized(at, words.behind, name, use(words, context), words.next())
+
+
+def fill_line(words: Words, context: Context, at: Position) -> m.Kind:
+    name = measured(words, context)
+    return m.Fill(at, words.behind, name, use(words, context), words.next())
+
+
+def measured(words: Words, context: Context) -> str:
+    """Takes the name of a field whose size an earlier line has."""
+    name = words.next()
+    if not context.measured(name):
+        raise words.refuse(f"no `size {name} BITS` before it")
+    return name
+
+
+def choose_line(words: Words, context: Context, at: Position) -> m.Kind:
+    name, type = words.next(), words.next()
+    by = words.next() if words.peek() == "by" and words.next() else name
+    place = words.place(1)
+    overrun = words.next() if words.peek() == "sized" and words.next() else ""
+    sized = context.measured(name)
+    if bool(overrun) != sized:
+        why = f"no `size {name} BITS` before it" if overrun else f"`sized ERROR`: `{name}` has a size"
+        raise Refused(why, place)
+    width = tag_width(context, by, place)
+    said, _, doc = words.behind.partition(";")
+    arms = tuple(arm(words, context, it.split(), width) for it in said.split(","))
+    check_arms(arms, width, place)
+    return m.Choose(at, doc.strip(), name, type, by, sized, overrun, arms)
+
+
+def tag_width(context: Context, by: str, place: Position) -> int:
+    """Returns the width of the earlier field that selects the case of a choice."""
+    for it in context.kinds:
+        match it:
+            case m.Tag(name=name, width=width) | m.Enum(name=name, enum=m.EnumType(width=width)) if name == by:
+                return width
+            case m.Number(name=name, integer=whole) if name == by and not whole.signed:
+                return whole.width
+    raise Refused(f"no `tag {by} BITS` before it, and no number or enum `{by}`", place)
+
+
+def arm(words: Words, context: Context, said: list[str], width: int) -> m.Arm:
+    """Parses a case of a choice."""
+    at = words.place(1)
+    value, case = said[0], said[1]
+    number_of = None if value == ".." else number(value, 0, (1 << width) - 1, "the number of a case", at)
+    if said[2:] == ["bytes"]:
+        return m.Arm(number_of, case, m.Octet())
+    if said[-2:-1] == ["of"]:
+        found = m.Use(said[-3], said[-1], finding(context, said[-1], at))
+        check_use(found, True, at)
+        return m.Arm(number_of, case, found)
+    if len(said) > 2:
+        raise Refused(f"`{' '.join(said[2:])}` is not understood behind the case `{case}`", at)
+    return m.Arm(number_of, case, None)
+
+
+def check_arms(arms: tuple[m.Arm, ...], width: int, at: Position) -> None:
+    """Refuses cases of a choice that do not belong together."""
+    numbers = [it.number for it in arms]
+    if len(set(numbers)) < len(arms):
+        raise Refused("two cases have one number", at)
+    if len({it.case for it in arms}) < len(arms):
+        raise Refused("two cases have one name", at)
+    if None in numbers[:-1]:
+        raise Refused("the case behind `..` is the last one", at)
+    if None in numbers and len(arms) > 1 << width:
+        raise Refused("no number is left for the other case", at)
+
+
+def rest_line(words: Words, context: Context, at: Position) -> m.Kind:
+    name = words.next()
+    found, doc = item(words, context, lists=True)
+    return m.Rest(at, doc, name, found)
+
+
+def until_line(words: Words, context: Context, at: Position) -> m.Kind:
+    name = words.next()
+    whole = integer(words)
+    return m.Until(at, words.behind, name, whole, words.number(whole.least, whole.most, "the number that ends it"))
+
+
+TypedLine = Callable[[Words, Context, str, Position, str], m.Kind]
+StartedLine = Callable[[Words, Context, Position], m.Kind]
+TYPED: dict[str, TypedLine] = {it: integer_line for it in (*UNSIGNED, *SIGNED)} | {
+    "bool": bool_line,
+    "bytes": bytes_line,
+    "nonzero": nonzero_line,
+    "option": option_line,
+    "enum": enum_line,
+    "unary": unary_line,
+    "vbr": vbr_line,
+    "leb128": leb128_line,
+    "ue": golomb_line,
+    "se": golomb_line,
+}
+STARTED: dict[str, StartedLine] = {
+    "const": const_line,
+    "any": any_line,
+    "align": align_line,
+    "zeros": zeros_line,
+    "flag": flag_line,
+    "option": option_part,
+    "if": if_line,
+    "count": count_line,
+    "list": list_line,
+    "tag": tag_line,
+    "size": size_line,
+    "sized": sized_line,
+    "fill": fill_line,
+    "choose": choose_line,
+    "rest": rest_line,
+    "until": until_line,
+}
+
+
+# ---- whole descriptions
+
+
+def started(words: Words) -> bool:
+    """Returns true if the first word says what the line is, and is not the name of a field."""
+    first = words.peek()
+    coming = first in COMING and words.peek(2) == "of" and len(words.found) == 4 and first not in ("rest",)
+    return first in STARTED and words.peek(1) not in TYPES and not coming
+
+
+def form_of(words: Words) -> str:
+    """Returns the form of a line that begins so."""
+    words.at = 0
+    if words.peek(2) == "of":
+        return "`NAME TYPE of MODULE`"
+    if words.peek() in HEADS:
+        return HEADS[words.peek()]
+    return STARTS[words.peek()] if started(words) else TYPES[words.peek(1)]
+
+
+def kind_of(words: Words, context: Context) -> m.Kind:
+    """Parses a line that describes bits."""
+    if started(words):
+        at = words.place()
+        found = STARTED[words.next()](words, context, at)
+    else:
+        found = typed(words, context)
+    words.end()
+    return found
+
+
+@dataclass
+class Head:
+    """The parts of a description that are not lines of bits, so far."""
+
+    name: str = ""
+    doc: str = ""
+    order: str = "BE"
+    error: str = ""
+    heads: dict[str, Position] = field(default_factory=dict)
+    examples: list[m.Example] = field(default_factory=list)
+
+
+def take_head(head: Head, words: Words) -> None:
+    """Parses `struct`, `order` or `error`."""
+    word, at = words.next(), words.place(1)
+    value = words.next()
+    head.heads[word] = at
+    if word == "struct":
+        head.name, head.doc = value, words.behind or f"A {value}."
+    elif word == "order":
+        head.order = value
+    else:
+        head.error = value
+
+
+def take(head: Head, context: Context, words: Words) -> None:
+    """Parses one line."""
+    if words.peek() in HEADS and len(words.found) < 3:
+        take_head(head, words)
+    elif words.peek() == "example":
+        digits = " ".join(it for _, it in words.found[1:])
+        head.examples.append(m.Example(words.place(), digits, words.behind))
+    else:
+        context.kinds.append(kind_of(words, context))
+
+
+def words_of(line: str, count: int) -> Words:
+    """Splits a line into words, each with its column."""
+    head, _, behind = line.partition(":")
+    found = [(it.start(), it[0]) for it in re.finditer(r"\S+", head)]
+    return Words(count, found, behind.strip())
+
+
+def parsed(text: str, find: Find) -> m.Description:
+    """Returns the model of a description. `describing.checks` refuses lines that do not belong together."""
+    head, context = Head(), Context(find)
+    for count, line in enumerate(text.split("\n"), 1):
+        words = words_of(line, count)
+        if not words.found or words.peek().startswith("#"):
+            continue
+        try:
+            take(head, context, words)
+        except Early:
+            at = words.place()
+            raise Refused(f"`{line.strip()}` ends too early: it is {form_of(words)}", at) from None
+        except (ValueError, IndexError):
+            why = f"`{line.strip()}` is not understood: it is "
+            raise Refused(why + form_of(words), words.place()) from None
+    kinds, examples = tuple(context.kinds), tuple(head.examples)
+    return m.Description(head.name, head.doc, head.order, head.error, kinds, head.heads, examples)
+
+
+def beside(path: str, within: tuple[str, ...], check: Callable[[m.Description], None]) -> Find:
+    """Returns the function that finds the description of a module in the folder of `path`."""
+
+    def find(module: str) -> m.Description:
+        place = os.path.join(os.path.dirname(path), f"{module}.fields")
+        if module in within:
+            raise Refused(f"`{module}` is a part of itself")
+        if not os.path.exists(place):
+            raise Refused(f"no description `{module}.fields` stands beside this one")
+        with open(place, encoding="utf-8") as file:
+            found = parsed(file.read(), beside(place, (*within, module), check))
+        check(found)
+        return found
+
+    return find

@@ -1,0 +1,130 @@
+"""Prints the files of a format into a crate, laid out as `rt fmt` wants them."""
+from __future__ import annotations
+
+import os
+import shutil
+import subprocess
+import tempfile
+from typing import Mapping
+
+from chains import answers_of
+from describing import model as m
+from describing.examples import described
+from describing.layout import Format
+from describing.model import Refused
+from describing.names import TAKEN
+from describing.proofs import printed as proofs
+from describing.rust import printed as rust
+from describing.specs import printed as specs
+from source import Unknown
+
+
+def files_of(f: Format) -> dict[str, str]:
+    """Returns the texts by their places in the crate, except the answers of call sequences."""
+    return rust.files(f) | specs.files(f) | proofs.files(f) | specs.fields_files(f) | proofs.answer_files(f)
+
+
+def put(folder: str, place: str, text: str) -> None:
+    """Writes a file of a folder."""
+    path = os.path.join(folder, place)
+    os.makedirs(os.path.dirname(path), exist_ok=True)
+    with open(path, "w", encoding="utf-8") as file:
+        file.write(text)
+
+
+def text_of(*path: str) -> str:
+    """Returns the text of a file."""
+    with open(os.path.join(*path), encoding="utf-8") as file:
+        return file.read()
+
+
+def format_of(description: str, folder: str, name: str) -> Format:
+    """Returns the format of a description, as a module of the crate in `folder`."""
+    taken = {f"{name}_{it}" for it in ("entry", "writes", "bits", "size", "at")} & (TAKEN | {"groups_at"})
+    if taken:
+        raise Refused(f"the library has a `{min(taken)}`: take another name for the module")
+    inside = os.path.relpath(description, folder)
+    path = os.path.basename(description) if inside.startswith("..") else inside
+    said = described(text_of(description), description, name)
+    return Format(os.path.basename(os.path.abspath(folder)), name, said, path)
+
+
+def root_of(folder: str) -> str:
+    """Returns the root file of a crate: of the program if it has one, and else of the library."""
+    return "src/main.rt" if os.path.exists(os.path.join(folder, "src", "main.rt")) else "src/lib.rt"
+
+
+def lay_out(crate: str) -> None:
+    """Runs `rt fmt` in a crate."""
+    ran = subprocess.run(["rt", "fmt"], cwd=crate, capture_output=True, text=True, check=False)
+    if ran.returncode:
+        raise Refused(f"rt fmt: {(ran.stdout + ran.stderr).strip()}")
+
+
+def print_into(crate: str, f: Format) -> list[str]:
+    """Puts the files of a format into a crate, and returns their places."""
+    for it in f.lines:
+        for use in m.uses(it.kind):
+            if not os.path.exists(os.path.join(crate, "src", f"{use.module}.rt")):
+                why = f"`{use.module}` is not printed: run `./format` on `{use.module}.fields` first"
+                raise Refused(why, it.kind.at)
+    files = files_of(f)
+    for place, text in files.items():
+        put(crate, place, text)
+    for function in f.functions():
+        place = proofs.answers_path(f, function.replace("::", "/"))
+        try:
+            files[place] = f"-- {f.made}\n{answers_of(crate, f'src/{f.m}.rt', function)}"
+        except Unknown as it:
+            raise Refused(f"answers of {function}: {it}") from None
+        put(crate, place, files[place])
+    return list(files)
+
+
+def printed(descriptions: Mapping[str, str], folder: str) -> list[tuple[Format, dict[str, str]]]:
+    """Returns the format of each description, by path and module, and the texts of its files by place."""
+    found = [format_of(it, folder, name) for it, name in descriptions.items()]
+    with tempfile.TemporaryDirectory() as room:
+        crate = os.path.join(room, "crates", os.path.basename(os.path.abspath(folder)))
+        if os.path.isdir(os.path.join(folder, "src")):
+            shutil.copytree(os.path.join(folder, "src"), os.path.join(crate, "src"))
+        places = [print_into(crate, it) for it in found]
+        put(room, "crates.txt", f"{os.path.basename(crate)}:\n")
+        put(crate, root_of(crate), "".join(f"mod {it.m};\n" for it in found))
+        lay_out(crate)
+        return [(it, {place: text_of(crate, place) for place in named}) for it, named in zip(found, places)]
+
+
+# ---- the lines that name the files
+
+
+def listed(f: Format, root: str) -> dict[str, list[str]]:
+    """Returns the lines that name the files, by the file that has them; `root` is the root file of the crate."""
+    return {
+        root: ["pub " * (root == "src/lib.rt") + f"mod {f.m};"],
+        "specs/Lib.antt": [f"pub mod {f.spec}"] + [f"pub mod {f.spec}Fields"] * f.grows,
+        "proofs/Lib.antt": [f"pub mod {f.spec}Lemmas"] + [f"mod {f.spec}Rows"] * bool(f.description.examples),
+    }
+
+
+def add_line(folder: str, place: str, line: str) -> None:
+    """Adds a line that names a file, if it is not there, before the first line like it that is greater."""
+    path = os.path.join(folder, place)
+    lines = text_of(path).rstrip("\n").split("\n") if os.path.exists(path) else []
+    if line not in lines:
+        like = [k for k, it in enumerate(lines) if it.split(" ")[:-1] == line.split(" ")[:-1]]
+        at = next((k for k in like if lines[k] > line), like[-1] + 1 if like else len(lines))
+        apart = [""] * (place.endswith(".rt") and bool(lines) and not like)
+        put(folder, place, "\n".join([*lines[:at], *apart, line, *lines[at:]]) + "\n")
+
+
+def write(description: str, folder: str, name: str = "") -> int:
+    """Writes the files of a format, and the lines that name them; returns how many lines are written."""
+    name = name or os.path.splitext(os.path.basename(description))[0]
+    f, files = printed({description: name}, folder)[0]
+    for place, text in files.items():
+        put(folder, place, text)
+    for place, lines in listed(f, root_of(folder)).items():
+        for line in lines:
+            add_line(folder, place, line)
+    return sum(text.count("\n") for text in files.values())

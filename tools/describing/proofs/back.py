@@ -1,0 +1,209 @@
+"""The terms that a line is read back as it was written, each around the term of the lines after it."""
+from __future__ import annotations
+
+from typing import assert_never
+
+from describing import model as m
+from describing.layout import Format, Line
+from describing.model import snake
+from describing.specs.terms import (
+    bit,
+    entry,
+    enum_number,
+    enum_shape,
+    groups_call,
+    here,
+    if_there,
+    item_writes,
+    known,
+    non_zero,
+    or_zero,
+    shape,
+    short,
+    sign,
+    stored,
+    value,
+    width,
+    word,
+)
+
+
+def back(f: Format, line: Line, behind: str) -> str:
+    """Returns the term for a line."""
+    kind, term = line.kind, value(line)
+    match kind:
+        case m.Bool():
+            return f"bit-back {term} _ _ _ ({behind})"
+        case m.Flag():
+            return f"bit-back (is_some value.{kind.target}) _ _ _ ({behind})"
+        case m.Number():
+            return number_back(kind, behind)
+        case m.NonZero() | m.MaybeNonZero():
+            return named_back(kind, behind)
+        case m.Array():
+            return array_back(line, kind, behind)
+        case m.Const():
+            return f"literal-back _ _ o {kind.width} {kind.value} _ refl ({behind})"
+        case m.Skip():
+            return f"skip-back _ _ {kind.width} _ ({behind})"
+        case m.Enum():
+            return enum_back(line, kind, behind)
+        case m.Unary():
+            return f"unary-back _ _ {bit(kind.stop)} {term} _ fits.{kind.name} ({behind})"
+        case m.Groups():
+            return groups_back(kind, behind)
+        case m.Golomb():
+            goes = f"({short(kind)}-back o {term} fits.{kind.name}).back"
+            return f"part-back ({entry(f, line)}) _ ({word(line)}) _ {term} _ {goes} ({behind})"
+        case m.Count():
+            length = f"(length value.{kind.target})"
+            return f"unsigned-back o {kind.width} _ _ 64 {length} _ refl fits.{line.name} ({behind})"
+        case m.List():
+            return list_back(f, line, kind, behind)
+        case m.Part():
+            goes = is_read(f, line, kind.use, term, f"fits.{kind.name}")
+            return f"part-back ({entry(f, line)}) _ ({word(line)}) _ {answered(line, term)} _ {goes} ({behind})"
+        case m.Optional() | m.If():
+            there = if_there(f, line, known(f, kind))
+            return f"part-back ({there}) _ ({word(line)}) _ {answered(line, term)} _ {kind.name} ({behind})"
+    assert_never(kind)
+
+
+def number_back(kind: m.Number, behind: str) -> str:
+    """Returns the term for a number."""
+    fits = f"refl {'refl ' * kind.integer.signed}fits.{kind.name}"
+    bits = kind.integer.width
+    return f"{sign(kind.integer)}-back o {bits} _ _ {width(kind.integer)} value.{kind.name} _ {fits} ({behind})"
+
+
+def groups_back(kind: m.Groups, behind: str) -> str:
+    """Returns the term for a number in groups."""
+    made = f"_ _ o {kind.group} {kind.integer.width} value.{kind.name}"
+    return f"{groups_call(kind)}-back {made} _ refl refl fits.{kind.name} ({behind})"
+
+
+def named_back(kind: m.NonZero | m.MaybeNonZero, behind: str) -> str:
+    """Returns the term for a `NonZero`, or an optional one."""
+    lemma, number = ("non_zero", non_zero(kind)) if isinstance(kind, m.NonZero) else ("option", or_zero(kind))
+    base, term = kind.integer.base, f"value.{kind.name}"
+    made = f"non_zero_{base} {width(kind.integer)} {kind.integer.width} ({number}) {term}"
+    return f"{lemma}-back _ _ o {made} _ refl fits.{kind.name} ({lemma}_{base}-again {term}) ({behind})"
+
+
+def enum_back(line: Line, kind: m.Enum, behind: str) -> str:
+    """Returns the term for a case."""
+    term = value(line)
+    made = f"{enum_shape(kind.enum)} ({enum_number(kind.enum, term)}) {snake(kind.enum.name)}_of"
+    answer = f"(Ok {term})" if line.error else term
+    return f"made-back _ _ {made} {answer} _ refl {small(kind)} {again(kind)} ({behind})"
+
+
+def small(kind: m.Enum) -> str:
+    """Returns the term that the number of a case fits its bits."""
+    return f"fits.{kind.name}" if kind.enum.other else f"({snake(kind.enum.name)}_small value.{kind.name})"
+
+
+def again(kind: m.Enum) -> str:
+    """Returns the term that the number of a case has that case."""
+    return f"fits.{kind.name}_again" if kind.enum.other else f"({snake(kind.enum.name)}_again value.{kind.name})"
+
+
+def items_shape(kind: m.Array, item: m.Integer) -> str:
+    """Returns the order, the bits and the number of items of an array, and the array."""
+    return f"{shape(item)} {kind.count} value.{kind.name}"
+
+
+def items_known(kind: m.Array, item: m.Integer) -> str:
+    """Returns the facts about the items of an array."""
+    return f"refl {'refl ' * item.signed}fits.{kind.name}_count fits.{kind.name}"
+
+
+def enum_items_shape(line: Line, enum: m.EnumType) -> str:
+    """Returns the numbers of an array or a list of cases, and the fact that each has its case."""
+    s, term = snake(enum.name), value(line)
+    fits = f"(all-made {enum.width} {s}_of {s}_small {s}_again {term})"
+    known_fits = f"fits.{line.name}" if enum.other else fits
+    return f"{enum_shape(enum)} {s}_number {s}_of {ok(line)} {term} refl {known_fits}"
+
+
+def ok(line: Line) -> str:
+    """Returns the function from a case to what its number says."""
+    return "(λ x. Ok x)" if line.error else "(λ x. x)"
+
+
+def array_back(line: Line, kind: m.Array, behind: str) -> str:
+    """Returns the term for an array."""
+    item, term = kind.item, value(line)
+    match item:
+        case m.Integer():
+            made = f"{items_shape(kind, item)} _ {items_known(kind, item)}"
+            return f"{'signed_' * item.signed}items-back _ _ {made} ({behind})"
+        case m.Octet():
+            known_fits = f"fits.{kind.name}_count fits.{kind.name}"
+            return f"bytes-back _ _ o {kind.count} {term} _ {known_fits} ({behind})"
+        case m.EnumType():
+            whole, answer, said = f"(λ (x : List {item.name}). x)", term, f"(map-id {term})"
+            if line.error:
+                whole, answer, said = "all_ok", f"(Ok {term})", f"(all_ok-items {term})"
+            whole = f"{kind.count} {whole} {answer} _ fits.{kind.name}_count {said}"
+            return f"made_items-back {enum_items_shape(line, item)} _ _ {whole} ({behind})"
+    assert_never(item)
+
+
+def list_back(f: Format, line: Line, kind: m.List, behind: str) -> str:
+    """Returns the term for a list."""
+    item, term = kind.item, value(line)
+    count = f"(length {term})"
+    if isinstance(item, m.Octet):
+        return f"vec-back _ _ o {count} {term} _ refl fits.{kind.name} ({behind})"
+    made = f"({stored(f, line, kind)}) ({item_writes(item)}) {count} {term}"
+    lemma = "each_part-back" if line.error else "each-back"
+    match item:
+        case m.Integer():
+            each = f"({sign(item)}-each {shape(item)} {term} refl {'refl ' * item.signed}fits.{kind.name})"
+        case m.EnumType():
+            each = f"(made-each {enum_items_shape(line, item)})"
+        case m.Use():
+            read = f"IsReadAs ({item.module}_writes o x) ({here(f, line)}) {answered(line, 'x')}"
+            each = each_is(line, item, read, f"λ x is. {is_read(f, line, item, 'x', 'is')}")
+    return f"{lemma} _ _ {made} _ refl {each} ({behind})"
+
+
+def each_is(line: Line, use: m.Use, says: str, term: str) -> str:
+    """Returns the term of a fact about each part of a list, from a term of the fact about one that fits its bits."""
+    return f"(All-weaker {use.name}Fits (λ x. {says}) ({term}) {value(line)} fits.{line.name})"
+
+
+def answered(line: Line, term: str) -> str:
+    """Returns the result of the read of a part that was written."""
+    return f"(Ok {term})" if line.stops else term
+
+
+def is_read(f: Format, line: Line, use: m.Use, term: str, fits: str) -> str:
+    """Returns the term that a part is read back, from a term that it fits its bits."""
+    goes = f"({use.module}_goes o {term} {fits}).back"
+    if not f.mapped(line.kind):
+        return goes
+    writes, read = f"({use.module}_writes o {term})", f"({use.module}_entry o)"
+    return f"(mapped-read {use.module}_answer {writes} {read} (Ok {term}) {goes})"
+
+
+def optional_goes(f: Format, line: Line, use: m.Use) -> str:
+    """Returns the term that an optional part is read back."""
+    goes = f"(λ it is. {is_read(f, line, use, 'it', f'(fits.{line.name} it is)')})"
+    lemma = "own_optional-back" if line.error else "optional-back"
+    return f"{lemma} ({here(f, line)}) ({use.module}_writes o) {value(line)} {goes}"
+
+
+def lets(f: Format, line: Line) -> list[str]:
+    """Returns the bindings before the term of the law."""
+    kind = line.kind
+    match kind:
+        case m.Optional():
+            return [f"let {kind.name} = {optional_goes(f, line, kind.use)} in"]
+        case m.If():
+            read = f"IsReadAs ({word(line)}) ({if_there(f, line, 'there')}) {answered(line, value(line))}"
+            goes = optional_goes(f, line, kind.use)
+            moved = f"subst (λ (there : Bool). {read}) fits.{kind.name}_there ({goes})"
+            return [f"let {kind.name} = {moved} in"]
+    return []

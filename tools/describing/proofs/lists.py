@@ -1,0 +1,116 @@
+"""The invariants and the answers of the function that reads the items of a list."""
+from __future__ import annotations
+
+from describing import model as m
+from describing.layout import Format, Line
+from describing.proofs.loops import write_answers, write_invariants
+from describing.proofs.unfolds import opened
+from describing.specs.terms import item_entry, placed, stored, width
+
+Answers = dict[str, list[str]]
+COUNTED = "let all : c.loop.counter ≡ c.args.count = omega (arith, c.loop-test.false, c.loop.auto.counter-end) in"
+
+
+def invariants(f: Format, line: Line, kind: m.List) -> Answers:
+    """Returns the invariants of the loops, by the function."""
+    read = f"read_{kind.name}"
+    so_far = f"PartsRead K {f.becomes_name}" if line.error else "ItemsRead K"
+    stored_at = placed(stored(f, line, kind), "K.order")
+    lines = [
+        f"use {f.goals}.{read}.Given as goal",
+        "-- the items so far were read",
+        "abbrev pub invariant-loop : goal.invariant-loop",
+        "invariant-loop g l =",
+        "    let K = g.R.BitRead.source in",
+        f"    {so_far} ({stored_at}) l.counter l.initial.reader l.found.items l.reader",
+    ]
+    return {read: lines} | write_invariants(f, kind)
+
+
+def answers(f: Format, line: Line, kind: m.List) -> Answers:
+    """Returns the answers of the functions of a list."""
+    goals = f"use {f.goals}.read_{kind.name}.Goals as goal"
+    found = own_answers(f, line, kind) if line.error else list_answers(f, line, kind)
+    return {f"read_{kind.name}": [goals, *found]} | write_answers(f, kind)
+
+
+def read_clause(item: m.Item, arm: str) -> str:
+    """Returns the clause of the read of an item, which succeeds (`ok`) or fails (`err`)."""
+    return f"c.in_{arm}-read.ensures" + ("" if isinstance(item, m.EnumType | m.Use) else ".reads")
+
+
+def pushed(item: m.Item) -> str:
+    """Returns what is known of the list with one item more."""
+    if isinstance(item, m.Integer) and item.signed:
+        term = f"to_z-of_z w{width(item)} c.in_ok-read.field-0 (search (sfits_of, c.in_ok-read))"
+        return f"(rw ({term}) at c.in_ok-push.ensures.items)"
+    return "c.in_ok-push.ensures.items"
+
+
+def list_answers(f: Format, line: Line, kind: m.List) -> list[str]:
+    """Returns the answers of a list whose items are never refused."""
+    item = f"({placed(item_entry(f, line, kind.item), 'g.R.BitRead.source.order')})"
+    ok, err, residual = read_clause(kind.item, "ok"), read_clause(kind.item, "err"), "c.from_residual-in_err-push"
+    return [
+        "",
+        "pub loop-init : goal.loop-init",
+        "loop-init g c = items-begin _ c.new-found.ensures.items",
+        "",
+        "pub returns-in_err-read : goal.returns-in_err-read",
+        "returns-in_err-read g c =",
+        "    grown (items-stop _ _ _ _ c.from_residual.result c.loop-test.true c.loop.invariant"
+        f" (item-read {err}) c.from_residual.ensures.1)",
+        "",
+        "pub returns-in_err-push : goal.returns-in_err-push",
+        f"unfolding {opened(line)}",
+        "returns-in_err-push g c =",
+        f"    rw (seen_err _ {residual}.result {residual}.ensures.1)",
+        f"    (items-refused {item} _ c.args.count refl c.loop-test.true c.loop.invariant {ok})",
+        "",
+        "pub loop-preserved : goal.loop-preserved",
+        f"loop-preserved g c = items-push _ _ {pushed(kind.item)} c.loop.invariant (item-read {ok})",
+        "",
+        "pub returns : goal.returns",
+        "returns g c =",
+        f"    {COUNTED}",
+        "    grown (rw (← all) c.loop.invariant)",
+    ]
+
+
+def own_read(item: m.Item, arm: str) -> str:
+    """Returns what is known of the read of an item that may be refused."""
+    if isinstance(item, m.Use):
+        term, shown = ("(Ok _)", "absurd is") if arm == "ok" else ("(Err _)", "rw is refl")
+        return f"(if_grown false (own_made _ {term} {read_clause(item, arm)} (λ error is. {shown})))"
+    return f"(if_grown false {read_clause(item, arm)})"
+
+
+def own_answers(f: Format, line: Line, kind: m.List) -> list[str]:
+    """Returns the answers of a list whose items may be refused."""
+    item = f"({placed(item_entry(f, line, kind.item), 'g.R.BitRead.source.order')})"
+    ok, err = own_read(kind.item, "ok"), own_read(kind.item, "err")
+    stopped = "rw (own_seen_err _ c.{0}.result c.{0}.ensures.1)"
+    return [
+        "",
+        "pub loop-init : goal.loop-init",
+        "loop-init g c = parts-begin _ c.new-found.ensures.items",
+        "",
+        "pub returns-in_err-read : goal.returns-in_err-read",
+        "returns-in_err-read g c =",
+        f"    {stopped.format('from_residual')} (parts-stop {item} _ c.args.count c.loop-test.true c.loop.invariant"
+        f" {err})",
+        "",
+        "pub returns-in_err-push : goal.returns-in_err-push",
+        f"unfolding {opened(line)}",
+        "returns-in_err-push g c =",
+        f"    {stopped.format('from_residual-in_err-push')}",
+        f"    (parts-refused {item} _ c.args.count refl c.loop-test.true c.loop.invariant {ok} refl)",
+        "",
+        "pub loop-preserved : goal.loop-preserved",
+        f"loop-preserved g c = parts-push {item} _ {pushed(kind.item)} c.loop.invariant {ok}",
+        "",
+        "pub returns : goal.returns",
+        "returns g c =",
+        f"    {COUNTED}",
+        "    rw (← all) c.loop.invariant",
+    ]

@@ -1,0 +1,127 @@
+"""The answers of `parse`: the value or the error of bytes, the clauses by places, and the round trip."""
+from __future__ import annotations
+
+from typing import Sequence
+
+from describing import model as m
+from describing.layout import Format, Line
+from describing.proofs.found import found as line_found
+from describing.proofs.found import missed
+from describing.specs.terms import at_bits, fails, known_of, only_constants
+
+Clause = tuple[str, str, str]  # a clause, the parameters of its answer, and the term
+OVER = "slice_ends c.over.ensures.state refl c.read.ensures"
+
+
+def parse_lines(f: Format) -> list[str]:
+    """Returns the answers of `parse`."""
+    out = [f"use {f.goals}.{f.type}.parse.Goals as goal", ""] + (finds(f) if f.sized else [])
+    places = there(f) if f.sized else []
+    for clause, given, term in [("answer", "c", answer_term(f)), *places, ("back", "c", back_term(f))]:
+        goal = f"returns-clause-{clause}"
+        out += [f"pub {goal} : goal.{goal}", f"{goal} {given} = {term}", ""]
+    return out
+
+
+def answer_term(f: Format) -> str:
+    """Returns the term of the clause of the result."""
+    if f.grows:
+        return or_refused_term("found", "(is_error _ _ lack.0, lack.1)")
+    return f"own_answered {OVER}" if f.own else "new_answer slice_ends _ _ c.over.ensures.state c.read.ensures"
+
+
+def back_term(f: Format) -> str:
+    """Returns the term of the clause of the round trip."""
+    is_ = "is"
+    if f.sized:
+        is_ = f"(is ∙ ap (λ w. w ++ more) (sym (told value) ∙ packs-whole ({f.m}_packs {f.o} value fits) refl))"
+    back = f"c.{f.m}_goes_back.ensures.back {f.o} value 0 0 more fits"
+    front = f"(ap (({f.m}_entry {f.o}).reads 0) {is_} ∙ {back})"
+    if f.grows:
+        motive = f"(λ front. OwnAnswer {f.becomes_name} (λ answer. answer) (sure_answer front) c.read.result)"
+        return f"λ value more fits is.\n    {or_refused_term(f'subst {motive} {front} found')}"
+    return f"λ value more fits is.\n    {'own_' * f.own}front_answered {OVER} {front}"
+
+
+def or_refused_term(term: str, lack: str = "(is_error _ _ lack.0)") -> str:
+    """Returns the term of a fact from a term of it for `found`, or that an allocation failed."""
+    return f"elim (own_grown_answered {OVER}) [ | inl found ↦ inl ({term}) | inr lack ↦ inr {lack} ]"
+
+
+# ---- by places
+
+
+def case_names(tests: Sequence[Line]) -> list[str]:
+    """Returns the cases of the enums among some tests."""
+    return [it.name for it in tests if it.is_field]
+
+
+def fact_names(tests: Sequence[Line]) -> list[str]:
+    """Returns the names of the facts that tests hold."""
+    return [f"is_{it.index}" for it in tests]
+
+
+def finds(f: Format) -> list[str]:
+    """Returns what the reads find if nothing is refused, and at each line that may be refused."""
+    bits = f"bits {f.o} packet"
+    ok = f"Ok ({at_bits(f, bits)})" if f.own else at_bits(f, bits)
+    out = found(f, "found", f.tests, None, f"Ok ({ok})", "gives-finds _ _ _")
+    for k, it in enumerate(f.tests):
+        out += found(f, f"other_{it.index}", f.tests[:k], it, f"Ok (Err {it.error})", missed(it, f.o))
+    return out
+
+
+def found(f: Format, name: str, held: list[Line], failed: Line | None, answer: str, term: str) -> list[str]:
+    """Returns the lemma of what the reads find if the tests `held` hold, and `failed` fails."""
+    lines, total = f.lines, f.total or 0
+    if failed:
+        lines, total = f.lines[: failed.index], (failed.at or 0) + failed.wide
+    for it in reversed(lines):
+        term = line_found(it, total - (it.at or 0), term, f.o)
+    given = case_names(held) + fact_names(held) + ["differs"] * bool(failed)
+    bits = f"bits {f.o} packet"
+    fails_here = [fails(f, failed, bits)] if failed else []
+    return [
+        " → ".join([f"{name} : (packet : List ℕ)", *known_of(f, held, bits), *fails_here]),
+        f"    → Finds ({bits}) 0 ({f.m}_entry {f.o}) {total} ({answer})",
+        f"{name} {' '.join(['packet', *given])} = {term}",
+        "",
+    ]
+
+
+def there(f: Format) -> list[Clause]:
+    """Returns the answers of the clauses by places."""
+    own, out = "own_" * f.own, list[Clause]()
+    for k, it in enumerate(f.tests):
+        names = [*case_names(f.tests[:k]), *fact_names(f.tests[:k]), "differs"]
+        finding = f"({' '.join([f'other_{it.index}', '_', *names])}) (omega arith)"
+        out.append((it.clause, "c", f"λ {' '.join(['enough', *names])}. {own}fields_there {OVER} {finding}"))
+    names = [*case_names(f.tests), *fact_names(f.tests)]
+    finding = f"({' '.join(['found', '_', *names])}) (omega arith)"
+    out.append(("there", "c", f"λ {' '.join(['enough', *names])}. {own}fields_there {OVER} {finding}"))
+    if f.tests and only_constants(f):
+        return [*out, ("short", "c", short(f))]
+    # the cases of enums come after the number of bytes there
+    few = f"{own}fields_short {OVER} {finding}"
+    return [*out, ("short", "c", f"λ {' '.join(['few', *names])}. {f'is_error _ _ ({few})' if f.own else few}")]
+
+
+def short(f: Format) -> str:
+    """Returns the term that too few bytes end the input: by whether each constant is there."""
+    names = fact_names(f.tests)
+    whole, size = " ".join(["found _", *(f"{it}.1" for it in names)]), "length c.args.packet.now"
+    term = f"ended {f.total} _ ({whole}) (omega arith)"
+    for k in reversed(range(len(f.tests))):
+        it, known = f.tests[k], "".join(f" {name}.1" for name in names[:k])
+        assert isinstance(it.kind, m.Const)
+        other = f"ended {(it.at or 0) + it.wide} _ (other_{it.index} _{known} differs.1) (omega arith)"
+        enough = f"absurd (differs.1 (at_{it.index} enough))"
+        few = f"elim (cases_lt ({size}) {it.least()}) [ | inl less ↦ {other} | inr enough ↦ {enough} ]"
+        tells = f"eqb_tells (const_at_{it.at} all) {it.kind.value}"
+        term = f"elim ({tells}) [ | inl {names[k]} ↦ {term} | inr differs ↦ {few} ]"
+    found_type = f"Finds all 0 ({f.m}_entry {f.o}) n x"
+    return f"""λ few {' '.join(f'at_{it.index}' for it in f.tests)}.
+    let all = bits {f.o} c.args.packet.now in
+    let ended = λ (n : ℕ) (x : _) (found : {found_type}) (less : 8 * {size} < n). is_error _ _
+    (own_fields_short {OVER} found less) in
+    {term}"""

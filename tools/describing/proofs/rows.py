@@ -1,0 +1,146 @@
+"""The test vectors of a description, which the prover computes."""
+from __future__ import annotations
+
+from typing import assert_never
+
+from describing import model as m
+from describing.examples import vectors
+from describing.input import Value
+from describing.layout import Format, Line
+from describing.names import Table, merged, modules_of
+from describing.proofs.unfolds import of_lines
+from describing.specs.terms import called
+
+# ---- values
+
+
+def term(line: Line, value: Value, within: str = "") -> str:
+    """Returns a value in terms of specs. The cases of the enums of a part begin with `within`."""
+    kind = line.kind
+    match kind:
+        case m.NonZero():
+            return f"non_zero_{kind.integer.base} {number(value) - 1}"
+        case m.MaybeNonZero():
+            return "None" if value is None else f"Some (non_zero_{kind.integer.base} {number(value) - 1})"
+        case m.Array() | m.List():
+            return list_term(line, kind.item, value, within)
+        case m.Enum():
+            return case_term(line, value, within)
+        case m.Part():
+            return record_term(line, value)
+        case m.Optional() | m.If():
+            return "None" if value is None else f"Some ({record_term(line, value)})"
+        case m.Number() | m.Groups():
+            return number_term(value, kind.integer.signed)
+        case m.Golomb():
+            return number_term(value, kind.signed)
+    return str(value).lower() if isinstance(value, bool) else number_term(value, False)
+
+
+def number(value: Value) -> int:
+    """Returns a value that is a number."""
+    assert isinstance(value, int)
+    return value
+
+
+def number_term(value: Value, signed: bool) -> str:
+    """Returns a number."""
+    found = number(value)
+    if not signed:
+        return str(found)
+    return f"pos {found}" if found >= 0 else f"negsuc {-found - 1}"
+
+
+def case_term(line: Line, value: Value, within: str) -> str:
+    """Returns a case."""
+    if isinstance(value, dict):
+        return "".join(f"{within}{called(line, case)} {number(held)}" for case, held in value.items())
+    return f"{within}{called(line, str(value))}"
+
+
+def record_term(line: Line, value: Value) -> str:
+    """Returns a part."""
+    assert line.use and isinstance(value, dict)
+    inner = (f"{it.name} = {term(it, value[it.name], line.use.name)}" for it in line.inner if it.is_field)
+    return f"record {{ {'; '.join(inner)} }}"
+
+
+def list_term(line: Line, item: m.Item, value: Value, within: str) -> str:
+    """Returns a list."""
+    assert isinstance(value, list | bytes)
+    return "".join(f"{item_term(line, item, it, within)} ∷ " for it in value) + "[]"
+
+
+def item_term(line: Line, item: m.Item, value: Value, within: str) -> str:
+    """Returns an item of a list."""
+    match item:
+        case m.Octet():
+            return number_term(value, False)
+        case m.Integer():
+            return number_term(value, item.signed)
+        case m.EnumType():
+            return f"({case_term(line, value, within)})"
+        case m.Use():
+            return f"({record_term(line, value)})"
+    assert_never(item)
+
+
+# ---- rows
+
+
+def row(f: Format, k: int, data: bytes, said: dict[str, Value] | str, unfolds: list[str]) -> list[str]:
+    """Returns the bytes of a test vector, and that they have its fields, or its error."""
+    known = [f"row_{k} : List ℕ", f"row_{k} = {''.join(f'{it} ∷ ' for it in data)}[]", ""]
+    if isinstance(said, str):
+        return [*known, *refused_row(f, k, said, unfolds)]
+    return [*known, *value_row(f, k, said, unfolds)]
+
+
+def refused_row(f: Format, k: int, said: str, unfolds: list[str]) -> list[str]:
+    """Returns that the bytes are refused with an error."""
+    own = any(it.error == said for it in f.lines)
+    answer = f"Ok (Err {said})" if own else f"Err {said}"
+    return [
+        f"refused_{k} : sure_answer (({f.m}_entry {f.o}).reads 0 (bits {f.o} row_{k})) ≡ {answer}",
+        f"unfolding row_{k} {' '.join(unfolds)}",
+        f"refused_{k} = refl",
+        "",
+    ]
+
+
+def value_row(f: Format, k: int, said: dict[str, Value], unfolds: list[str]) -> list[str]:
+    """Returns that the fields are written to the bytes, and read from them."""
+    ok = f"(Ok (Ok value_{k}))" if f.own else f"(Ok value_{k})"
+    return [
+        f"value_{k} : {f.type}",
+        f"value_{k} = record {{",
+        *[f"  {it.name} = {term(it, said[it.name])};" for it in f.fields],
+        "}",
+        "",
+        f"written_{k} : (write_run ({f.m}_writes {f.o} value_{k} ++ align ∷ []) 0 ≡ bits {f.o} row_{k})",
+        f"    × (({f.m}_entry {f.o}).reads 0 (bits {f.o} row_{k})",
+        f"    ≡ Takes (length (write_run ({f.m}_writes {f.o} value_{k}) 0)) {ok})",
+        f"unfolding row_{k} value_{k} {' '.join(unfolds)}",
+        f"written_{k} = (refl, refl)",
+        "",
+    ]
+
+
+def rows(f: Format) -> tuple[list[str], Table]:
+    """Returns the rows, and where the names come from that they compute through and that their parts have."""
+    wanted = {"chain", "digits", "digits_number"} | set(of_lines(f.lines))
+    found = modules_of(wanted)
+    unfolds = [it for names in found.values() for it in names.split()] + sorted(it for it in wanted if it[:4] == "lib.")
+    out = [line for k, it in enumerate(vectors(f.description)) for line in row(f, k, *it, unfolds)]
+    return out, merged(found, *[part_names(f, it) for it in f.lines])
+
+
+def part_names(f: Format, line: Line) -> Table:
+    """Returns where the cases of the enums of a part come from, under the names that the rows use."""
+    found: Table = {}
+    for it in line.inner if line.use else ():
+        if line.use and it.enum:
+            path = f"Rattle.{f.crate}.specs.declared.{line.use.module}.{it.enum.name}.TheVariants"
+            found[path] = " ".join(f"{case}={line.use.name}{called(it, case)}" for case in it.enum.names())
+        found = merged(found, part_names(f, it))
+    return found

@@ -1,0 +1,406 @@
+"""Reads records by a description: a tree of values, each with its position in bits."""
+from __future__ import annotations
+
+from dataclasses import dataclass
+from typing import Callable, TypeAlias
+
+from describing import model as m
+from describing.input import Input, ReadError, Value, joined
+
+
+@dataclass(slots=True)
+class Node:
+    """The value of one line, read from the bits `start` to `end`; `nodes` are the parts of a record, a list or a case."""
+
+    name: str
+    kind: m.Kind | None
+    start: int
+    end: int
+    value: Value
+    nodes: list[Node]
+
+
+OVERFLOW = "The number has more bits than its type."
+Scope: TypeAlias = dict[str, int]
+Reader: TypeAlias = Callable[["Input", Scope], Node]
+ItemReader: TypeAlias = Callable[["Input"], tuple[Value, list[Node]]]
+
+
+def case_of(enum: m.EnumType, number: int) -> Value:
+    """Returns the case of a number, or the case for other numbers with the number."""
+    found = m.case_named(number, enum)
+    return found if found is not None else {enum.other: number}
+
+
+# ---- lines whose values have no parts
+
+
+def values(kind: m.Kind) -> Callable[[Input], Value] | None:
+    """Returns the reader of a line whose value has no parts and depends on no earlier value."""
+    match kind:
+        case m.Bool() | m.Flag():
+            return lambda row: row.number(1) == 1
+        case m.Number(integer=whole):
+            return of_integer(whole)
+        case m.NonZero(integer=m.Integer(width=width)):
+            return lambda row: row.number(width) + 1
+        case m.MaybeNonZero(integer=m.Integer(width=width)):
+            return lambda row: row.number(width) or None
+        case m.Count(width=width) | m.Tag(width=width):
+            return lambda row: row.number(width)
+        case m.Size(width=width, unit=unit, plus=plus):
+            return lambda row: row.number(width) * unit - plus
+        case m.Enum(enum=enum):
+            return of_enum(enum)
+        case m.Array(item=m.EnumType() as enum, count=count):
+            return enum_array(enum, count)
+        case m.Array(item=m.Octet(), count=count):
+            return lambda row: row.bytes(count)
+        case m.Array(item=m.Integer() as whole, count=count):
+            one = of_integer(whole)
+            return lambda row: [one(row) for _ in range(count)]
+        case m.Const():
+            return of_const(kind)
+        case m.Skip(width=width):
+            return lambda row: row.number(width)
+        case m.Unary(stop=stop):
+            return lambda row: row.unary(stop)
+        case m.Groups():
+            return of_groups(kind)
+        case m.Golomb(signed=signed):
+            return of_golomb(signed)
+        case m.Until():
+            return of_until(kind)
+    return None
+
+
+def of_integer(whole: m.Integer) -> Callable[[Input], int]:
+    """Returns the reader of a number."""
+    width = whole.width
+    return (lambda row: row.signed(width)) if whole.signed else (lambda row: row.number(width))
+
+
+def of_enum(enum: m.EnumType) -> Callable[[Input], Value]:
+    """Returns the reader of a case."""
+    known, width, strict = dict(enum.cases), enum.width, enum.error
+
+    def read(row: Input) -> Value:
+        at, found = row.at, row.number(width)
+        if found in known:
+            return known[found]
+        if strict:
+            raise ReadError(strict, at, why=f"{found} is not the number of a case of `{enum.name}`.")
+        return {enum.other: found}
+
+    return read
+
+
+def enum_array(enum: m.EnumType, count: int) -> Callable[[Input], Value]:
+    """Returns the reader of an array of cases: all numbers are read before one is refused."""
+
+    def read(row: Input) -> Value:
+        at, found = row.at, [row.number(enum.width) for _ in range(count)]
+        wrong = next((k for k, it in enumerate(found) if enum.error and m.case_named(it, enum) is None), None)
+        if wrong is not None:
+            why = f"{found[wrong]} is not the number of a case of `{enum.name}`."
+            raise ReadError(enum.error, at + wrong * enum.width, f"[{wrong}]", why)
+        return [case_of(enum, it) for it in found]
+
+    return read
+
+
+def of_const(kind: m.Const) -> Callable[[Input], Value]:
+    """Returns the reader of a constant."""
+
+    def read(row: Input) -> Value:
+        at, found = row.at, row.number(kind.width)
+        if found != kind.value:
+            raise ReadError(kind.error, at, why=f"{kind.doc} The number is {found}.")
+        return found
+
+    return read
+
+
+def of_groups(kind: m.Groups) -> Callable[[Input], Value]:
+    """Returns the reader of a number in groups of bits."""
+    digits, width, signed = kind.group - 1, kind.integer.width, kind.integer.signed
+
+    def read(row: Input) -> Value:
+        at, found, place = row.at, 0, 0
+        while (group := row.number(kind.group)) >> digits:
+            found, place = found + (group % 2**digits << place), place + digits
+            if place >= width:
+                raise ReadError("VariableWidthOverflow", at, why=OVERFLOW)
+        found += group << place
+        if place and not group and not kind.any:
+            raise ReadError("RedundantGroup", at, why="The number ends in a group of zeros.")
+        if found >> width:
+            raise ReadError("VariableWidthOverflow", at, why=OVERFLOW)
+        return found if not signed else -(found // 2) - 1 if found % 2 else found // 2
+
+    return read
+
+
+def of_golomb(signed: bool) -> Callable[[Input], Value]:
+    """Returns the reader of an Exp-Golomb number."""
+
+    def read(row: Input) -> Value:
+        at, zeros = row.at, row.unary(1)
+        if zeros > 31:
+            raise ReadError("VariableWidthOverflow", at, why=OVERFLOW)
+        found = (1 << zeros) - 1 + (row.number(zeros) if zeros else 0)
+        return found if not signed else found // 2 + 1 if found % 2 else -(found // 2)
+
+    return read
+
+
+def of_until(kind: m.Until) -> Callable[[Input], Value]:
+    """Returns the reader of numbers up to one that ends them."""
+    one = of_integer(kind.item)
+
+    def read(row: Input) -> Value:
+        found: list[Value] = []
+        while (it := one(row)) != kind.stop:
+            found.append(it)
+        return found
+
+    return read
+
+
+# ---- lines whose values have parts
+
+
+def item_reader(item: m.Item) -> Callable[[Input], tuple[Value, list[Node]]]:
+    """Returns the reader of an item."""
+    match item:
+        case m.Integer():
+            number = of_integer(item)
+            return lambda row: (number(row), [])
+        case m.Octet():
+            return lambda row: (row.number(8), [])
+        case m.EnumType():
+            case = of_enum(item)
+            return lambda row: (case(row), [])
+    return part_reader(item)
+
+
+def part_reader(use: m.Use) -> ItemReader:
+    """Returns the reader of a part. An error of the part becomes one of the outer format."""
+    record = record_reader(use.description)
+    theirs = {m.error(it) for it in use.description.kinds} - {""}
+
+    def read(row: Input) -> tuple[Value, list[Node]]:
+        try:
+            nodes = record(row)
+        except ReadError as it:
+            answer = use.error if it.answer in theirs else it.answer
+            raise ReadError(answer, it.place, it.path, it.why) from None
+        return value_of(nodes), nodes
+
+    return read
+
+
+def value_of(nodes: list[Node]) -> dict[str, Value]:
+    """Returns the fields of a record."""
+    return {it.name: it.value for it in nodes if it.kind is not None and m.is_field(it.kind)}
+
+
+def many(row: Input, one: ItemReader, go_on: Callable[[int], bool]) -> tuple[Value, list[Node]]:
+    """Reads items while `go_on` returns true for their count."""
+    found: list[Value] = []
+    nodes: list[Node] = []
+    while go_on(len(found)):
+        start = row.at
+        try:
+            value, inner = one(row)
+        except ReadError as it:
+            raise it.inside(f"[{len(found)}]") from None
+        if row.at == start:
+            raise ReadError("EmptyItem", start, f"[{len(found)}]", "An item without bits would be repeated forever.")
+        found.append(value)
+        nodes.append(Node(f"[{len(found) - 1}]", None, start, row.at, value, inner))
+    return found, nodes
+
+
+Composite: TypeAlias = Callable[[Input, Scope], tuple[Value, list[Node]]]
+
+
+def composite(kind: m.Kind) -> Composite:
+    """Returns the reader of a line that has parts or depends on an earlier value."""
+    match kind:
+        case m.Part(use=use):
+            part = part_reader(use)
+            return lambda row, scope: part(row)
+        case m.Optional(name=name, use=use):
+            return there_reader(use, lambda scope: scope[f"has_{name}"] == 1)
+        case m.If(field=field, value=value, use=use):
+            return there_reader(use, lambda scope: scope[field] == value)
+        case m.List(item=item, name=name):
+            return counted(name, item)
+        case m.Rest(item=item):
+            return up_to_end(item)
+        case m.Sized(name=name, item=item, error=error):
+            return sized(name, item, error)
+        case m.Fill(name=name, use=use, error=error):
+            return filling(name, use, error)
+        case m.Choose():
+            return choice(kind)
+    raise AssertionError(kind)
+
+
+def there_reader(use: m.Use, asks: Callable[[Scope], bool]) -> Composite:
+    """Returns the reader of a part that is there or not."""
+    part = part_reader(use)
+    return lambda row, scope: part(row) if asks(scope) else (None, [])
+
+
+def counted(name: str, item: m.Item) -> Composite:
+    """Returns the reader of a list whose count was read before."""
+    if isinstance(item, m.Octet):
+        return lambda row, scope: (row.bytes(scope[f"{name}_count"]), [])
+    one = item_reader(item)
+
+    def read(row: Input, scope: Scope) -> tuple[Value, list[Node]]:
+        count = scope[f"{name}_count"]
+        return many(row, one, lambda found: found < count)
+
+    return read
+
+
+def up_to_end(item: m.Item) -> Composite:
+    """Returns the reader of items up to the end of the bytes, or of the size around them."""
+    if isinstance(item, m.Octet):
+        return lambda row, scope: (remaining(row), [])
+    one = item_reader(item)
+    return lambda row, scope: many(row, one, lambda found: row.reach(row.at + 1))
+
+
+def remaining(row: Input) -> bytes:
+    """Takes all bytes up to the end."""
+    row.finish()
+    return row.bytes((row.end - row.at) // 8)
+
+
+def within(row: Input, size: int, error: str, read: Callable[[], tuple[Value, list[Node]]]) -> tuple[Value, list[Node]]:
+    """Runs a reader on exactly `size` bytes: no bit after them is read, and none may be left."""
+    start = row.at
+    if size < 0:
+        raise ReadError(error or "SizeTooSmall", start, why=f"The size would be {size} bytes.")
+    if not row.reach(start + 8 * size):
+        raise ReadError("EndOfInput", start, why=f"The size is {size} bytes.")
+    end, fetch = row.end, row.fetch
+    row.end, row.fetch = start + 8 * size, None
+    try:
+        found = read()
+        if row.at != row.end:
+            raise ReadError(error, row.at, why=f"{(row.end - row.at + 7) // 8} bytes of the size are left.")
+    except ReadError as it:
+        if it.answer != "EndOfInput":
+            raise
+        raise ReadError(error, it.place, it.path, f"The size of {size} bytes ends here.") from None
+    finally:
+        row.end, row.fetch = end, fetch
+    return found
+
+
+def sized(name: str, item: m.Item, error: str) -> Composite:
+    """Returns the reader of one part, or of bytes, whose size was read before."""
+    one, key = item_reader(item), f"{name}_bytes"
+    if isinstance(item, m.Octet):
+        return lambda row, scope: within(row, scope[key], error, lambda: (row.bytes(scope[key]), []))
+    return lambda row, scope: within(row, scope[key], error, lambda: one(row))
+
+
+def filling(name: str, use: m.Use, error: str) -> Composite:
+    """Returns the reader of parts up to the end of a size."""
+    fill, key = up_to_end(use), f"{name}_bytes"
+    return lambda row, scope: within(row, scope[key], error, lambda: fill(row, scope))
+
+
+def choice(kind: m.Choose) -> Composite:
+    """Returns the reader of a choice by an earlier number."""
+    parts = {it.case: item_reader(it.held) for it in kind.arms if isinstance(it.held, m.Use)}
+
+    def held(row: Input, arm: m.Arm, number: int) -> tuple[Value, list[Node]]:
+        if arm.case in parts:
+            value, nodes = parts[arm.case](row)
+            return {arm.case: value}, nodes
+        if arm.held is None:
+            return ({arm.case: number} if arm.number is None else arm.case), []
+        more = remaining(row)
+        return {arm.case: {"number": number, "bytes": more} if arm.number is None else more}, []
+
+    def read(row: Input, scope: Scope) -> tuple[Value, list[Node]]:
+        number = scope[kind.by]
+        found = kind.arm(number)
+        if found is None:
+            raise ReadError(f"No{kind.type}", row.at, why=f"{number} is not the number of a case of `{kind.type}`.")
+        arm = found
+        if not kind.sized:
+            return held(row, arm, number)
+        return within(row, scope[f"{kind.name}_bytes"], kind.overrun, lambda: held(row, arm, number))
+
+    return read
+
+
+# ---- whole records
+
+
+def reader_of(kind: m.Kind) -> Reader:
+    """Returns the reader of a line."""
+    simple = values(kind)
+    return composite_reader(kind, composite(kind)) if simple is None else simple_reader(kind, simple)
+
+
+def composite_reader(kind: m.Kind, parts: Composite) -> Reader:
+    """Returns the reader of a line whose value has parts."""
+    name = m.label(kind)
+
+    def read(row: Input, scope: Scope) -> Node:
+        start = row.at
+        try:
+            value, nodes = parts(row, scope)
+        except ReadError as it:
+            raise it.inside(name) from None
+        return Node(name, kind, start, row.at, value, nodes)
+
+    return read
+
+
+def simple_reader(kind: m.Kind, simple: Callable[[Input], Value]) -> Reader:
+    """Returns the reader of a line whose value has no parts; later lines may depend on its number."""
+    name = "" if isinstance(kind, m.Const | m.Skip) else m.label(kind)
+    known = kind.enum if isinstance(kind, m.Enum) else None
+    key = kind.name if isinstance(kind, m.Tag) else name
+
+    def read(row: Input, scope: Scope) -> Node:
+        start = row.at
+        try:
+            value = simple(row)
+        except ReadError as it:
+            raise it.inside(m.label(kind)) from None
+        if isinstance(value, int):
+            scope[key] = value
+        elif known and isinstance(value, str):
+            scope[key] = known.number(value) or 0
+        elif known and isinstance(value, dict):
+            scope[key] = number_in(value[known.other])
+        return Node(name, kind, start, row.at, value, [])
+
+    return read
+
+
+def number_in(value: Value) -> int:
+    """Returns the number that a case for other numbers holds."""
+    return value if isinstance(value, int) else 0
+
+
+def record_reader(description: m.Description) -> Callable[[Input], list[Node]]:
+    """Returns the reader of all lines of a description, in order."""
+    readers = [reader_of(it) for it in description.kinds]
+
+    def read(row: Input) -> list[Node]:
+        scope: Scope = {}
+        return [it(row, scope) for it in readers]
+
+    return read

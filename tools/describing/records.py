@@ -1,0 +1,203 @@
+"""The records of an input, one after another: where the first begins, what is skipped, and how the sequence ends."""
+from __future__ import annotations
+
+import re
+import sys
+from dataclasses import dataclass, field
+from typing import Callable, Iterator, TypeAlias, TypeVar
+
+from describing import model as m
+from describing.flat import flat
+from describing.input import Input, ReadError, Value
+from describing.model import Refused
+from describing.read import Node, record_reader, value_of
+
+Fields: TypeAlias = dict[str, Value]
+Found = TypeVar("Found")
+SKIP = re.compile(r"(?P<field>[A-Za-z_][\w.]*)(?:\*(?P<times>\d+))?(?P<plus>[+-]\d+)?")
+
+
+class Ended(Exception):
+    """Records that end early. `status` is the exit status of the command."""
+
+    status = 3
+
+
+class Torn(Ended):
+    """An input that ends inside a record, or inside the bytes that are to be skipped."""
+
+    status = 4
+
+
+@dataclass
+class Record:
+    """A record: its number, its first bit, the bit after it, and its lines."""
+
+    number: int
+    start: int
+    end: int
+    nodes: list[Node]
+
+
+@dataclass
+class Options:
+    """What a user asks: positions are in bytes, and `inside` has descriptions of the bytes of a field."""
+
+    repeat: bool = False
+    offset: int = 0
+    count: int = sys.maxsize
+    skip: str = "0"
+    keep_going: bool = False
+    inside: list[tuple[str, m.Description]] = field(default_factory=list)
+
+
+def skipper(how: str) -> Callable[[Fields], int]:
+    """Returns the function that gives the number of bytes between a record and the next one."""
+    if re.fullmatch(r"\d+|0x[0-9a-fA-F]+", how):
+        size = int(how, 0)
+        return lambda record: size
+    found = SKIP.fullmatch(how)
+    if not found:
+        raise Refused(f"--skip {how}: give a number, or FIELD, FIELD*N, FIELD+N or FIELD*N-N")
+    path, times, plus = found["field"], int(found["times"] or 1), int(found["plus"] or 0)
+
+    def skip(record: Fields) -> int:
+        value = number_at(record, path)
+        if value is None:
+            raise Refused(f"--skip {how}: `{path}` is not a number of the record")
+        if value * times + plus < 0:
+            raise Ended(f"--skip {how}: `{path}` is {value}, so the next record would begin inside this one")
+        return value * times + plus
+
+    return skip
+
+
+def number_at(record: Fields, path: str) -> int | None:
+    """Returns the number of a field, whose path has dots, or None."""
+    found: Value = record
+    for name in path.split("."):
+        found = found.get(name) if isinstance(found, dict) else None
+    return found if isinstance(found, int) and not isinstance(found, bool) else None
+
+
+class Records:
+    """Reads records up to the end of the input. `report` takes the text of each record that `--keep-going` passes."""
+
+    def __init__(self, it: m.Description, row: Input, options: Options, report: Callable[[str], None]) -> None:
+        self.row, self.options, self.report = row, options, report
+        self.read, self.quick = record_reader(it), flat(it) if options.repeat and not options.inside else None
+        self.skip, self.number, self.refused = skipper(options.skip), 0, 0
+        self.bits = m.fixed_bits(it)
+        self.constant_skip = options.skip[:1].isdigit()
+        if options.keep_going and (self.bits is None or self.bits % 8 or not self.constant_skip):
+            raise Refused("--keep-going: a record has no constant size, so the next one is not found")
+
+    def values(self) -> Iterator[Fields]:
+        """Returns the fields of each record."""
+
+        def one() -> tuple[Fields, Fields]:
+            found = self.quick(self.row) if self.quick else None
+            if found is None:
+                found = value_of(self.nodes())
+            return found, found
+
+        return self.each(one)
+
+    def records(self) -> Iterator[Record]:
+        """Returns each record with the position of every line."""
+
+        def one() -> tuple[Record, Fields]:
+            start, nodes = self.row.at, self.nodes()
+            return Record(self.number, start, self.row.at, nodes), value_of(nodes)
+
+        return self.each(one)
+
+    def nodes(self) -> list[Node]:
+        """Reads a record, up to a whole byte, and the bytes inside that have a description of their own."""
+        nodes = self.read(self.row)
+        self.row.at = -(-self.row.at // 8) * 8
+        for name, other in self.options.inside:
+            look_inside(nodes, name, other, self.row)
+        if self.options.inside:
+            update(nodes)
+        return nodes
+
+    def each(self, one: Callable[[], tuple[Found, Fields]]) -> Iterator[Found]:
+        """Reads records by `one`, and skips the bytes between them."""
+        missing = self.row.skip(self.options.offset)
+        if missing:
+            raise Torn(f"the input ends {missing} bytes before --offset {self.options.offset}")
+        while self.goes_on():
+            start = self.row.at
+            try:
+                found, fields = one()
+            except ReadError as it:
+                self.failed(start, it)
+                fields = {}
+            else:
+                yield found
+            self.number += 1
+            self.pass_over(fields)
+
+    def goes_on(self) -> bool:
+        """Returns true if another record is to be read."""
+        if self.number >= self.options.count:
+            return False
+        return self.row.reach(self.row.at + 1) if self.options.repeat else self.number == 0
+
+    def failed(self, start: int, it: ReadError) -> None:
+        """Ends the records at one that is torn or refused, or passes over one that is refused."""
+        begins = f"record {self.number} begins at byte {start // 8} and is"
+        if it.answer == "EndOfInput":
+            raise Torn(f"{begins} torn: the input ends at byte {self.row.end // 8}, in `{it.path}`")
+        self.refused += 1
+        if not self.options.keep_going or self.bits is None:
+            raise Ended(f"{begins} refused: {it}")
+        self.report(f"{begins} refused: {it}")
+        if not self.row.reach(start + self.bits):
+            raise Torn(f"{begins} torn: the input ends at byte {self.row.end // 8}, in `{it.path}`")
+        self.row.at = start + self.bits
+
+    def pass_over(self, fields: Fields) -> None:
+        """Skips the bytes between a record and the next one."""
+        if not self.options.repeat:
+            return
+        size = self.skip(fields)
+        missing = self.row.skip(size)
+        if missing:
+            why = f"the input ends {missing} bytes before the end of the {size} bytes to skip after it"
+            raise Torn(f"record {self.number - 1}: {why}")
+
+
+def look_inside(nodes: list[Node], name: str, other: m.Description, row: Input) -> None:
+    """Reads the bytes of a field by another description, which has an order of its own."""
+    read = record_reader(other)
+    for node in nodes:
+        if node.name == name and isinstance(node.value, bytes):
+            inner = Input(b"", other.order)
+            inner.data, inner.base, inner.at, inner.end = row.data, row.base, node.start, node.end
+            try:
+                node.nodes = read(inner)
+            except ReadError as it:
+                answer = f"{it.answer} of the bytes of `{name}`" if it.answer == "EndOfInput" else it.answer
+                raise ReadError(answer, it.place, f"{name}.{it.path}", it.why) from None
+            node.value = value_of(node.nodes)
+        else:
+            look_inside(node.nodes, name, other, row)
+
+
+def update(nodes: list[Node]) -> None:
+    """Moves what was read inside into the values of lists and records around it."""
+    for it in nodes:
+        update(it.nodes)
+        if it.nodes and isinstance(it.value, list):
+            it.value = [one.value for one in it.nodes]
+        elif it.nodes and isinstance(it.value, dict):
+            it.value = updated(it, it.value)
+
+
+def updated(node: Node, value: Fields) -> Fields:
+    """Returns the fields of a record, or the case of a choice around them."""
+    fields = value_of(node.nodes)
+    case = next(iter(value)) if isinstance(node.kind, m.Choose) else ""
+    return {case: fields} if case else fields

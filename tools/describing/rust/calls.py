@@ -1,0 +1,235 @@
+"""The code for one line: the call that reads it, the call that writes it, and what its comments say."""
+from __future__ import annotations
+
+import re
+from typing import assert_never
+
+from describing import model as m
+from describing.layout import Format, Line, enum_bits
+from describing.model import snake
+from describing.specs.terms import asked_enum, short, width
+from describing.text import article
+
+
+def comment(line: Line) -> str:
+    """Returns the comment of a field."""
+    return f"{line.kind.doc or f'The field `{line.name}`.'} {limits(line)}".strip()
+
+
+def integer_range(integer: m.Integer) -> str:
+    """Returns the range of a number that has fewer bits than its type, in lower case, or an empty text."""
+    if integer.width == width(integer):
+        return ""
+    return f"from {integer.least} to {integer.most}" if integer.signed else f"below 2^{integer.width}"
+
+
+def limits(line: Line) -> str:
+    """Returns the sentence about the range of a field, or an empty text."""
+    kind = line.kind
+    match kind:
+        case m.Number():
+            said = integer_range(kind.integer)
+            return f"{said.capitalize()}." if said else ""
+        case m.Array(item=m.Integer() as item):
+            said = integer_range(item)
+            return f"Each {said}." if said else ""
+        case m.NonZero():
+            return f"At most 2^{kind.integer.width}."
+        case m.MaybeNonZero():
+            return f"Below 2^{kind.integer.width}; 0 stands for `None`."
+        case m.Golomb():
+            return "From -2^31 + 1 on." if kind.signed else "Below 2^32 - 1."
+    return ""
+
+
+def list_limits(f: Format, line: Line, kind: m.List) -> str:
+    """Returns the sentence about the number of items of a list, and their range."""
+    bits = next(it.kind.width for it in f.lines if isinstance(it.kind, m.Count) and it.kind.target == kind.name)
+    said = integer_range(kind.item) if isinstance(kind.item, m.Integer) else ""
+    return f"Fewer than 2^{bits}{f', each {said}' if said else ''}."
+
+
+def field_comment(f: Format, line: Line) -> str:
+    """Returns the comment of a field, with its range."""
+    if isinstance(line.kind, m.List):
+        return f"{comment(line)} {list_limits(f, line, line.kind)}"
+    return comment(line)
+
+
+def imports(line: Line) -> list[str]:
+    """Returns the paths that the code of a line uses."""
+    kind, found = line.kind, list[str]()
+    if isinstance(kind, m.NonZero | m.MaybeNonZero):
+        found.append("std::num::NonZero")
+    if isinstance(kind, m.Golomb):
+        found.append(f"bitstream_io::golomb::{{read_{short(kind)}, write_{short(kind)}}}")
+    if line.use:
+        error = line.use.description.error
+        found.append(f"crate::{line.use.module}::{f'{{{line.use.name}, {error}}}' if error else line.use.name}")
+    if isinstance(kind, m.List) and line.error:
+        found.append("std::alloc::AllocFailed")
+    return found
+
+
+# ---- errors
+
+
+def shown(sentence: str) -> str:
+    """Returns a comment as the text of an error: it begins in lower case, and has no full stop at its end.
+
+    A first word with another capital or a digit (`MPEG`, `H.264`) stays. Quotes, backslashes and braces are escaped.
+    """
+    text = sentence.strip().removesuffix(".")
+    if not re.search(r"[A-Z0-9]", text[1:].split(" ")[0]):
+        text = text[:1].lower() + text[1:]
+    return re.sub(r'["\\]', r"\\\g<0>", text).replace("{", "{{").replace("}", "}}")
+
+
+def refusal(line: Line) -> str:
+    """Returns the comment of the case of the error for a line."""
+    if line.use:
+        return f"An error of a `{line.use.name}` that is not the reader's."
+    if line.enum:
+        what = f"`{line.name}`" if isinstance(line.kind, m.Enum) else f"An item of `{line.name}`"
+        return f"{what} is not the number of a case of `{line.enum.name}`."
+    return line.kind.doc
+
+
+def error_case(line: Line) -> list[str]:
+    """Returns the case of the error for a line: its comment, its text, and what it holds."""
+    held, text = "", shown(refusal(line))
+    if line.use:
+        held, text = f"({line.use.description.error})", f"in {article(line.use.name)}: {{0}}"
+    return [f"    /// {refusal(line)}", f'    #[error("{text}")]', f"    {line.error}{held},"]
+
+
+# ---- reads
+
+
+def reads(f: Format, line: Line) -> str:
+    """Returns the statement that reads a line."""
+    kind = line.kind
+    if isinstance(kind, m.Const):
+        call = f"reader.read_const::<Bits<{kind.width}>, Bits<{kind.value}>, {f.e}>({f.e}::{kind.error})"
+        return f"{call}?;"
+    if isinstance(kind, m.Skip):
+        return f"reader.skip({kind.width})?;"
+    return f"let {line.name} = {read(f, kind)}?;"
+
+
+def read(f: Format, kind: m.Printed) -> str:
+    """Returns the call that reads the value of a line."""
+    match kind:
+        case m.Bool() | m.Flag():
+            return "reader.read_bit()"
+        case m.Number() | m.NonZero() | m.MaybeNonZero():
+            return f"reader.read::<Bits<{kind.integer.width}>, {m.rust_type(kind)}>()"
+        case m.Enum():
+            return f"{kind.enum.name}::read(reader)"
+        case m.Array():
+            return read_array(kind)
+        case m.Unary():
+            return f"reader.read_unary::<Bits<{kind.stop}>>()"
+        case m.Groups():
+            any_call = f"read_{'signed' if kind.integer.signed else 'unsigned'}_vbr_any"
+            return f"reader.{any_call if kind.any else 'read_vbr'}::<Bits<{kind.group}>, {kind.integer.base}>()"
+        case m.Golomb():
+            return f"read_{short(kind)}(reader)"
+        case m.Count():
+            return f"reader.read::<Bits<{kind.width}>, u64>()"
+        case m.Part():
+            return f"{kind.use.name}::read(reader{', alloc' * m.has_list(kind.use)})"
+        case m.Optional() | m.If():
+            return f"read_{snake(kind.use.name)}_if(reader, {there(f, kind)})"
+        case m.List():
+            if isinstance(kind.item, m.Octet):
+                return f"reader.read_to_vec(alloc, {kind.name}_count as usize)"
+            return f"read_{kind.name}(reader, alloc, {kind.name}_count)"
+        case m.Const() | m.Skip():
+            raise AssertionError(kind)
+    assert_never(kind)
+
+
+def read_array(kind: m.Array) -> str:
+    """Returns the call that reads an array."""
+    match kind.item:
+        case m.Integer():
+            return f"reader.read::<Bits<{kind.item.width}>, {m.rust_type(kind)}>()"
+        case m.EnumType():
+            return f"{kind.item.name}::read_each(reader)"
+    return f"reader.read_to_bytes::<{m.rust_type(kind)}>()"
+
+
+def there(f: Format, kind: m.Optional | m.If) -> str:
+    """Returns the condition of an optional part."""
+    if isinstance(kind, m.Optional):
+        return f"has_{kind.name}"
+    return f"{kind.field}{'.number()' if asked_enum(f, kind) else ''} == {kind.value}"
+
+
+def read_item(item: m.Item) -> str:
+    """Returns the call that reads an item of a list."""
+    if isinstance(item, m.Integer):
+        return f"reader.read::<Bits<{item.width}>, {item.base}>()"
+    return f"{m.item_type(item)}::read(reader)"
+
+
+# ---- writes
+
+
+def write(kind: m.Printed) -> str:
+    """Returns the call that writes a line."""
+    match kind:
+        case m.Bool():
+            return f"writer.write_bit(self.{kind.name})"
+        case m.Number() | m.NonZero() | m.MaybeNonZero():
+            return f"writer.write::<Bits<{kind.integer.width}>, {m.rust_type(kind)}>(self.{kind.name})"
+        case m.Enum():
+            return f"writer.write::<Bits<{kind.enum.width}>, u{enum_bits(kind.enum)}>(self.{kind.name}.number())"
+        case m.Array(item=m.Integer() as item):
+            return f"writer.write::<Bits<{item.width}>, {m.rust_type(kind)}>(self.{kind.name})"
+        case m.Array() | m.List():
+            if isinstance(kind.item, m.Octet):
+                return f"writer.write_bytes(&self.{kind.name})"
+            return f"write_{kind.name}(writer, &self.{kind.name})"
+        case m.Unary():
+            return f"writer.write_unary::<Bits<{kind.stop}>>(self.{kind.name})"
+        case m.Groups():
+            return f"writer.write_vbr::<Bits<{kind.group}>, {kind.integer.base}>(self.{kind.name})"
+        case m.Golomb():
+            return f"write_{short(kind)}(writer, self.{kind.name})"
+        case m.Const():
+            return f"writer.write_const::<Bits<{kind.width}>, Bits<{kind.value}>>()"
+        case m.Skip():
+            return f"writer.pad({kind.width})"
+        case m.Flag():
+            return f"writer.write_bit(self.{kind.target}.is_some())"
+        case m.Count():
+            return f"writer.write::<Bits<{kind.width}>, u64>(self.{kind.target}.len() as u64)"
+        case m.Part():
+            return f"self.{kind.name}.write(writer)"
+        case m.Optional() | m.If():
+            return f"write_{snake(kind.use.name)}_if(writer, self.{kind.name})"
+    assert_never(kind)
+
+
+def write_item(item: m.Item) -> str:
+    """Returns the call that writes an item of a list or an array."""
+    match item:
+        case m.EnumType():
+            return f"writer.write::<Bits<{item.width}>, u{enum_bits(item)}>(item.number())"
+        case m.Use():
+            return "item.write(writer)"
+    return f"writer.write::<Bits<{item.width}>, {m.item_type(item)}>(*item)"
+
+
+def value_type(kind: m.Printed) -> str:
+    """Returns the type of the value of a line in code, also of one that is not a field."""
+    match kind:
+        case m.Flag():
+            return "bool"
+        case m.Count():
+            return "u64"
+        case m.Const() | m.Skip():
+            raise AssertionError(kind)
+    return m.rust_type(kind)

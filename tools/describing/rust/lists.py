@@ -1,0 +1,71 @@
+"""The functions that read and write the items of a list, and write those of an array."""
+from __future__ import annotations
+
+from describing import model as m
+from describing.layout import Format, Line
+from describing.rust.calls import read_item, write_item
+from describing.specs.terms import all_items, item_writes, placed, stored
+
+
+def list_code(f: Format, line: Line, kind: m.List) -> list[str]:
+    """Returns the functions of a list."""
+    return [*refused_memory(f, line), *read_code(f, line, kind), *write_code(kind)]
+
+
+def refused_memory(f: Format, line: Line) -> list[str]:
+    """Returns the conversion of a failed allocation, with the first list whose function has the errors of the format."""
+    lists = [it for it in f.lines if isinstance(it.kind, m.List) and it.error]
+    if lists[:1] != [line]:
+        return []
+    return [
+        f"impl<T: Drop> From<AllocFailed<T>> for {f.error} {{",
+        "    ghost from_gives = { λ _ own. own ≡ Reader OutOfMemory };",
+        "",
+        f"    fn from(_refused: AllocFailed<T>) -> {f.error} {{",
+        f"        {f.error}::Reader(Error::OutOfMemory)",
+        "    }",
+        "}",
+        "",
+    ]
+
+
+def read_code(f: Format, line: Line, kind: m.List) -> list[str]:
+    """Returns the function that reads the items of a list."""
+    entry = f"({all_items(line)} ({placed(stored(f, line, kind), 'R.source.order')}) count)"
+    error = f.error if line.error else "Error"
+    reads = f"GrowsOwn R.source {f.becomes_name}" if line.error else "GrowingOutcome R.source"
+    result = f"Result<{m.rust_type(kind)}, {error}>"
+    return [
+        f"/// Reads so many items of `{kind.name}`. If memory for one is refused, that one is read, and no more.",
+        *["/// One that is refused is the last that is read."] * bool(line.error),
+        f"fn read_{kind.name}<R: BitRead>(reader: &mut R, alloc: Global, count: u64) -> {result}",
+        f"    ensures {{ {reads} {entry}",
+        "        reader.old (seen (λ found. found.items) result) reader.new }",
+        "{",
+        "    let mut found = Vec::new(alloc);",
+        "    for _ in 0..count {",
+        f"        found.push({read_item(kind.item)}?)?;",
+        "    }",
+        "    Ok(found)",
+        "}",
+        "",
+    ]
+
+
+def write_code(kind: m.List | m.Array) -> list[str]:
+    """Returns the function that writes items."""
+    writes = placed(item_writes(kind.item), "W.sink.order")
+    items = f"&[{m.item_type(kind.item)}]"
+    return [
+        f"/// Writes the items of `{kind.name}`.",
+        f"fn write_{kind.name}<W: BitWrite>(writer: &mut W, items: {items}) -> Result<(), Error>",
+        f"    ensures {{ WritesAll W.sink (flat_map ({writes}) items.now)",
+        "        writer.old result writer.new }",
+        "{",
+        "    for item in items {",
+        f"        {write_item(kind.item)}?;",
+        "    }",
+        "    Ok(())",
+        "}",
+        "",
+    ]

@@ -1,0 +1,128 @@
+"""The text of the module of a format: its struct, its error, and its impls."""
+from __future__ import annotations
+
+import re
+
+from describing import model as m
+from describing import picture
+from describing.imports import own_specs, types
+from describing.layout import Format, Line
+from describing.names import SPECS, uses
+from describing.rust.calls import error_case, field_comment, imports, value_type
+from describing.rust.clauses import clauses
+from describing.rust.enums import enum_code
+from describing.rust.lists import list_code, write_code as write_items
+from describing.rust.parts import error_code as part_error, optional_code
+from describing.rust.reads import parse_code, read_code
+from describing.rust.traits import from_code, law_code, to_code
+from describing.rust.writes import pack_code, write_code
+from describing.specs.terms import seen, value
+from describing.text import article
+
+LIBRARY = """BE LE BitRead BitReadExt BitReader BitWrite BitWriteExt BitWriter Bits Error FromBitStream
+    FromBitStreamUsing SliceMut ToBitStream pack_into"""
+
+
+def files(f: Format) -> dict[str, str]:
+    """Returns the text by its place in the crate."""
+    return {f"src/{f.m}.rt": code(f)}
+
+
+def declares(f: Format, line: Line) -> list[str]:
+    """Returns the types and functions that one line adds to the module."""
+    kind, out = line.kind, list[str]()
+    if line.enum and not line.repeats:
+        out += enum_code(f, line, line.enum)
+    if line.use:
+        out += part_error(f, line, line.use)
+    if line.use and isinstance(kind, m.Optional | m.If):
+        out += optional_code(f, line, line.use)
+    if isinstance(kind, m.Array) and line.enum:
+        out += write_items(kind)
+    if isinstance(kind, m.List) and not isinstance(kind.item, m.Octet):
+        out += list_code(f, line, kind)
+    return out
+
+
+def code(f: Format) -> str:
+    """Returns the text of the module."""
+    body = [*struct_code(f), *model_code(f), *error_code(f)]
+    body += [line for it in f.lines for line in declares(f, it)]
+    calls = [*read_code(f), *parse_code(f), *write_code(f), *pack_code(f)]
+    body += [f"impl {f.type} {{", *calls, "}", ""]
+    body += [*from_code(f), *to_code(f), *law_code(f)]
+    text = "\n".join(body)
+    return "\n".join([f"//! {f.doc}", "//!", f"//! {f.made}", *imported(f, text), "", text]) + "\n"
+
+
+def imported(f: Format, text: str) -> list[str]:
+    """Returns the imports of some code."""
+    # but before an order `number` is a parameter there
+    said = re.sub(r"\bnumber\b(?! (?:High|Low))", "", clauses(text))
+    ghosts = uses(said, own_specs(f), types(f), SPECS, begins="ghost use ", ends=";")
+    traits = "BitReadExt " * ("reader.read" in text) + "BitWriteExt " * ("writer.write" in text)
+    code = "\n".join(it for it in text.split("\n") if not it.strip().startswith("///"))
+    words = set(re.findall(r"\w+", code + traits))
+    found = {path for it in f.lines for path in imports(it)}
+    paths = sorted(found | {"std::alloc::Global", "std::marker::Model"} if f.grows else found)
+    library = f"use bitstream_io::{{{', '.join(it for it in LIBRARY.split() if it in words)}}};"
+    mine = [f"use {it};" for it in paths if it.startswith(("crate", "bitstream_io"))]
+    return [*ghosts, "", *mine, library, *(f"use {it};" for it in paths if it.startswith("std"))]
+
+
+def struct_code(f: Format) -> list[str]:
+    """Returns the struct, with the picture of its bits."""
+    drawn = [f"/// {it}".rstrip() for it in picture.text(f.description.kinds)]
+    derives = "Debug, Drop" if f.grows else "Clone, Copy, Debug, PartialEq"
+    out = [f"/// {f.doc}", *drawn, f"#[derive({derives})]", f"pub struct {f.type} {{"]
+    for it in f.fields:
+        out += [f"    /// {field_comment(f, it)}", f"    pub {it.name}: {value_type(it.kind)},"]
+    return [*out, "}", ""]
+
+
+def model_code(f: Format) -> list[str]:
+    """Returns what contracts see of a format with lists: its fields, and the items of the lists."""
+    if not f.grows:
+        return []
+    fields = f"{f.type}Fields"
+    fields_seen = [f"        {it.name} = {value(it)}{seen(it.kind)};" for it in f.fields]
+    return [
+        f"impl Model for {f.type} {{",
+        f"    ghost use Rattle.{f.crate}.specs.{f.spec}Fields.{{{fields}}};",
+        "",
+        f"    ghost Value = {{ {fields} }};",
+        "",
+        "    ghost view = { λ value. record {",
+        *fields_seen,
+        "    } };",
+        "}",
+        "",
+    ]
+
+
+def error_code(f: Format) -> list[str]:
+    """Returns the error of the format."""
+    if not f.error:
+        return []
+    e = f.error
+    firsts = {it.error: it for it in reversed(f.tests)}
+    cases = [line for it in dict.fromkeys(it.error for it in f.tests) for line in error_case(firsts[it])]
+    return [
+        f"/// Why {article(f.type)} is not read.",
+        "#[derive(Debug, Drop, thiserror::Error)]",
+        f"pub enum {e} {{",
+        "    /// An error of the reader.",
+        '    #[error("{0}")]',
+        "    Reader(Error),",
+        *cases,
+        "}",
+        "",
+        f"impl From<Error> for {e} {{",
+        f"    ghost from_gives = {{ becomes_{f.m} }};",
+        "",
+        f"    fn from(error: Error) -> {e} {{",
+        f"        {e}::Reader(error)",
+        "    }",
+        "}",
+        "",
+    ]

@@ -1,0 +1,110 @@
+"""The functions that read a format, with their contracts."""
+from __future__ import annotations
+
+from describing.layout import Format, reader_errors
+from describing.rust.calls import reads, value_type
+from describing.rust.clauses import clause, first_of, memory, of_reader, or_refused, refusals
+from describing.specs.terms import at_bits, fails, holds, known_of, only_constants, seen
+
+
+def read_code(f: Format) -> list[str]:
+    """Returns the functions that read the format."""
+    outcome = f"ReadsOwn R.source {f.becomes_name}" if f.own else "Reads R.source"
+    if f.grows:
+        outcome = f"GrowsOwn R.source {f.becomes_name}"
+    own = [f"    /// {refusals(f)}behind the bits that say so."] * bool(f.error)
+    own += [
+        f"    /// `{of_reader(f, 'OutOfMemory')}` if memory for a list is refused, behind the items before."
+    ] * f.grows
+    return [
+        "    /// Reads the fields in order.",
+        "    ///",
+        "    /// # Errors",
+        "    ///",
+        *own,
+        f"    /// {'Else those' if f.own else 'Those'} of the reader: after each of them it has failed.",
+        f"    pub fn read<R: BitRead>(reader: &mut R{memory(f)}) -> Result<{f.type}, {f.e}>",
+        f"        ensures {{ {outcome} ({f.m}_entry R.source.order) reader.old result reader.new }}",
+        *read_body(f, 0),
+        *later_reads(f, outcome),
+    ]
+
+
+def read_body(f: Format, k: int) -> list[str]:
+    """Returns the body that reads the lines of a piece, and calls the function of the next one."""
+    pieces = f.pieces()
+    end = f"Ok({f.type} {{ {', '.join(it.name for it in f.fields)} }})"
+    if k + 1 < len(pieces):
+        seen = ["reader", *["alloc"] * f.grows, *(it.name for it in f.entry_at(pieces[k + 1][0])[1])]
+        end = f"{f.type}::read_{k + 2}({', '.join(seen)})"
+    return ["    {", *[f"        {reads(f, it)}" for it in pieces[k]], f"        {end}", "    }", ""]
+
+
+def later_reads(f: Format, outcome: str) -> list[str]:
+    """Returns the functions that read the other pieces; they take the values that were read before."""
+    out: list[str] = []
+    for k, piece in list(enumerate(f.pieces()))[1:]:
+        entry, before = f.entry_at(piece[0])
+        given = "".join(f", {it.name}: {value_type(it.kind)}" for it in before)
+        values = "".join(f" {it.name}{seen(it.kind)}" for it in before)
+        out += [
+            f"    /// Reads the fields from `{first_of(piece)}` on.",
+            f"    fn read_{k + 1}<R: BitRead>(reader: &mut R{memory(f)}{given}) -> Result<{f.type}, {f.e}>",
+            f"        ensures {{ {outcome}",
+            f"            ({entry} R.source.order{values})",
+            "            reader.old result reader.new }",
+            *read_body(f, k),
+        ]
+    return out
+
+
+def parse_code(f: Format) -> list[str]:
+    """Returns the function that reads a slice."""
+    m, t, o = f.m, f.type, f.o
+    answer = f"(sure_answer (({m}_entry {o}).reads 0 (bits {o} packet.now)))"
+    reached = f"MayAllocate ({m}_entry {o}) 0 (bits {o} packet.now)"
+    told = or_refused(f, f"OwnAnswer {f.becomes_name} (λ answer. answer)\n            {answer} result", reached)
+    bits, few = f"write_run ({m}_writes {o} value) 0", "if the bytes end before the fields do"
+    errors = dict.fromkeys(reader_errors(f.description.kinds))
+    more = [f"    /// `{of_reader(f, error)}` {when}." for error, when in errors]
+    more += [f"    /// `{of_reader(f, 'OutOfMemory')}` if memory for an item of a list is refused."] * f.grows
+    if f.sized:
+        bits, few = f"{m}_bits value", f"for fewer than {f.bytes} bytes"
+    end, behind = f"`{of_reader(f, 'EndOfInput')}`", "\n            " if f.grows else " "
+    return [
+        "    /// Returns what bytes begin with.",
+        "    ///",
+        "    /// # Errors",
+        "    ///",
+        f"    /// {refusals(f)}{end} {few}.",
+        *more,
+        f"    pub fn parse(packet: &[u8]{memory(f)}) -> Result<{t}, {f.e}>",
+        f"        ensures answer {{ {told if f.own else f'result ≡ {answer[1:-1]}'} }}",
+        *(places_code(f) if f.sized else []),
+        f"        ensures back {{ (value : {t}) (more : List Bool) → Fits value",
+        f"            → bits {o} packet.now ≡ {bits} ++ more{behind}→ {or_refused(f, 'result ≡ Ok value')} }}",
+        "    {",
+        f"        {m}_goes_back();",
+        f"        {t}::read(&mut BitReader::<_, {f.order}>::over(packet){', alloc' * f.grows})",
+        "    }",
+        "",
+    ]
+
+
+def places_code(f: Format) -> list[str]:
+    """Returns the clauses by places: the fields, too few bytes, and each line whose bits are refused."""
+    bits, enough = f"bits {f.o} packet.now", f"{f.bytes} ≤ length packet.now"
+    held = known_of(f, f.tests, bits)
+    out = clause("there", [enough, *held], f"result ≡ Ok ({at_bits(f, bits)})")
+    end = f"({f.error}.Reader EndOfInput)" if f.own else "EndOfInput"
+    few = [f"length packet.now < {f.bytes}", *(known_there(f, bits) if only_constants(f) else held)]
+    out += clause("short", few, f"result ≡ Err {end}")
+    for k, it in enumerate(f.tests):
+        facts = [f"{it.least()} ≤ length packet.now", *known_of(f, f.tests[:k], bits), fails(f, it, bits)]
+        out += clause(it.clause, facts, f"result ≡ Err ({f.error}.{it.error})")
+    return out
+
+
+def known_there(f: Format, bits: str) -> list[str]:
+    """Returns the premises of the tests whose bits are all there."""
+    return [f"({it.least()} ≤ length packet.now → {holds(f, it, bits)[0]})" for it in f.tests]

@@ -1,0 +1,67 @@
+"""The impls of the traits of the library, and the law of the round trip."""
+from __future__ import annotations
+
+from describing.layout import Format
+from describing.rust.clauses import memory
+
+
+def from_code(f: Format) -> list[str]:
+    """Returns the impl of `FromBitStream`."""
+    m, t, e = f.m, f.type, f.e
+    reads = f"{m}_entry" if f.own else f"λ o. plain_reads ({m}_entry o)"
+    context, grows = list[str](), list[str]()
+    if f.grows:
+        context, grows = ["    type Context = Global;", ""], ["    ghost grows = { true };", ""]
+        reads = f"λ o _. {m}_entry o"
+    return [
+        f"impl FromBitStream{'Using' * f.grows} for {t} {{",
+        *context,
+        f"    type Error = {e};",
+        "",
+        *grows,
+        f"    ghost becomes = {{ {f.becomes_name} }};",
+        "",
+        f"    ghost reads = {{ {reads} }};",
+        "",
+        f"    fn from_reader<R: BitRead>(reader: &mut R{memory(f)}) -> Result<{t}, {e}> {{",
+        f"        {t}::read(reader{', alloc' * f.grows})",
+        "    }",
+        "}",
+        "",
+    ]
+
+
+def to_code(f: Format) -> list[str]:
+    """Returns the impl of `ToBitStream`."""
+    return [
+        f"impl ToBitStream for {f.type} {{",
+        "    type Error = Error;",
+        "",
+        "    ghost becomes = { same_error };",
+        "",
+        f"    ghost writes = {{ {f.m}_writes }};",
+        "",
+        "    fn to_writer<W: BitWrite>(&self, writer: &mut W) -> Result<(), Error> {",
+        "        self.write(writer)",
+        "    }",
+        "}",
+        "",
+    ]
+
+
+def law_code(f: Format) -> list[str]:
+    """Returns the law of the round trip."""
+    m, ok = f.m, "Ok (Ok value)" if f.own else "Ok value"
+    how_many = f"{f.total} bits" if f.sized else f"as many as `{f.m}_size` says"
+    size = f.total if f.sized else f"{m}_size o value"
+    return [
+        "/// What fits its bits is read back as it was written, in either order of bits, wherever it stands.",
+        f"/// The read takes the bits that were written, and no more: {how_many}.",
+        f"pub fn {m}_goes_back()",
+        f"    ensures back {{ (o : Order) (value : {f.type}) (at from : ℕ) (more : List Bool) → Fits value",
+        f"        → let written = write_run ({m}_writes o value) at in",
+        f"        ({m}_entry o).reads from (written ++ more) ≡ Takes (length written) ({ok}) }}",
+        f"    ensures size {{ (o : Order) (value : {f.type}) (at : ℕ) → Fits value",
+        f"        → length (write_run ({m}_writes o value) at) ≡ {size} }}",
+        "{}",
+    ]

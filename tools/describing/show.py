@@ -1,0 +1,262 @@
+"""Prints the records of a file by a description, or packs printed records again. No code is printed or built.
+
+usage: ./format --show DESCRIPTION [FILE] [OPTION ..]    one JSON object for each record, on a line of its own
+       ./format --pack DESCRIPTION [FILE] [OPTION ..]    the bytes of such lines
+
+Without FILE the standard input is read, as it comes. A number beyond 2^53 - 1, which JSON does not hold exactly, is a
+string of its digits; bytes are hex; an enum is the name of its case, or {"Other": 5} for another number. Constants,
+flags, counts, tags and sizes are not printed: `--pack` computes them.
+
+  --repeat          read records until the end of the input, and not only one
+  --offset N        the byte where the first record begins
+  --count N         read at most N records
+  --skip EXPRESSION the bytes between a record and the next one: a number, or `length`, `length+1`, `length*4-8` for a
+                    field `length` of the record (`header.length` inside a part)
+  --keep-going      report a refused record and go on with the next one, if every record has the same size
+  --in FIELD OTHER  read the bytes of FIELD by the description OTHER, which has an order of its own. Bytes that OTHER
+                    does not read are not printed. `--pack` takes the option too
+  --table           print a table of the lines with their positions (byte in hex, bit), with colours on a terminal
+  --html            print a page for a browser, which links the bytes with the fields: one file that needs no network,
+                    with at most 100000 records. The whole input is read first
+  --picture, --svg  print the picture of the bits, and read nothing
+
+Lines of which no code is printed yet are known here: `tag`, `choose`, `size`, `sized`, `fill`, `rest` and `until`.
+
+status: 0 the input ended after a record; 2 the command, the description or a file is refused; 3 a record is refused,
+or a line does not fit the description; 4 the input ended inside a record. The records before are printed.
+"""
+from __future__ import annotations
+
+import argparse
+import json
+import os
+import sys
+from typing import BinaryIO, Iterable, Iterator, NoReturn
+
+from describing import model as m
+from describing import picture, table, web
+from describing.examples import described
+from describing.input import Input, Value
+from describing.model import Refused
+from describing.records import Ended, Fields, Options, Record, Records
+from describing.write import EXACT, Unfit, packed, record
+
+CHUNK = 1 << 16
+
+
+def loaded(path: str) -> m.Description:
+    """Returns the model of a description file. Names that only printed text would refuse are allowed."""
+    with open(path, encoding="utf-8") as file:
+        return described(file.read(), path, os.path.basename(path).removesuffix(".fields"), names=False)
+
+
+def report(text: str) -> None:
+    """Prints a message after the records so far."""
+    sys.stdout.flush()
+    print(f"format: {text}", file=sys.stderr)
+
+
+# ---- JSON
+
+
+def is_wide(it: m.Description) -> bool:
+    """Returns true if a number of a record may be one that JSON does not hold exactly."""
+    for kind in it.kinds:
+        least, most = m.range_of(kind) or (0, 0)
+        if max(-least, most) > EXACT or any(is_wide(use.description) for use in m.uses(kind)):
+            return True
+    return False
+
+
+def exact(value: Value) -> Value:
+    """Returns a value with strings for the numbers that JSON does not hold exactly."""
+    match value:
+        case int() if abs(value) > EXACT:
+            return str(value)
+        case list():
+            return [exact(it) for it in value]
+        case dict():
+            return {name: exact(it) for name, it in value.items()}
+    return value
+
+
+def show_json(found: Iterable[Value], wide: bool) -> None:
+    """Prints each record as a line of JSON."""
+    dumps, write = json.JSONEncoder(default=bytes.hex, ensure_ascii=False).encode, sys.stdout.write
+    for it in found:
+        write(dumps(exact(it) if wide else it) + "\n")
+
+
+def show_table(found: Iterator[Record]) -> None:
+    """Prints each record as a table."""
+    colours = sys.stdout.isatty() and "NO_COLOR" not in os.environ
+    for it in found:
+        print(table.table(it.number, it.start, it.end, it.nodes, colours))
+
+
+def show_page(asked: argparse.Namespace, it: m.Description, options: Options, file: BinaryIO) -> None:
+    """Prints a page for a browser. It says why the records end early, and then the command ends as it does without."""
+    data, why = file.read(), list[str]()
+    options.count = min(options.count, web.MOST)
+    found = Records(it, Input(data, it.order), options, why.append)
+    ended: list[Ended] = []
+
+    def records() -> Iterator[Record]:
+        try:
+            yield from found.records()
+        except Ended as early:
+            ended.append(early)
+            why.append(str(early))
+
+    text = web.page(
+        [it, *[other for _, other in options.inside]], data, limited(found, records(), why), asked.file or "-", why
+    )
+    sys.stdout.write(text)
+    if ended:
+        raise ended[0]
+
+
+def limited(found: Records, records: Iterator[Record], why: list[str]) -> Iterator[Record]:
+    """Returns records, and adds to `why` where the next one begins if there are more of them than a page shows."""
+    yield from records
+    if found.number == web.MOST and found.row.at < found.row.end:
+        why.append(f"{web.MOST} records are shown; the next one begins at byte {found.row.at // 8}: see --offset.")
+
+
+# ---- the commands
+
+
+def input_of(file: BinaryIO, order: str) -> Input:
+    """Returns the bits of a file, which is read as it comes; what was printed is flushed before each read."""
+
+    def fetch() -> bytes:
+        sys.stdout.flush()
+        return file.read1(CHUNK)  # type: ignore[attr-defined, no-any-return]
+
+    return Input(b"", order, fetch)
+
+
+def show(asked: argparse.Namespace, it: m.Description, options: Options, file: BinaryIO) -> None:
+    """Runs `--show`."""
+    if asked.html:
+        return show_page(asked, it, options, file)
+    found = Records(it, input_of(file, it.order), options, report)
+    if asked.table:
+        show_table(found.records())
+    else:
+        show_json(found.values(), is_wide(it) or any(is_wide(other) for _, other in options.inside))
+    if found.refused:
+        raise Ended(f"{found.refused} of {found.number} records are refused")
+    if not options.repeat and found.row.end > found.row.at:
+        report(f"more bytes follow at byte {found.row.at // 8}: `--repeat` reads them")
+
+
+def joined_inside(value: Value, inside: list[tuple[str, m.Description]]) -> Value:
+    """Returns a value with the bytes of the fields that `--in` names, in place of their records."""
+    if isinstance(value, list):
+        return [joined_inside(it, inside) for it in value]
+    if not isinstance(value, dict):
+        return value
+    found: Fields = {}
+    for name, held in value.items():
+        held = joined_inside(held, inside)
+        other = next((it for field, it in inside if field == name), None)
+        found[name] = packed(other, held) if other and isinstance(held, dict) else held
+    return found
+
+
+def pack(it: m.Description, options: Options, lines: Iterable[bytes], out: BinaryIO) -> None:
+    """Runs `--pack`."""
+    for number, line in enumerate(lines, 1):
+        if line.strip():
+            try:
+                value = joined_inside(json.loads(line), options.inside)
+                out.write(packed(it, record("the line", value)))
+            except (Unfit, ValueError) as why:
+                out.flush()
+                raise Ended(f"line {number}: {why}") from None
+
+
+def arguments(words: list[str]) -> argparse.Namespace:
+    """Parses the command line."""
+    usage = (__doc__ or "").split("usage: ")[1]
+    parser = Arguments(usage=usage, add_help=False)
+    what = parser.add_mutually_exclusive_group(required=True)
+    for name in ("show", "pack", "help"):
+        what.add_argument(f"--{name}", action="store_true")
+    for name in ("repeat", "table", "html", "picture", "svg", "keep-going"):
+        parser.add_argument(f"--{name}", action="store_true")
+    parser.add_argument("--offset", type=whole, default=0)
+    parser.add_argument("--skip", default="0")
+    parser.add_argument("--count", type=whole, default=sys.maxsize)
+    parser.add_argument("--in", dest="inside", nargs=2, action="append", default=[])
+    parser.add_argument("description", nargs="?")
+    parser.add_argument("file", nargs="?")
+    found = parser.parse_intermixed_args(words) if "--help" not in words else argparse.Namespace(help=True)
+    if not found.help and found.description is None:
+        parser.error("no DESCRIPTION")
+    return found
+
+
+class Arguments(argparse.ArgumentParser):
+    """A parser whose errors are one line; `--help` prints the rest."""
+
+    def error(self, message: str) -> NoReturn:
+        print(f"format: {message}; see ./format --show --help", file=sys.stderr)
+        sys.exit(2)
+
+
+def whole(text: str) -> int:
+    """Returns a number that is not negative, in decimal or in hex."""
+    found = int(text, 0)
+    if found < 0:
+        raise ValueError(text)
+    return found
+
+
+def options_of(asked: argparse.Namespace) -> Options:
+    """Returns the options that a command line has."""
+    inside = [(name, loaded(path)) for name, path in asked.inside]
+    return Options(asked.repeat, asked.offset, asked.count, asked.skip, asked.keep_going, inside)
+
+
+def run(asked: argparse.Namespace) -> None:
+    """Runs a command."""
+    it, options = loaded(asked.description), options_of(asked)
+    if asked.picture:
+        print("\n".join(picture.text(it.kinds)[2:-1]))
+    elif asked.svg:
+        print(picture.alone(it.kinds))
+    elif asked.file is None:
+        run_on(asked, it, options, sys.stdin.buffer)
+    else:
+        with open(asked.file, "rb") as file:
+            run_on(asked, it, options, file)
+
+
+def run_on(asked: argparse.Namespace, it: m.Description, options: Options, file: BinaryIO) -> None:
+    """Runs a command on an input."""
+    if asked.pack:
+        pack(it, options, file, sys.stdout.buffer)
+    else:
+        show(asked, it, options, file)
+
+
+def main(words: list[str]) -> int:
+    """Runs the command line, and returns the exit status."""
+    asked = arguments(words)
+    if asked.help:
+        print(f"usage: {(__doc__ or '').split('usage: ')[1]}", end="")
+        return 0
+    try:
+        run(asked)
+        sys.stdout.flush()
+    except BrokenPipeError:
+        os.dup2(os.open(os.devnull, os.O_WRONLY), sys.stdout.fileno())
+    except Ended as it:
+        report(str(it))
+        return it.status
+    except (Refused, OSError, UnicodeDecodeError) as it:
+        report(f"{asked.description}: {it}")
+        return 2
+    return 0

@@ -1,0 +1,94 @@
+"""The definitions that one line adds to the specs of a format: a constant, an enum, or a part whose errors are mapped."""
+from __future__ import annotations
+
+from describing import model as m
+from describing.imports import part_cases
+from describing.layout import Format, Line, enum_bits
+from describing.model import snake
+from describing.specs.terms import called
+
+
+def definitions(f: Format, line: Line) -> list[str]:
+    """Returns the definitions of a line."""
+    if isinstance(line.kind, m.Const):
+        return const_at(f, line, line.kind) if f.sized else []
+    if line.enum:
+        return [] if line.repeats else [*case_specs(f, line, line.enum), *read_specs(f, line, line.enum)]
+    if line.use and f.mapped(line.kind) and f.is_first(line):
+        return mapped_specs(f, line, line.use)
+    return []
+
+
+def const_at(f: Format, line: Line, kind: m.Const) -> list[str]:
+    """Returns the definition of the bits at the place of a constant."""
+    return [
+        f"-- the {kind.width} bits at {line.at}, which are {kind.value}",
+        f"abbrev pub const_at_{line.at} : List Bool → ℕ",
+        f"const_at_{line.at} bits = number {f.o} (bits_at {line.at} {kind.width} bits)",
+        "",
+    ]
+
+
+def answer_type(f: Format, line: Line, specs: str) -> str:
+    """Returns the type of what numbers of an enum say: cases, or the refusal of a number."""
+    return f"(Result {specs} {f.error})" if line.error else specs
+
+
+def case_specs(f: Format, line: Line, enum: m.EnumType) -> list[str]:
+    """Returns the definitions from a number to its case, and back."""
+    s, strict = snake(enum.name), line.error
+    cases = [(it, called(line, case)) for it, case in enum.cases]
+    tests = "".join(f"if n == {it} then {f'Ok {case}' if strict else case} else " for it, case in cases)
+    out = ["-- what a number says", f"abbrev pub {s}_of : ℕ → {answer_type(f, line, enum.name)}"]
+    out += [f"{s}_of n = {tests}{f'Err {strict}' if strict else f'{called(line, enum.other)} n'}", ""]
+    out += ["-- and back", f"abbrev pub {s}_number : {enum.name} → ℕ"]
+    out += [f"{s}_number {case} = {value}" for value, case in cases]
+    out += [f"{s}_number ({called(line, enum.other)} n) = n"] if enum.other else []
+    return [*out, ""]
+
+
+def read_specs(f: Format, line: Line, enum: m.EnumType) -> list[str]:
+    """Returns the definition of the read of a number, or of an array of numbers."""
+    if isinstance(line.kind, m.Array):
+        return array_specs(f, line, enum, line.kind.count)
+    s = snake(enum.name)
+    head = f"abbrev pub {s}_read : Order → ReadEntry {answer_type(f, line, enum.name)}"
+    read = f"chain (unsigned_entry o {enum_bits(enum)} {enum.width}) (λ v. gives ({s}_of v))"
+    return ["-- the read of its number", head, f"{s}_read o = {read}", ""]
+
+
+def array_specs(f: Format, line: Line, enum: m.EnumType, count: int) -> list[str]:
+    """Returns the definitions of the cases of an array of numbers, and of their read."""
+    s = snake(enum.name)
+    each, answer = f"map {s}_of numbers", answer_type(f, line, f"(List {enum.name})")
+    read = f"items_entry (unsigned_entry o {enum_bits(enum)} {enum.width}) {count}"
+    return [
+        "-- what each number says",
+        f"abbrev pub {s}_each : List ℕ → {answer}",
+        f"{s}_each numbers = {f'all_ok ({each})' if line.error else each}",
+        "",
+        f"-- the read of {count} numbers",
+        f"abbrev pub {s}_read_each : Order → ReadEntry {answer}",
+        f"{s}_read_each o = chain ({read}) (λ v. gives ({s}_each v))",
+        "",
+    ]
+
+
+def mapped_specs(f: Format, line: Line, use: m.Use) -> list[str]:
+    """Returns the definitions from the errors of a part to those of the format."""
+    own, part, module = use.description.error, use.name, use.module
+    theirs = own or "Error"
+    out = [f"-- an error of a `{part}`, as one of the type's"]
+    out += [f"abbrev pub {module}_error : {theirs} → {f.error}"]
+    out += [f"{module}_error {f'({part}Reader error)' if own else 'error'} = Reader error"]
+    for case, held in part_cases(use):
+        said = f"({part}{case} error)" if held else f"{part}{case}"
+        out.append(f"{module}_error {said} = {line.error} {said}")
+    answers = f"Result {part} {theirs} → Result {part} {f.error}"
+    out += ["", "-- and an answer", f"abbrev pub {module}_answer : {answers}"]
+    out += [f"{module}_answer (Ok value) = Ok value"]
+    out += [f"{module}_answer (Err error) = Err ({module}_error error)"]
+    out += ["", f"-- the reads of a `{part}`, with the errors of the type"]
+    out += [f"abbrev pub {module}_here : Order → ReadEntry (Result {part} {f.error})"]
+    here = f"chain ({module}_entry o) (λ answer. gives ({module}_answer answer))"
+    return [*out, f"{module}_here o = {here}", ""]

@@ -1,0 +1,172 @@
+"""The text of the files of specs."""
+from __future__ import annotations
+
+import re
+
+from describing.imports import parts_specs, types
+from describing.layout import Format, Line
+from describing.names import SPECS, uses
+from describing.specs.definitions import definitions
+from describing.specs.terms import binds, fits, place, size, spec_type, word
+from describing.text import article, wrapped
+
+
+def files(f: Format) -> dict[str, str]:
+    """Returns the definitions by their place in the crate."""
+    return {f"specs/{f.spec}.antt": specs(f)}
+
+
+def fields_files(f: Format) -> dict[str, str]:
+    """Returns what contracts see of a format with lists, by its place in the crate."""
+    return {f"specs/{f.spec}Fields.antt": fields_specs(f)} if f.grows else {}
+
+
+def specs(f: Format) -> str:
+    """Returns the text of the definitions."""
+    out = becomes(f) + (BITS_AT if f.sized else [])
+    out += [line for it in f.lines for line in definitions(f, it)]
+    out += [*entries(f), *writes(f), *fits_record(f), *sizes(f), *all_bits(f)]
+    out += at_places(f) if f.sized else []
+    text = "\n".join(out)
+    # here `bits` is bound in each definition that names it
+    imports = uses(re.sub(r"\bbits\b", "", text), types(f), parts_specs(f), SPECS)
+    return wrapped("\n".join([f"-- {f.doc}", *imports, "", f"-- {f.made}", "", text.rstrip()])) + "\n"
+
+
+BITS_AT = [
+    "-- n bits behind the first k",
+    "abbrev pub bits_at : ℕ → ℕ → List Bool → List Bool",
+    "bits_at k n bits = take n (drop k bits)",
+    "",
+]
+
+
+def becomes(f: Format) -> list[str]:
+    """Returns the definition of the errors of the reader among those of the format."""
+    if not f.error:
+        return []
+    return [
+        "-- an error of the reader is one of the type's",
+        f"abbrev pub becomes_{f.m} : Error → {f.error} → Type 0",
+        f"becomes_{f.m} error own = own ≡ Reader error",
+        "",
+    ]
+
+
+def entries(f: Format) -> list[str]:
+    """Returns the definitions of the reads, the last one first."""
+    parts, seen, out, refused = f.entry_parts(), list[Line](), list[str](), 0
+    for k, part in enumerate(parts):
+        more = ""
+        if k:
+            more = f", behind {refused} that may be refused" if parts[k - 1][-1].error else ", the next of them"
+        out = [*entry_definition(f, k, part, seen, more), "", *out]
+        seen = seen + [it for it in part if it.name]
+        refused += bool(part and part[-1].error)
+    return out
+
+
+def entry_definition(f: Format, k: int, part: list[Line], seen: list[Line], more: str) -> list[str]:
+    """Returns the definition of the reads of some lines, which takes the values of the `seen` ones."""
+    args, kinds = "".join(f" {it.name}" for it in seen), "".join(f" {spec_type(it.kind)} →" for it in seen)
+    behind = f"{f.m}_entry_{k + 1} o" + "".join(f" {it.name}" for it in [*seen, *part] if it.name)
+    name = f"{f.m}_entry_{k}" if k else f"{f.m}_entry"
+    block = [binds(f, it, behind) for it in part]
+    if k == len(f.entry_parts()) - 1:
+        block.append(gives(f))
+    elif not part[-1].stops:
+        block.append(f"  {behind}")
+    says = f"{name} o{args} = do"
+    if len(block) == 1 and block[0].startswith(("  chain", "  gives")):
+        says, block = f"{name} o{args} ={block[0][1:]}", []
+    head = [f"-- the reads, in order{more}", f"abbrev pub {name} : Order →{kinds} ReadEntry {f.result}"]
+    return [*head, says, *block]
+
+
+def gives(f: Format) -> str:
+    """Returns the end of the reads: the record of what was read."""
+    record = "record { " + "; ".join(f"{it.name} = {it.name}" for it in f.fields) + " }"
+    return f"  gives (Ok ({record}))" if f.own else f"  gives ({record})"
+
+
+def writes(f: Format) -> list[str]:
+    """Returns the definitions of the writes, the last one first."""
+    out: list[str] = []
+    pieces = f.pieces()
+    for k, piece in enumerate(pieces):
+        name, more = (f"{f.m}_writes_{k + 1}", ", the next of them") if k else (f"{f.m}_writes", "")
+        head = [f"-- the writes, in order{more}", f"abbrev pub {name} : Order → {f.type} → List WriteEntry"]
+        out = [*head, f"{name} o value =", *written_list(piece, after(f, k)), "", *out]
+    return out
+
+
+def after(f: Format, k: int) -> str:
+    """Returns the writes after a piece."""
+    return f"{f.m}_writes_{k + 2} o value" if k + 1 < len(f.pieces()) else "[]"
+
+
+def writes_behind(f: Format) -> list[str]:
+    """Returns for each line the writes of the lines after it."""
+    found = []
+    for k, piece in enumerate(f.pieces()):
+        for n in range(len(piece)):
+            rest = written_list(piece[n + 1 :], after(f, k)) if piece[n + 1 :] else [f"    {after(f, k)}"]
+            found.append(" ".join(it.strip() for it in rest))
+    return found
+
+
+def written_list(lines: tuple[Line, ...], behind: str) -> list[str]:
+    """Returns the writes of some lines, and of what follows them."""
+    # `++` associates to the left: the text after a list of writes that others follow is in brackets
+    opened = [k for k, it in enumerate(lines) if it.many][:-1]
+    out, join = list[str](), ""
+    for k, it in enumerate(lines):
+        out.append(f"    {join}{word(it)}")
+        join = f"++ {'(' * (k in opened)}" if it.many else "∷ "
+    return [*out, f"    {join}{behind}{')' * len(opened)}"]
+
+
+def fields_specs(f: Format) -> str:
+    """Returns the text of the file of what contracts see of a format with lists."""
+    name, fields = f"{f.type}Fields", [f"  pub {it.name} : {spec_type(it.kind)}" for it in f.fields]
+    out = ["-- its fields, and the items of its lists", f"pub record {name} : Type 0 where", *fields]
+    imports = uses("\n".join(out), types(f), parts_specs(f), SPECS)
+    head = f"-- What contracts see of {article(f.type)}."
+    return "\n".join([head, *imports, "", f"-- {f.made}", "", *out]) + "\n"
+
+
+def fits_record(f: Format) -> list[str]:
+    """Returns the record of the facts that each field fits its bits."""
+    fields = [f"  pub {name} : {what}" for it in f.lines for name, what in fits(f, it)]
+    return ["-- each field fits its bits", f"pub record Fits (value : {f.type}) : Type 0 where", *fields, ""]
+
+
+def sizes(f: Format) -> list[str]:
+    """Returns the definition of the number of bits: those of constant widths first."""
+    known = sum(it.wide for it in f.lines)
+    total = " + ".join([str(known)] * (known > 0 or f.sized) + [size(it) for it in f.lines if it.bits is None])
+    head = f"abbrev pub {f.m}_size : Order → {f.type} → ℕ"
+    return ["-- the number of bits", head, f"{f.m}_size o value = {total}", ""]
+
+
+def all_bits(f: Format) -> list[str]:
+    """Returns the definition of the bits of a record."""
+    return [
+        "-- the bits of all fields, up to a whole byte",
+        f"unfoldable pub {f.m}_bits : {f.type} → List Bool",
+        f"{f.m}_bits value = write_run ({f.m}_writes {f.o} value ++ align ∷ []) 0",
+        "",
+    ]
+
+
+def at_places(f: Format) -> list[str]:
+    """Returns the definition of the record of bits by their places."""
+    kinds = [it for it in f.tests if it.is_field]
+    arrows, args = "".join(f"{spec_type(it.kind)} → " for it in kinds), "".join(f" {it.name}" for it in kinds)
+    return [
+        "-- the fields that bits say, each by its place",
+        f"abbrev pub {f.m}_at : {arrows}List Bool → {f.type}",
+        f"{f.m}_at{args} bits = record {{",
+        *[f"  {it.name} = {place(it, 'bits', f.o)};" for it in f.fields],
+        "}",
+    ]

@@ -1,0 +1,501 @@
+"""The terms of specs for one line: its read, its write, its size, what fits it, and its place among known bits.
+
+In the terms `o` is the order of bits, and `value` the record that is written.
+"""
+from __future__ import annotations
+
+from typing import assert_never
+
+from describing import model as m
+from describing.layout import Format, Line, enum_bits
+from describing.model import snake
+
+
+def value(line: Line) -> str:
+    """Returns the field of a line."""
+    return f"value.{line.name}"
+
+
+def spec_type(kind: m.Printed) -> str:
+    """Returns the type of the value of a line."""
+    match kind:
+        case m.Bool() | m.Flag():
+            return "Bool"
+        case m.Number() | m.Groups():
+            return number_type(kind.integer.signed)
+        case m.Golomb():
+            return number_type(kind.signed)
+        case m.Array() | m.List():
+            return f"List {item_type(kind.item)}"
+        case m.NonZero():
+            return f"NonZero{kind.integer.base.upper()}"
+        case m.MaybeNonZero():
+            return f"Option NonZero{kind.integer.base.upper()}"
+        case m.Enum():
+            return kind.enum.name
+        case m.Part():
+            return kind.use.name
+        case m.Optional() | m.If():
+            return f"Option {kind.use.name}"
+        case m.Unary() | m.Count() | m.Const() | m.Skip():
+            return "ℕ"
+    assert_never(kind)
+
+
+def number_type(signed: bool) -> str:
+    """Returns the type of a number."""
+    return "ℤ" if signed else "ℕ"
+
+
+def item_type(item: m.Item) -> str:
+    """Returns the type of an item."""
+    match item:
+        case m.Integer():
+            return number_type(item.signed)
+        case m.Octet():
+            return "ℕ"
+        case m.EnumType() | m.Use():
+            return item.name
+    assert_never(item)
+
+
+def seen(kind: m.Printed) -> str:
+    """Returns the suffix after a value of code for what contracts see of it."""
+    return ".items" if isinstance(kind, m.List) else ""
+
+
+def placed(text: str, order: str) -> str:
+    """Returns a term for an order that is not the variable `o`."""
+    return " ".join(order if it == "o" else it for it in text.split(" "))
+
+
+def bit(stop: int) -> str:
+    """Returns a bit."""
+    return ("false", "true")[stop]
+
+
+# ---- numbers
+
+
+def width(integer: m.Integer) -> int:
+    """Returns the bits of the type of a number."""
+    return int(integer.base[1:])
+
+
+def shape(integer: m.Integer) -> str:
+    """Returns the order, the bits of the type and the bits of a number."""
+    return f"o {width(integer)} {integer.width}"
+
+
+def sign(integer: m.Integer) -> str:
+    """Returns the name of the write of a number."""
+    return "signed" if integer.signed else "unsigned"
+
+
+def non_zero(kind: m.NonZero) -> str:
+    """Returns the number of a `NonZero`."""
+    return f"non_zero_{kind.integer.base}_get value.{kind.name}"
+
+
+def or_zero(kind: m.MaybeNonZero) -> str:
+    """Returns the number of an optional `NonZero`, 0 for `None`."""
+    return f"number_or_zero non_zero_{kind.integer.base}_get value.{kind.name}"
+
+
+def groups_call(kind: m.Groups) -> str:
+    """Returns the name of the read of a number in groups."""
+    return f"{'any_' * kind.any}{'signed_' * kind.integer.signed}vbr"
+
+
+def groups_number(kind: m.Groups) -> str:
+    """Returns the number whose groups are written."""
+    return f"(zig value.{kind.name})" if kind.integer.signed else f"value.{kind.name}"
+
+
+def short(kind: m.Golomb) -> str:
+    """Returns the name of an Exp-Golomb code."""
+    return "se" if kind.signed else "ue"
+
+
+# ---- enums
+
+
+def enum_number(enum: m.EnumType, term: str) -> str:
+    """Returns the number of a case."""
+    return f"{snake(enum.name)}_number {term}"
+
+
+def enum_shape(enum: m.EnumType) -> str:
+    """Returns the order, the bits of the type and the bits of the number of an enum."""
+    return f"o {enum_bits(enum)} {enum.width}"
+
+
+def called(line: Line, case: str) -> str:
+    """Returns the name of a case in specs: after the name of its enum if something else has the name, too."""
+    return (line.enum.name if line.enum and case in line.shared else "") + case
+
+
+# ---- reads
+
+
+def entry(f: Format, line: Line) -> str:
+    """Returns the read of a line that binds its value."""
+    kind = line.kind
+    match kind:
+        case m.Bool() | m.Flag():
+            return "bit_entry"
+        case m.Number():
+            return f"{sign(kind.integer)}_entry {shape(kind.integer)}"
+        case m.NonZero():
+            return f"non_zero_{kind.integer.base}_entry o {kind.integer.width}"
+        case m.MaybeNonZero():
+            return f"option_entry non_zero_{kind.integer.base} {shape(kind.integer)}"
+        case m.Enum():
+            return f"{snake(kind.enum.name)}_read o"
+        case m.Array():
+            return array_entry(kind)
+        case m.Unary():
+            return f"unary_entry {bit(kind.stop)}"
+        case m.Groups():
+            limit = "" if kind.integer.signed else f" (2 ^ {kind.integer.width})"
+            return f"{groups_call(kind)}_entry o {kind.group} {kind.integer.width}{limit}"
+        case m.Golomb():
+            return f"{short(kind)}_entry o"
+        case m.Count():
+            return f"unsigned_entry o 64 {kind.width}"
+        case m.Part():
+            return here(f, line)
+        case m.Optional() | m.If():
+            return if_there(f, line, when(f, kind))
+        case m.List():
+            return list_entry(f, line, kind)
+        case m.Const():
+            return f"const_entry o {kind.width} {kind.value}"
+        case m.Skip():
+            return f"skip_entry {kind.width}"
+    assert_never(kind)
+
+
+def array_entry(kind: m.Array) -> str:
+    """Returns the read of an array."""
+    item = kind.item
+    match item:
+        case m.Integer():
+            return f"items_entry ({sign(item)}_entry {shape(item)}) {kind.count}"
+        case m.EnumType():
+            return f"{snake(item.name)}_read_each o"
+        case m.Octet():
+            return f"bytes_entry o {kind.count}"
+    assert_never(item)
+
+
+def item_entry(f: Format, line: Line, item: m.Item) -> str:
+    """Returns the read of an item of a list."""
+    match item:
+        case m.Integer():
+            return f"{sign(item)}_entry {shape(item)}"
+        case m.EnumType():
+            return f"{snake(item.name)}_read o"
+        case m.Use():
+            return here(f, line)
+        case m.Octet():
+            return "unsigned_entry o 8 8"
+    assert_never(item)
+
+
+def all_items(line: Line) -> str:
+    """Returns the read of a list: of items that may be refused, or of others."""
+    return "parts_entry" if line.error else "items_entry"
+
+
+def stored(f: Format, line: Line, kind: m.List) -> str:
+    """Returns the read of an item as the read of a list takes it."""
+    one = item_entry(f, line, kind.item)
+    return one if line.error else f"list_item ({one})"
+
+
+def list_entry(f: Format, line: Line, kind: m.List) -> str:
+    """Returns the read of a list."""
+    if isinstance(kind.item, m.Octet):
+        return f"vec_entry o {kind.name}_count"
+    return f"{all_items(line)} ({stored(f, line, kind)}) {kind.name}_count"
+
+
+def here(f: Format, line: Line) -> str:
+    """Returns the read of a part, with the errors of the format if there are any."""
+    module = line.use.module if line.use else ""
+    return f"{module}_{'here' if f.mapped(line.kind) else 'entry'} o"
+
+
+def if_there(f: Format, line: Line, there: str) -> str:
+    """Returns the read of an optional part; `there` is the term that it is there."""
+    own = "own_" if line.use and line.use.description.error else ""
+    return f"{own}optional {there} ({here(f, line)})"
+
+
+def asked_enum(f: Format, kind: m.If) -> m.EnumType | None:
+    """Returns the enum that a condition asks for, or None if it asks for a number."""
+    return next((it.kind.enum for it in f.lines if isinstance(it.kind, m.Enum) and it.name == kind.field), None)
+
+
+def test(f: Format, kind: m.If, term: str) -> str:
+    """Returns the condition of an optional part, of a term for the field that it asks for."""
+    enum = asked_enum(f, kind)
+    return f"({enum_number(enum, term) if enum else term} == {kind.value})"
+
+
+def when(f: Format, kind: m.Optional | m.If) -> str:
+    """Returns the term that an optional part is there, of the values that were read."""
+    return test(f, kind, kind.field) if isinstance(kind, m.If) else f"has_{kind.name}"
+
+
+def known(f: Format, kind: m.Optional | m.If) -> str:
+    """Returns the term that an optional part is there, of the fields of the record."""
+    return test(f, kind, f"value.{kind.field}") if isinstance(kind, m.If) else f"(is_some value.{kind.name})"
+
+
+def binds(f: Format, line: Line, behind: str) -> str:
+    """Returns the line of a `do` block that reads a line; `behind` is the read of the lines after it."""
+    kind = line.kind
+    if isinstance(kind, m.Const):
+        test_ = f"if is_{line.index} then {behind} else gives (Err {kind.error})"
+        return f"  is_{line.index} ← {entry(f, line)}\n  {test_}"
+    if isinstance(kind, m.Skip):
+        return f"  skipped_{line.index} ← {entry(f, line)}"
+    if line.stops:
+        return f"  chain ({entry(f, line)}) (part_then (λ {line.name}. {behind}))"
+    return f"  {line.name} ← {entry(f, line)}"
+
+
+# ---- writes
+
+
+def word(line: Line) -> str:
+    """Returns the write of a line, or the list of its writes."""
+    kind, term = line.kind, value(line)
+    match kind:
+        case m.Bool():
+            return f"bit {term}"
+        case m.Number():
+            return f"{sign(kind.integer)} {shape(kind.integer)} {term}"
+        case m.NonZero():
+            return f"non_zero {shape(kind.integer)} ({non_zero(kind)})"
+        case m.MaybeNonZero():
+            return f"unsigned {shape(kind.integer)} ({or_zero(kind)})"
+        case m.Enum():
+            return f"unsigned {enum_shape(kind.enum)} ({enum_number(kind.enum, term)})"
+        case m.Unary():
+            return f"unary_word {bit(kind.stop)} {term}"
+        case m.Groups():
+            return f"{'signed_' * kind.integer.signed}vbr o {kind.group} {term}"
+        case m.Golomb():
+            return f"{short(kind)}_writes o {term}"
+        case m.Const():
+            return f"plain (word o {kind.width} {kind.value})"
+        case m.Skip():
+            return f"zeros {kind.width}"
+        case m.Flag():
+            return f"bit (is_some value.{kind.target})"
+        case m.Count():
+            return f"unsigned o 64 {kind.width} (length value.{kind.target})"
+        case m.Array() | m.List():
+            if isinstance(kind.item, m.Octet):
+                return f"buffer o {term}"
+            return f"flat_map ({item_writes(kind.item)}) {term}"
+        case m.Part():
+            return f"{kind.use.module}_writes o {term}"
+        case m.Optional() | m.If():
+            return f"optional_writes ({kind.use.module}_writes o) {term}"
+    assert_never(kind)
+
+
+def item_writes(item: m.Item) -> str:
+    """Returns the function from an item to its writes."""
+    match item:
+        case m.Integer():
+            return f"λ x. {sign(item)} {shape(item)} x ∷ []"
+        case m.EnumType():
+            return f"λ x. unsigned {enum_shape(item)} ({enum_number(item, 'x')}) ∷ []"
+        case m.Use():
+            return f"{item.module}_writes o"
+        case m.Octet():
+            return "λ x. unsigned o 8 8 x ∷ []"
+    assert_never(item)
+
+
+def size(line: Line) -> str:
+    """Returns the number of bits."""
+    kind, term = line.kind, value(line)
+    if line.bits is not None:
+        return str(line.bits)
+    match kind:
+        case m.Unary():
+            return f"length (unary {bit(kind.stop)} {term})"
+        case m.Groups():
+            return f"length (vbr_word o {kind.group} {groups_number(kind)})"
+        case m.Golomb():
+            return f"{short(kind)}_size {term}"
+        case m.Part():
+            return f"{kind.use.module}_size o {term}"
+        case m.Optional() | m.If():
+            return f"optional_size ({kind.use.module}_size o) {term}"
+        case m.List():
+            return list_size(kind)
+    raise AssertionError(kind)
+
+
+def list_size(kind: m.List) -> str:
+    """Returns the number of bits of a list."""
+    item, term = kind.item, f"value.{kind.name}"
+    match item:
+        case m.Use():
+            return f"parts_size ({item.module}_size o) {term}"
+        case m.Octet():
+            return f"8 * length {term}"
+        case m.Integer() | m.EnumType():
+            return f"length {term} * {item.width}"
+    assert_never(item)
+
+
+# ---- values that fit
+
+
+def fits(f: Format, line: Line) -> list[tuple[str, str]]:
+    """Returns the fields of `Fits` for a line."""
+    kind, term = line.kind, value(line)
+    match kind:
+        case m.Bool() | m.Const() | m.Skip() | m.Flag():
+            return []
+        case m.Number():
+            return [(kind.name, number_fits(kind.integer, term))]
+        case m.NonZero():
+            return [(kind.name, f"{non_zero(kind)} - 1 < 2 ^ {kind.integer.width}")]
+        case m.MaybeNonZero():
+            return [(kind.name, f"{or_zero(kind)} < 2 ^ {kind.integer.width}")]
+        case m.Enum():
+            return enum_fits(kind, term)
+        case m.Unary():
+            return [(kind.name, f"{term} < 2 ^ 32")]
+        case m.Groups():
+            return [(kind.name, number_fits(kind.integer, term))]
+        case m.Golomb():
+            return [(kind.name, f"unsigned_abs {term} < 2 ^ 31" if kind.signed else f"{term} < 2 ^ 32 - 1")]
+        case m.Count():
+            return [(line.name, f"length value.{kind.target} < 2 ^ {kind.width}")]
+        case m.Array():
+            return [(f"{kind.name}_count", f"length {term} ≡ {kind.count}"), *items_fit(kind.name, kind.item, term)]
+        case m.List():
+            return items_fit(kind.name, kind.item, term)
+        case m.Part():
+            return [(kind.name, f"{kind.use.name}Fits {term}")]
+        case m.Optional():
+            return [(kind.name, f"ForSome {term} {kind.use.name}Fits")]
+        case m.If():
+            there = (f"{kind.name}_there", f"is_some {term} ≡ {known(f, kind)}")
+            return [(kind.name, f"ForSome {term} {kind.use.name}Fits"), there]
+    assert_never(kind)
+
+
+def number_fits(integer: m.Integer, term: str) -> str:
+    """Returns the fact that a number fits its bits."""
+    return f"FitsSignedBits {integer.width} {term}" if integer.signed else f"{term} < 2 ^ {integer.width}"
+
+
+def enum_fits(kind: m.Enum, term: str) -> list[tuple[str, str]]:
+    """Returns the facts that the number of a case fits its bits and belongs to no other case."""
+    if not kind.enum.other:
+        return []
+    number = enum_number(kind.enum, term)
+    again = (f"{kind.name}_again", f"{snake(kind.enum.name)}_of ({number}) ≡ {term}")
+    return [(kind.name, f"{number} < 2 ^ {kind.enum.width}"), again]
+
+
+def items_fit(name: str, item: m.Item, term: str) -> list[tuple[str, str]]:
+    """Returns the fact that each item fits its bits."""
+    match item:
+        case m.Integer():
+            says = f"FitsSignedBits {item.width}" if item.signed else f"λ x. x < 2 ^ {item.width}"
+            return [(name, f"All ({says}) {term}")]
+        case m.Octet():
+            return [(name, f"All (λ b. b < 256) {term}")]
+        case m.Use():
+            return [(name, f"All {item.name}Fits {term}")]
+        case m.EnumType():
+            number = enum_number(item, "x")
+            again = f"{snake(item.name)}_of ({number}) ≡ x"
+            says = f"All (λ x. ({number} < 2 ^ {item.width}) × ({again})) {term}"
+            return [(name, says)] if item.other else []
+    assert_never(item)
+
+
+# ---- values among known bits, for a format of a constant number of bits
+
+
+def place(line: Line, bits: str, order: str, base: int = 0) -> str:
+    """Returns the value of a line among bits, of which the format begins after `base`."""
+    at = base + (line.at or 0)
+    if isinstance(line.kind, m.Part):
+        inner = (f"{it.name} = {place(it, bits, order, at)}" for it in line.inner if it.is_field)
+        return f"record {{ {'; '.join(inner)} }}"
+    return value_of(line, f"bits_at {at} {line.wide} {bits}", order)
+
+
+def value_of(line: Line, bits: str, order: str) -> str:
+    """Returns the value of a line of its own bits."""
+    kind = line.kind
+    match kind:
+        case m.Number():
+            return f"{'signed_' * kind.integer.signed}number {order} ({bits})"
+        case m.Bool() | m.Flag():
+            return f"first_bit ({bits})"
+        case m.NonZero():
+            return f"non_zero_{kind.integer.base} (number {order} ({bits}))"
+        case m.MaybeNonZero():
+            return f"if_any non_zero_{kind.integer.base} (number {order} ({bits}))"
+        case m.Enum() | m.Array(item=m.EnumType()):
+            return line.name if line.error else made(line, bits, order)
+        case m.Array(item=m.Octet()):
+            return f"bytes_of {order} {kind.count} ({bits})"
+        case m.Array(item=m.Integer() as item):
+            return f"map ({'signed_' * item.signed}number {order}) (words {item.width} {kind.count} ({bits}))"
+    raise AssertionError(kind)
+
+
+def made(line: Line, bits: str, order: str) -> str:
+    """Returns the case of an enum, or the cases of an array, of their bits; or the refusal of these."""
+    assert line.enum
+    name = snake(line.enum.name)
+    if isinstance(line.kind, m.Array):
+        return f"{name}_each (map (number {order}) (words {line.enum.width} {line.kind.count} ({bits})))"
+    return f"{name}_of (number {order} ({bits}))"
+
+
+def holds(f: Format, line: Line, bits: str) -> tuple[str, list[str]]:
+    """Returns the fact that bits of a line are not refused, and the names of what is known then."""
+    if isinstance(line.kind, m.Const):
+        return f"const_at_{line.at} ({bits}) ≡ {line.kind.value}", [f"is_{line.index}"]
+    answer = made(line, f"bits_at {line.at} {line.wide} ({bits})", f.o)
+    return f"{answer} ≡ Ok {line.name}", [line.name, f"is_{line.index}"]
+
+
+def fails(f: Format, line: Line, bits: str) -> str:
+    """Returns the fact that bits of a line are refused."""
+    if isinstance(line.kind, m.Const):
+        return f"const_at_{line.at} ({bits}) ≢ {line.kind.value}"
+    return f"{made(line, f'bits_at {line.at} {line.wide} ({bits})', f.o)} ≡ Err {line.error}"
+
+
+def known_of(f: Format, tests: list[Line], bits: str) -> list[str]:
+    """Returns the premises that tests hold, after the cases of their enums."""
+    kinds = " ".join(f"({it.name} : {spec_type(it.kind)})" for it in tests if it.is_field)
+    return [kinds] * bool(kinds) + [holds(f, it, bits)[0] for it in tests]
+
+
+def at_bits(f: Format, bits: str) -> str:
+    """Returns the record of bits by their places, after the cases of the enums that may be refused."""
+    return " ".join([f"{f.m}_at", *[it.name for it in f.tests if it.is_field], f"({bits})"])
+
+
+def only_constants(f: Format) -> bool:
+    """Returns true if each line that may be refused is a constant: then it is decided whether it is there."""
+    return not any(it.is_field for it in f.tests)

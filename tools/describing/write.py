@@ -1,0 +1,339 @@
+"""Writes records by a description: the bytes that are read back as the values."""
+from __future__ import annotations
+
+import re
+from typing import Callable, TypeAlias
+
+from describing import model as m
+from describing.input import Value
+
+
+# The greatest number below which JSON holds every whole number exactly.
+EXACT = (1 << 53) - 1
+
+
+class Unfit(Exception):
+    """The reason why a value cannot be written, with its path."""
+
+
+class Bits:
+    """Bits that are written in an order; whole bytes move from `word` to `done`, so a long record takes linear time."""
+
+    def __init__(self, order: str) -> None:
+        self.big, self.done, self.word, self.left = order == "BE", bytearray(), 0, 0
+
+    @property
+    def count(self) -> int:
+        """The number of bits."""
+        return 8 * len(self.done) + self.left
+
+    def put(self, number: int, count: int) -> None:
+        """Appends the lowest `count` bits of a number that has no more."""
+        if self.big:
+            self.word = self.word << count | number
+        else:
+            self.word |= number << self.left
+        self.left += count
+        if self.left >= 1024:
+            self.move()
+
+    def move(self) -> None:
+        """Moves the whole bytes of `word`."""
+        size, rest = divmod(self.left, 8)
+        if self.big:
+            self.done += (self.word >> rest).to_bytes(size, "big")
+            self.word &= (1 << rest) - 1
+        else:
+            self.done += (self.word & ((1 << 8 * size) - 1)).to_bytes(size, "little")
+            self.word >>= 8 * size
+        self.left = rest
+
+    def bytes(self) -> bytes:
+        """Returns the bytes, the last one filled with zeros."""
+        size = -(-self.left // 8)
+        word = self.word << (8 * size - self.left) if self.big else self.word
+        return bytes(self.done) + word.to_bytes(size, "big" if self.big else "little")
+
+
+Record: TypeAlias = dict[str, Value]
+
+
+def unfit(name: str, value: Value, what: str) -> Unfit:
+    """Returns the refusal of a value; `what` says what is written there."""
+    said = repr(value)
+    return Unfit(f"`{name}` is {said if len(said) < 60 else said[:57] + '...'}: {what}")
+
+
+def number(name: str, value: Value, least: int, most: int) -> int:
+    """Returns a number in a range. One that JSON does not hold exactly may be a string of its decimal digits."""
+    if isinstance(value, str) and most > EXACT and re.fullmatch(r"-?\d+", value):
+        value = int(value)
+    if isinstance(value, bool) or not isinstance(value, int) or not least <= value <= most:
+        raise unfit(name, value, f"a number from {least} to {most}")
+    return value
+
+
+def raw(name: str, value: Value) -> bytes:
+    """Returns bytes, which are hex in JSON."""
+    if isinstance(value, bytes):
+        return value
+    try:
+        if isinstance(value, str):
+            return bytes.fromhex(value)
+        if isinstance(value, list):
+            return bytes(it for it in value if isinstance(it, int))
+    except ValueError:
+        pass
+    raise unfit(name, value, "bytes in hex")
+
+
+def record(name: str, value: Value) -> Record:
+    """Returns the fields of a record."""
+    if not isinstance(value, dict):
+        raise unfit(name, value, "an object")
+    return value
+
+
+def items(name: str, value: Value) -> list[Value]:
+    """Returns the items of a list."""
+    if not isinstance(value, list):
+        raise unfit(name, value, "a list")
+    return value
+
+
+def put_integer(bits: Bits, name: str, whole: m.Integer, value: Value) -> None:
+    """Writes a number."""
+    found = number(name, value, whole.least, whole.most)
+    bits.put(found & ((1 << whole.width) - 1), whole.width)
+
+
+def enum_number(name: str, enum: m.EnumType, value: Value) -> int:
+    """Returns the number of a case."""
+    if isinstance(value, str) and (found := enum.number(value)) is not None:
+        return found
+    if enum.other and isinstance(value, dict) and list(value) == [enum.other]:
+        held = number(name, value[enum.other], 0, (1 << enum.width) - 1)
+        if m.case_named(held, enum) is None:
+            return held
+    other = f' or {{"{enum.other}": NUMBER}}' if enum.other else ""
+    raise unfit(name, value, f"one of {', '.join(case for _, case in enum.cases)}{other}")
+
+
+def put_item(bits: Bits, name: str, item: m.Item, value: Value) -> None:
+    """Writes an item."""
+    match item:
+        case m.Integer():
+            put_integer(bits, name, item, value)
+        case m.Octet():
+            bits.put(number(name, value, 0, 255), 8)
+        case m.EnumType():
+            bits.put(enum_number(name, item, value), item.width)
+        case m.Use():
+            put_record(bits, item.description, record(name, value), name)
+
+
+def put_items(bits: Bits, name: str, item: m.Item, value: Value, count: int | None) -> None:
+    """Writes items, of which there must be `count` if it is not None."""
+    if isinstance(item, m.Octet):
+        data = raw(name, value)
+        bits.put(int.from_bytes(data, "big" if bits.big else "little"), 8 * len(data))
+        found = len(data)
+    else:
+        found = len(items(name, value))
+        for index, it in enumerate(items(name, value)):
+            put_item(bits, f"{name}[{index}]", item, it)
+    if count not in (None, found):
+        raise unfit(name, value, f"{count} items, and not {found}")
+
+
+def put_groups(bits: Bits, name: str, kind: m.Groups, value: Value) -> None:
+    """Writes a number in the fewest groups of bits."""
+    whole, digits = kind.integer, kind.group - 1
+    left = number(name, value, whole.least, whole.most)
+    if whole.signed:
+        left = left * 2 if left >= 0 else -left * 2 - 1
+    while left >> digits:
+        bits.put(left & ((1 << digits) - 1) | 1 << digits, kind.group)
+        left >>= digits
+    bits.put(left, kind.group)
+
+
+def put_unary(bits: Bits, count: int, stop: int) -> None:
+    """Writes `count` bits that are not `stop`, and then `stop`."""
+    while count:
+        some = min(count, 1024)
+        bits.put(0 if stop else (1 << some) - 1, some)
+        count -= some
+    bits.put(stop, 1)
+
+
+def put_golomb(bits: Bits, name: str, signed: bool, value: Value) -> None:
+    """Writes an Exp-Golomb number."""
+    found = number(name, value, -(1 << 31) + 1 if signed else 0, (1 << 31) - 1 if signed else (1 << 32) - 2)
+    if signed:
+        found = 2 * found - 1 if found > 0 else -2 * found
+    zeros = (found + 1).bit_length() - 1
+    put_unary(bits, zeros, 1)
+    bits.put(found + 1 - (1 << zeros), zeros)
+
+
+def put_field(bits: Bits, kind: m.Described, value: Value, whole: Record, name: str) -> None:
+    """Writes a field."""
+    match kind:
+        case m.Bool():
+            if not isinstance(value, bool):
+                raise unfit(name, value, "true or false")
+            bits.put(value, 1)
+        case m.Number():
+            put_integer(bits, name, kind.integer, value)
+        case m.NonZero(integer=it):
+            bits.put(number(name, value, 1, it.most + 1) - 1, it.width)
+        case m.MaybeNonZero(integer=it):
+            bits.put(0 if value is None else number(name, value, 1, it.most), it.width)
+        case m.Unary():
+            put_unary(bits, number(name, value, 0, (1 << 32) - 1), kind.stop)
+        case m.Groups():
+            put_groups(bits, name, kind, value)
+        case m.Golomb():
+            put_golomb(bits, name, kind.signed, value)
+        case m.Until():
+            if kind.stop in items(name, value):
+                raise unfit(name, value, f"{kind.stop} ends it, and is no item")
+            put_items(bits, name, kind.item, [*items(name, value), kind.stop], None)
+        case _:
+            put_parts(bits, kind, value, whole, name)
+
+
+def put_parts(bits: Bits, kind: m.Described, value: Value, whole: Record, name: str) -> None:
+    """Writes a field that has parts."""
+    match kind:
+        case m.Enum():
+            bits.put(enum_number(name, kind.enum, value), kind.enum.width)
+        case m.Array():
+            put_items(bits, name, kind.item, value, kind.count)
+        case m.Part():
+            put_item(bits, name, kind.use, value)
+        case m.Optional() | m.If():
+            check_there(kind, value, whole, name)
+            if value is not None:
+                put_item(bits, name, kind.use, value)
+        case m.List() | m.Rest():
+            put_items(bits, name, kind.item, value, None)
+        case m.Fill():
+            put_items(bits, name, kind.use, value, None)
+        case m.Sized(item=m.Octet() as octet):
+            put_items(bits, name, octet, value, None)
+        case m.Sized(item=m.Use() as use):
+            put_item(bits, name, use, value)
+        case m.Choose():
+            put_choice(bits, kind, value, name)
+
+
+def check_there(kind: m.Optional | m.If, value: Value, whole: Record, name: str) -> None:
+    """Refuses a part that is there if, and only if, it should not be."""
+    if isinstance(kind, m.If):
+        asked = whole.get(kind.field)
+        if (asked in (kind.value, kind.asked)) != (value is not None):
+            raise unfit(name, value, f"it is there if, and only if, {kind.field} is {kind.asked}")
+
+
+def arm_of(kind: m.Choose, value: Value, name: str) -> tuple[m.Arm, Value]:
+    """Returns the case of a choice, and what it holds."""
+    case = value if isinstance(value, str) else next(iter(value), "") if isinstance(value, dict) else ""
+    for it in kind.arms:
+        if it.case == case:
+            return it, value.get(case) if isinstance(value, dict) else None
+    raise unfit(name, value, f"one of {', '.join(it.case for it in kind.arms)}")
+
+
+def tag_number(kind: m.Choose, value: Value, name: str) -> int:
+    """Returns the number that selects a case."""
+    arm, held = arm_of(kind, value, name)
+    if arm.number is not None:
+        return arm.number
+    found = held["number"] if isinstance(held, dict) else held
+    most = (1 << 128) - 1
+    if kind.arm(number(name, found, 0, most)) is not arm:
+        raise unfit(name, value, "this number is that of another case")
+    return number(name, found, 0, most)
+
+
+def put_choice(bits: Bits, kind: m.Choose, value: Value, name: str) -> None:
+    """Writes what a case holds."""
+    arm, held = arm_of(kind, value, name)
+    if isinstance(arm.held, m.Use):
+        put_item(bits, f"{name}.{arm.case}", arm.held, held)
+    elif isinstance(arm.held, m.Octet):
+        inside = held["bytes"] if arm.number is None and isinstance(held, dict) else held
+        put_items(bits, f"{name}.{arm.case}", arm.held, inside, None)
+
+
+def length(name: str, value: Value, octets: bool) -> int:
+    """Returns the number of items, or of bytes."""
+    return len(raw(name, value)) if octets else len(items(name, value))
+
+
+def put_hidden(bits: Bits, kind: m.Hidden, description: m.Description, whole: Record, path: str) -> None:
+    """Writes a line that the record has no field for; its number is computed from the fields."""
+    match kind:
+        case m.Const():
+            bits.put(kind.value, kind.width)
+        case m.Skip():
+            bits.put(0, kind.width)
+        case m.Flag():
+            bits.put(whole.get(kind.target) is not None, 1)
+        case m.Count(target=counted):
+            target = field_of(description, lambda it: it.name == counted)
+            octets = isinstance(m.held_item(target), m.Octet)
+            found = length(kind.target, whole.get(kind.target), octets)
+            bits.put(number(m.label(kind), found, 0, (1 << kind.width) - 1), kind.width)
+        case m.Tag(name=tag):
+            target = field_of(description, lambda it: isinstance(it, m.Choose) and it.by == tag)
+            assert isinstance(target, m.Choose)
+            found = tag_number(target, whole.get(target.name), joined(path, target.name))
+            bits.put(number(kind.name, found, 0, (1 << kind.width) - 1), kind.width)
+        case m.Size():
+            put_size(bits, kind, description, whole, path)
+
+
+def put_size(bits: Bits, kind: m.Size, description: m.Description, whole: Record, path: str) -> None:
+    """Writes the size of a field."""
+    target = field_of(description, lambda it: it.name == kind.target)
+    inside = Bits("BE" if bits.big else "LE")
+    put_field(inside, target, whole.get(kind.target), whole, joined(path, kind.target))
+    size, left = divmod(inside.count, 8)
+    found, more = divmod(size + kind.plus, kind.unit)
+    if left or more:
+        raise Unfit(f"`{joined(path, kind.target)}` has {inside.count} bits, which its size cannot say")
+    bits.put(number(m.label(kind), found, 0, (1 << kind.width) - 1), kind.width)
+
+
+def field_of(description: m.Description, asks: Callable[[m.Described], bool]) -> m.Described:
+    """Returns the first field with a property."""
+    return next(it for it in description.fields if asks(it))
+
+
+def joined(path: str, name: str) -> str:
+    """Returns a path with one name more at its end."""
+    return f"{path}.{name}" if path else name
+
+
+def put_record(bits: Bits, description: m.Description, whole: Record, path: str = "") -> None:
+    """Writes all lines."""
+    unknown = set(whole) - {it.name for it in description.fields}
+    if unknown:
+        raise Unfit(f"`{joined(path, min(unknown))}` is no field of {description.name}")
+    for it in description.kinds:
+        if m.is_field(it):
+            if it.name not in whole:
+                raise Unfit(f"`{joined(path, it.name)}` is missing")
+            put_field(bits, it, whole[it.name], whole, joined(path, it.name))
+        elif isinstance(it, m.Const | m.Skip | m.Flag | m.Count | m.Tag | m.Size):
+            put_hidden(bits, it, description, whole, path)
+
+
+def packed(description: m.Description, whole: Record) -> bytes:
+    """Returns the bytes of a record."""
+    bits = Bits(description.order)
+    put_record(bits, description, whole)
+    return bits.bytes()
