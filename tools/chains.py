@@ -2,9 +2,10 @@
 import glob
 import os
 import re
-from collections import Counter, namedtuple
+from collections import Counter
+from dataclasses import replace
 
-from describing.text import COLUMNS, filled
+from describing.proofs.chains import NEXT, TESTS, Answers, Call, UnknownCall
 from source import Unknown, behind, read_source, split, unknown, words
 
 # The modules of the library, whose functions may be calls of a body too.
@@ -12,10 +13,6 @@ LIBRARY = os.path.join(os.path.dirname(os.path.dirname(os.path.abspath(__file__)
 
 TRAIT = re.compile(r"(From|To)BitStream(With|Using)?$")
 SIGNED = re.compile(r"i(8|16|32|64|128|size)$")
-
-# A call: `fact` names its clause; `label` is its name behind `in_ok-`, and `step` its own; `way` is `?` if that stands
-# behind it, and `end` if nothing does; `wide` is the width of a signed type.
-Call = namedtuple("Call", "form fact label step way wide line")
 
 # The library's calls that a chain can have, by the form of their answers.
 READS = {name: "read" for name in """read read_var read_counted read_bit read_unary read_vbr read_to_bytes skip
@@ -218,7 +215,7 @@ class Body:
                 self.value("", self.function_type())
             if self.at < len(self.tokens):
                 self.take(";")
-                self.calls = [it._replace(way="") if it.way == "end" else it for it in self.calls]
+                self.calls = [replace(it, way="") if it.way == "end" else it for it in self.calls]
         for it in self.calls:
             if it.form == "if":
                 continue
@@ -498,7 +495,7 @@ class Body:
         call = self.calls[last]
         self.labels[call.label] += 1
         count = self.labels[call.label]
-        self.calls[last] = call._replace(way="?", label=call.label + (f"-{count}" if count > 1 else ""))
+        self.calls[last] = replace(call, way="?", label=call.label + (f"-{count}" if count > 1 else ""))
 
 
 def growing(function):
@@ -560,107 +557,6 @@ def entries_of(folder, function):
     return "".join(it[0] for it in re.finditer(r"^(\S+) [^:\n]*=.*\n(?: .*\n)*", text, re.M) if it[1] in said)
 
 
-# ---- the answers
-
-
-class Answers:
-    """Makes the answers of a function, and notes the lemmas that they name."""
-
-    def __init__(self, kind, field, around, generic):
-        self.kind, self.field, self.around, self.args = kind, field, around, "g c" if generic else "c"
-        self.used, self.rewrites = set(), {}
-        self.opened = 0  # the first call at which `around` stands around the terms
-        self.signed = {}  # the signed numbers that a reading function is handed, and their widths
-
-    def term(self, said, **meant):
-        """Gives a term that is said in the words of the tables."""
-        return re.sub(r"[^\s(),]+", lambda it: self.word(it[0], meant), said)
-
-    def word(self, word, meant):
-        if word.isdigit():
-            return " ".join("_" * int(word))
-        if any(word in names.split() for names in LEMMAS.values()):
-            self.used.add(word)
-        return meant.get(word) or SHORT.get(word, word)
-
-    def of_call(self, call, table, arm, residual=""):
-        """Gives what stands for a call: `arm` is `in_ok-x` or `in_err-x`, or the call's own step."""
-        part = call.form == "part" and self.kind in PLAINLY
-        form = ("list" if self.kind == "WritesAll" else "read") if part else call.form
-        form, _, wide = form.partition(" of ")
-        form += " of" if wide else ""
-        if call.wide and (self.kind == "WritesAll" or table is not STOP):
-            form = f"signed {form}" if self.kind == "WritesAll" else "signed"
-        if form not in table[self.kind]:
-            where = "as the last call" if table is LAST else f"in `{self.kind}`"
-            unknown(call.line, f"`{call.step}` {where}")
-        fact = f"c.{arm}.ensures" + (f".{call.fact}" if call.fact else "")
-        for known in self.rewrites.get(id(call), []):
-            fact = f"(rw {known} at {fact})"
-            self.used |= {"◌∙◌"} if "∙" in known else set()
-        if table is LAST and self.signed:
-            fact = f"(rw ({self.known_signed()}) at {fact})"
-        fact = self.term(PLAINLY[self.kind], FACT=fact) if part else fact
-        wide = wide or call.wide
-        if "WIDE" in table[self.kind][form]:
-            self.word(wide.split(" ")[0], {})
-        return self.term(table[self.kind][form], ARM=f"c.{arm}", FACT=fact, RESIDUAL=residual, WIDE=wide)
-
-    def answer(self, goal, terms, around=True):
-        """Gives one answer: each term but the last takes the next one."""
-        terms = [self.term(self.around), *terms] if self.around and around else terms
-        *front, last = terms
-        if front and " " not in last:
-            front[-1], last = f"{front[-1]} {last}", ""
-        text = " (".join([*front, last] if last else front) + ")" * (len(front) - (not last))
-        return f"pub {goal} : goal.{goal}\n" + self.laid_out(f"{goal} {self.args} =", text)
-
-    def laid_out(self, head, text):
-        if not self.field:
-            return filled(f"{head} {text}", 4)
-        line = f"{head} record {{ {self.field} = {text} }}"
-        return line if len(line) <= COLUMNS else f"{head} record {{\n" + filled(f"  {self.field} = {text};", 6) + "\n}"
-
-    def all(self, calls):
-        """Gives the answers in order: at each `?`, and at the end."""
-        found, front = [], []
-        last = calls[-1] if calls and calls[-1].way == "end" else None
-        stops = 0
-        for k, call in enumerate(calls[: -1 if last else None]):
-            if call.form == "if":
-                holds, fails = TESTS[self.kind][::-1] if call.wide else TESTS[self.kind]
-                at = f"c.if-{call.label}"
-                ends = [self.term(f"{holds} {at}.true"), self.term(END[self.kind])]
-                found.append(self.answer(f"returns-then-{call.label}", front + ends))
-                front = front + [self.term(f"{fails} {at}.false")]
-                continue
-            if call.way == "?":
-                arm = f"in_err-{call.label}"
-                residual = f"c.from_residual{f'-{arm}' if stops else ''}.ensures.1"
-                stops += 1
-                terms = front + [self.of_call(call, STOP, arm, residual)]
-                found.append(self.answer(f"returns-{arm}", terms, k >= self.opened))
-            front = front + [self.of_call(call, NEXT, f"in_ok-{call.label}" if call.way else call.step)]
-        if not last and self.signed:
-            front = front + [f"rw ({self.known_signed()})"]
-        end = self.of_call(last, LAST, last.step) if last else self.term(END[self.kind])
-        return found + [self.answer("returns", front + [end])]
-
-    def known_signed(self):
-        """Gives that the signed numbers which a reading function was handed are what their bits say."""
-        for it, wide in self.signed.items():
-            self.used |= {"to_z-of_z", "sfits_of", wide}
-        return ", ".join(f"to_z-of_z {wide} c.args.{it} (search sfits_of)" for it, wide in self.signed.items())
-
-    def uses(self, goals):
-        """Gives the imports."""
-        lines = []
-        for module, names in LEMMAS.items():
-            named = [f"{it} as {SHORT[it]}" if it in SHORT else it for it in names.split() if it in self.used]
-            lines += [f"use {module}.{{{', '.join(named)}}}"] if named else []
-        return "\n".join([*lines, f"use {goals} as goal"])
-
-
 def chosen(functions, wanted):
     """Gives the function that is named as in `rt check --only`; an impl's trait may be left out."""
     *owner, name = wanted.split("::")
@@ -706,13 +602,16 @@ def answers_of(folder: str, file: str, wanted: str) -> str:
     calls = body.whole()
     entries = entries_of(folder, function)
     if entries and "const_entry" not in entries:
-        calls = [it._replace(form="alone") if (kind, it.form) == ("Reads", "const") else it for it in calls]
-    answers.rewrites = {id(it): body.rewrites.get(k, []) for k, it in enumerate(calls)}
+        calls = [replace(it, form="alone") if (kind, it.form) == ("Reads", "const") else it for it in calls]
+    calls = [replace(it, known=tuple(body.rewrites.get(k, []))) for k, it in enumerate(calls)]
     answers.opened = (body.opened or 0) if modeled else 0
     if kind != "WritesAll":
         params = {it: "".join(typed) for it, typed in function.params.items()}
         answers.signed = {it: f"w{typed[1:]}" for it, typed in params.items() if SIGNED.match(typed)}
-    parts = answers.all(calls)
+    try:
+        parts = answers.all(calls)
+    except UnknownCall as it:
+        raise Unknown(str(it)) from None
     module = re.sub(r"^src/|\.rt$", "", os.path.normpath(file)).split("/")
     module = [] if module == ["lib"] else module
     owner = [function.owner + function.trait] if function.owner else []
