@@ -233,9 +233,24 @@ def options_of(asked: argparse.Namespace) -> Options:
     return Options(asked.repeat, asked.offset, asked.count, asked.skip, asked.keep_going, inside)
 
 
+def byte_fields(it: m.Description) -> set[str]:
+    """Returns the names of the fields that hold bytes, also inside parts."""
+    found = {kind.name for kind in it.fields if isinstance(m.held_item(kind), m.Octet)}
+    return found.union(*(byte_fields(use.description) for kind in it.kinds for use in m.uses(kind)))
+
+
+def check_inside(it: m.Description, inside: list[tuple[str, m.Description]]) -> None:
+    """Refuses `--in` for a field that no record has, or that holds no bytes."""
+    known = byte_fields(it).union(*(byte_fields(other) for _, other in inside))
+    for name, _ in inside:
+        if name not in known:
+            raise Refused(f"--in {name}: no field `{name}` holds bytes")
+
+
 def run(asked: argparse.Namespace) -> None:
     """Runs a command."""
     it, options = loaded(asked.description), options_of(asked)
+    check_inside(it, options.inside)
     if asked.picture:
         print("\n".join(picture.text(it.kinds)[2:-1]))
     elif asked.svg:
