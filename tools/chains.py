@@ -1,11 +1,18 @@
-"""The answers of a function whose body reads or writes bits by calls one behind the other."""
+"""The answers of a function of a file of Rattle whose body reads or writes bits by calls one after another."""
+from __future__ import annotations
+
 import glob
 import os
 import re
-from collections import Counter, namedtuple
+from collections import Counter
+from dataclasses import replace
+from typing import Sequence, Union
 
-from describing.text import COLUMNS, filled
-from source import Unknown, behind, read_source, split, unknown, words
+from describing.proofs.chains import NEXT, TESTS, Answers, Call, UnknownCall
+from source import Function, Structs, Token, Unknown, behind, read_source, split, unknown, words
+
+# What a part of an expression was: the place of a call, a name, or something else.
+Last = Union[int, str, None]
 
 # The modules of the library, whose functions may be calls of a body too.
 LIBRARY = os.path.join(os.path.dirname(os.path.dirname(os.path.abspath(__file__))), "crates", "bitstream_io", "src")
@@ -13,159 +20,43 @@ LIBRARY = os.path.join(os.path.dirname(os.path.dirname(os.path.abspath(__file__)
 TRAIT = re.compile(r"(From|To)BitStream(With|Using)?$")
 SIGNED = re.compile(r"i(8|16|32|64|128|size)$")
 
-# A call: `fact` names its clause; `label` is its name behind `in_ok-`, and `step` its own; `way` is `?` if that stands
-# behind it, and `end` if nothing does; `wide` is the width of a signed type.
-Call = namedtuple("Call", "form fact label step way wide line")
-
-# The library's calls that a chain can have, by the form of their answers.
-READS = {name: "read" for name in """read read_var read_counted read_bit read_unary read_vbr read_to_bytes skip
+# The calls of the library that a body may have, by the form of their answers.
+READS = {
+    name: "read"
+    for name in """read read_var read_counted read_bit read_unary read_vbr read_to_bytes skip
     read_unsigned read_unsigned_var read_unsigned_counted read_signed read_signed_var read_signed_counted
-    read_unsigned_vbr read_unsigned_vbr_any read_signed_vbr read_signed_vbr_any byte_align""".split()}
+    read_unsigned_vbr read_unsigned_vbr_any read_signed_vbr read_signed_vbr_any byte_align""".split()
+}
 READS |= {"read_const": "const", "parse": "part", "parse_with": "part", "parse_using": "part"}
 READS |= {"read_to_vec": "growing"}
-WRITES = {name: "call" for name in """write_bit write_const write_from write_bytes write_unary write_unsigned
+WRITES = {
+    name: "call"
+    for name in """write_bit write_const write_from write_bytes write_unary write_unsigned
     write_unsigned_var write_unsigned_counted write_signed write_signed_var write_signed_counted write_unsigned_vbr pad
-    byte_align""".split()}
+    byte_align""".split()
+}
 WRITES |= {"write": "value", "write_var": "value", "write_counted": "value", "write_vbr": "value"}
 WRITES |= {"build": "part", "build_with": "part", "build_using": "part"}
-# Of these the value may be of a signed type.
+# Calls whose value may have a signed type.
 OF_EITHER_SIGN = re.compile(r"(read|write)(_signed)?(_var|_counted)?$")
-# Of these too, in groups of bits.
+# The same, in groups of bits.
 GROUPS = re.compile(r"(read|write)(_signed)?_vbr(_any)?$")
-# These have no type that decides anything.
+# Calls whose type decides nothing.
 UNTYPED = re.compile(r"(read|write)_(bit|const|unary|unsigned.*|bytes)$|read_to_(bytes|vec)$|skip$|pad$|byte_align$")
 
-# A constant that stands in no entry of the contract is a read by itself there (`alone`), which gives nothing.
-# What stands for a call in a term, by the kind of the contract and the form of the call: a lemma, as many blanks as the
-# number says, the call's clause as FACT, what its `?` returned as RESIDUAL, the width of its type as WIDE. What is
-# searched for is that a signed number fits its type: of one that was read, in what is known of its call, ARM.
-READ_FITS, FITS = "(search (sfits_of, ARM))", "(search sfits_of)"
-# Of a call that answered no error: the term of what follows stands behind it.
-NEXT = {
-    "Reads": {
-        "read": "Reads-chain-ok 2 FACT",
-        "const": "next_const 5 FACT",
-        "alone": "Reads-chain-ok 2 (const_alone 6 FACT refl refl refl)",
-        "signed": f"next_signed_read 4 FACT {READ_FITS}",
-        "signed read of": f"next_signed_part 1 WIDE FACT {READ_FITS}",
-    },
-    "ReadsOwn": {
-        "read": "next_own_read 1 FACT",
-        "const": "next_own_const 2 FACT",
-        "signed": f"then_own_signed 4 FACT refl refl {READ_FITS}",
-        "signed read of": f"next_own_signed_part 1 WIDE FACT {READ_FITS}",
-        "part": "then_part 1 FACT refl refl",
-        "made part": "then_part 1 (own_made 1 (Ok 1) FACT (λ error is. absurd is)) refl refl",
-    },
-    "GrowsOwn": {
-        "read": "go_grown 1 (grown FACT)",
-        "growing": "go_grown 1 (vec-grown 2 FACT)",
-        "grown": "go_grown 1 FACT",
-        "const": "next_grown_const 2 FACT",
-        "signed": f"next_grown_signed 1 WIDE FACT {READ_FITS}",
-        "signed read of": f"next_grown_signed 1 WIDE FACT {READ_FITS}",
-        "part": "part_go 1 (if_grown false FACT)",
-        "made part": "part_go 1 (if_grown false (own_made 1 (Ok 1) FACT (λ error is. absurd is)))",
-        "growing part": "part_go 1 FACT",
-        "made growing part": "part_go 1 (grown_made 1 (Ok 1) FACT (λ error is. absurd is))",
-    },
-    "WritesAll": {
-        "call": "next_call 7 FACT",
-        "value": "next_write 7 FACT",
-        "list": "all_append 7 FACT",
-        "signed list of": f"all_append 7 (rw (to_z-of_z WIDE {FITS}) at FACT)",
-        "signed value of": f"next_write 7 (rw (to_z-of_z WIDE {FITS}) at FACT)",
-        "signed call": f"next_signed_call 7 WIDE 3 FACT {FITS}",
-        "signed value": f"next_signed 7 WIDE 3 FACT {FITS}",
-    },
-}
-# Of one that answered an error.
-STOP = {
-    "Reads": {
-        "read": "exit 2 RESIDUAL FACT",
-        "const": "exit_const 5 RESIDUAL FACT refl refl",
-        "alone": "exit 2 RESIDUAL (const_alone 6 FACT refl refl refl)",
-        "signed read of": "exit 2 RESIDUAL FACT",
-    },
-    "ReadsOwn": {
-        "read": "exit_own_read 1 RESIDUAL FACT",
-        "const": "exit_own_const 2 RESIDUAL FACT refl",
-        "part": "end_part 1 FACT refl refl RESIDUAL",
-        "made part": "end_part 1 (own_made 1 (Err 1) FACT (λ error is. rw is refl)) refl refl RESIDUAL",
-        "signed read of": "exit_own_read 1 RESIDUAL FACT",
-    },
-    "GrowsOwn": {
-        "read": "stop_grown 1 (grown FACT) RESIDUAL",
-        "growing": "stop_grown 1 (vec-grown 2 FACT) RESIDUAL",
-        "grown": "stop_grown 1 FACT RESIDUAL",
-        "const": "exit_grown_const 2 RESIDUAL FACT refl",
-        "signed read of": "stop_grown 1 (grown FACT) RESIDUAL",
-        "part": "part_stop 1 (if_grown false FACT) (is_error 2 RESIDUAL)",
-        "made part": "part_stop 1 (if_grown false (own_made 1 (Err 1) FACT (λ error is. rw is refl)))"
-        " (is_error 2 RESIDUAL)",
-        "growing part": "part_stop 1 FACT (is_error 2 RESIDUAL)",
-        "made growing part": "part_stop 1 (grown_made 1 (Err 1) FACT (λ error is. rw is refl)) (is_error 2 RESIDUAL)",
-    },
-    "WritesAll": {
-        "call": "stop_call 7 RESIDUAL FACT",
-        "value": "stop_write 7 RESIDUAL FACT",
-        "list": "all_stop 7 (is_error 2 RESIDUAL) FACT",
-        "signed list of": f"all_stop 7 (is_error 2 RESIDUAL) (rw (to_z-of_z WIDE {FITS}) at FACT)",
-        "signed value of": f"stop_write 7 RESIDUAL (rw (to_z-of_z WIDE {FITS}) at FACT)",
-        "signed call": f"stop_signed_call 7 WIDE 3 RESIDUAL FACT {FITS}",
-        "signed value": f"stop_signed 7 WIDE 3 RESIDUAL FACT {FITS}",
-    },
-}
-# Of a last one, whose answer the function returns.
-LAST = {
-    "Reads": {"read": "FACT"},
-    "ReadsOwn": {"part": "FACT"},
-    "GrowsOwn": {"growing part": "FACT"},
-    "WritesAll": {
-        "call": "all_one 5 FACT",
-        "value": "FACT",
-        "list": "FACT",
-        "signed value": f"signed_value 4 WIDE 4 FACT {FITS}",
-    },
-}
-# Of a test of a `bool`: what is read if it holds, and if not.
-TESTS = {
-    "Reads": ("if_read 3", "else_read 3"),
-    "ReadsOwn": ("if_own 3", "else_own 3"),
-    "GrowsOwn": ("if_growing 3", "else_growing 3"),
-}
-# Calls of an `Option` that may stand among the arguments; a `len` of a slice is known as it stands, of a `Vec` it is not.
+# Calls that may be among the arguments. The `len` of a slice is known; the `len` of a `Vec` has an equation.
 PURE = ("is_some", "is_none", "number", "len")
-# And of an `Ok` behind the last call.
-END = {"Reads": "Reads-gives 2", "ReadsOwn": "own_end 2", "GrowsOwn": "grown_end 2", "WritesAll": "all_none 2"}
-# A part that has no error of its own, made into plain reads or writes.
-PLAINLY = {"Reads": "(read_plainly 5 FACT)", "WritesAll": "(written_plainly 5 FACT)"}
-# Where the lemmas stand, in the order in which they are imported, and the shorter names of some.
-CALLER = "Rattle.bitstream_io.proofs."
-LEMMAS = {
-    "borrow.Author.Rules": "sfits_of",
-    "Rattle.std.proofs.Common": "◌∙◌ refl false Ok Err w8 w16 w32 w64",
-    "Rattle.std.specs.Int": "w128",
-    CALLER + "CallerLemmas": "next_signed_part next_own_signed_part if_read else_read own_made"
-    " const_alone next_const exit_const next_own_read next_own_const exit_own_read"
-    " exit_own_const next_grown_signed next_grown_const exit_grown_const if_growing else_growing",
-    CALLER + "EachLemmas": "grown_made",
-    CALLER + "GrowsLemmas": "go_grown stop_grown grown if_grown vec-grown part_go part_stop grown_end",
-    CALLER + "OwnLemmas": "is_error plainly_read plainly_written read_plainly written_plainly",
-    CALLER + "OwnSteps": "if_own else_own then_own_signed then_part end_part own_end",
-    CALLER + "ReadSteps": "next_signed_read",
-    "Rattle.std.proofs.lemmas.Int": "to_z-of_z",
-    CALLER + "ReadsLemmas": "Reads-chain-ok Reads-gives exit",
-    CALLER + "WriteParts": "all_append all_none all_one all_stop",
-    CALLER + "WriteSteps": "next_call next_write next_signed next_signed_call stop_call stop_write stop_signed"
-    " stop_signed_call signed_value",
-}
-SHORT = {
-    "Reads-chain-ok": "next",
-    "next_own_read": "next",
-    "next_own_const": "next_const",
-    "exit_own_read": "exit",
-    "exit_own_const": "exit_const",
+
+# The form of the call of a function of the crate, by the contract of the caller and the contract of the function.
+OWN_FORMS = {
+    ("Reads", "Reads"): "read",
+    ("ReadsOwn", "Reads"): "read",
+    ("ReadsOwn", "ReadsOwn"): "part",
+    ("GrowsOwn", "Reads"): "read",
+    ("GrowsOwn", "ReadsOwn"): "part",
+    ("GrowsOwn", "GrowsOwn"): "growing part",
+    ("GrowsOwn", "GrowingOutcome"): "grown",
+    ("WritesAll", "WritesAll"): "list",
 }
 
 
@@ -178,36 +69,51 @@ class Body:
     `functions` are those of the crate: those of the file, those of the modules that it imports from, and all.
     """
 
-    def __init__(self, function, kind, stream, functions, structs, modeled):
+    def __init__(
+        self,
+        function: Function,
+        kind: str,
+        stream: str,
+        functions: list[list[Function]],
+        structs: Structs,
+        modeled: bool,
+    ) -> None:
         self.function, self.kind, self.stream = function, kind, stream
         self.modeled = modeled
         self.fields = "c.self.inside" if modeled else "c.args.self.now"  # of `self`, as a proof has them
         self.functions, self.structs = functions, structs
         self.tokens, self.at = function.body, 0
-        self.calls, self.labels, self.steps, self.let_types = [], Counter(), Counter(), {}
-        self.pure, self.rewrites, self.tests = [], {}, Counter()
-        self.opened = None  # the first call that needs a field of `self`
+        self.calls: list[Call] = []
+        self.labels, self.steps, self.tests = Counter[str](), Counter[str](), Counter[str]()
+        self.let_types: dict[str, list[str]] = {}
+        self.pure: list[str] = []
+        self.rewrites: dict[int, list[str]] = {}
+        self.opened: int | None = None  # the first call that needs a field of `self`
 
-    def peek(self, ahead=0):
+    def peek(self, ahead: int = 0) -> str:
+        """Returns a later word, or an empty text after the last one."""
         place = self.at + ahead
         return self.tokens[place].word if place < len(self.tokens) else ""
 
-    def line(self):
+    def line(self) -> int:
+        """Returns the line of the next word."""
         return self.tokens[min(self.at, len(self.tokens) - 1)].line if self.tokens else self.function.line
 
-    def take(self, wanted=""):
+    def take(self, wanted: str = "") -> str:
+        """Takes the next word, which must be `wanted` if that is not empty."""
         if wanted and self.peek() != wanted:
             unknown(self.line(), f"`{self.peek()}` in place of `{wanted}`")
         self.at += 1
         return self.tokens[self.at - 1].word
 
-    def brackets(self):
-        """Goes over what stands in brackets, and gives it."""
+    def brackets(self) -> list[Token]:
+        """Goes over brackets, and returns the words in them."""
         start = self.at
         self.at = behind(self.tokens, start)
         return self.tokens[start + 1 : self.at - 1]
 
-    def whole(self):
+    def whole(self) -> list[Call]:
+        """Goes through the whole body, and returns its calls."""
         while self.at < len(self.tokens):
             if self.peek() == "if":
                 self.early()
@@ -218,7 +124,7 @@ class Body:
                 self.value("", self.function_type())
             if self.at < len(self.tokens):
                 self.take(";")
-                self.calls = [it._replace(way="") if it.way == "end" else it for it in self.calls]
+                self.calls = [replace(it, way="") if it.way == "end" else it for it in self.calls]
         for it in self.calls:
             if it.form == "if":
                 continue
@@ -227,7 +133,7 @@ class Body:
                 unknown(it.line, f"`{it.label}` with no `?` behind it")
         return self.calls
 
-    def early(self):
+    def early(self) -> None:
         """Goes over `if [!]NAME { return Ok(..); }`, where nothing is read."""
         line = self.line()
         self.take("if")
@@ -243,16 +149,17 @@ class Body:
         label += f"-{self.tests[label]}" if self.tests[label] > 1 else ""
         self.calls.append(Call("if", "", label, label, "if", "not" if negated else "", line))
 
-    def function_type(self):
-        """Gives the type of the value that the function returns in an `Ok`."""
+    def function_type(self) -> list[str]:
+        """Returns the type of the value that the function returns in an `Ok`."""
         said = self.function.result
         return said[said.index("<") + 1 :] if "<" in said else said
 
-    def let(self):
+    def let(self) -> None:
+        """Goes through a `let`."""
         self.take("let")
         if self.peek() == "mut":
             self.take()
-        name, said = self.take(), []
+        name, said = self.take(), list[str]()
         name = "" if name == "_" else name
         if self.peek() == ":":
             self.take()
@@ -265,7 +172,7 @@ class Body:
             unknown(self.line(), "a `let` of more than one call")
         self.let_types[name] = said
 
-    def value(self, name="", wanted=()):
+    def value(self, name: str = "", wanted: Sequence[str] = ()) -> None:
         """Goes through an expression: a name, a literal, a call, a struct, a tuple."""
         while self.peek() in ("&", "*", "mut"):
             self.take()
@@ -274,7 +181,7 @@ class Body:
             unknown(line, f"`{word}`")
         if word == "(":
             self.list_of_values()
-            last = None
+            last: Last = None
         elif re.match(r"\w|[\"']", word):
             last = self.path(name, wanted)
         else:
@@ -295,8 +202,8 @@ class Body:
         if self.peek() not in (",", ";", ")", "}", ""):
             unknown(self.line(), f"`{self.peek()}`")
 
-    def list_of_values(self):
-        """Goes through values in round brackets, and gives their words."""
+    def list_of_values(self) -> list[list[str]]:
+        """Goes through values in round brackets, and returns their words."""
         start = self.at
         inner, end = self.brackets(), self.at
         self.at = start + 1
@@ -307,15 +214,15 @@ class Body:
         self.at = end
         return [[it for it in words(part) if it not in ("&", "*", "mut")] for part in split(inner)]
 
-    def generics(self):
-        """Goes over `::<..>`, and gives the last type of it."""
+    def generics(self) -> list[str]:
+        """Goes over `::<..>`, and returns its last type."""
         if self.peek() != "::" or self.peek(1) != "<":
             return []
         self.take()
         return words(split(self.brackets())[-1])
 
-    def path(self, name, wanted):
-        """Goes through a name, a path, a struct, or a call of a function; gives the place of a call."""
+    def path(self, name: str, wanted: Sequence[str]) -> Last:
+        """Goes through a name, a path, a struct, or a call of a function; returns the place of a call."""
         line, parts = self.line(), [self.take()]
         said = self.generics()
         while self.peek() == "::":
@@ -323,7 +230,8 @@ class Body:
             parts.append(self.take())
             said = self.generics() or said
         if self.peek() == "{":
-            return self.struct(parts[-1])
+            self.struct(parts[-1])
+            return None
         if parts == ["self"] and self.opened is None:
             self.opened = len(self.calls)
         if self.peek() != "(":
@@ -331,16 +239,18 @@ class Body:
         if parts[-1][0].isupper():
             if parts == ["Err"]:
                 unknown(line, "`Err`")
-            return self.ok() if parts == ["Ok"] else self.list_of_values() and None
+            self.ok() if parts == ["Ok"] else self.list_of_values()
+            return None
         return self.own(parts[-1], parts[-2] if len(parts) > 1 else "", name, line)
 
-    def ok(self):
+    def ok(self) -> None:
         """Goes through what stands in `Ok`, which is of the function's type."""
         self.take("(")
         self.value("", self.function_type())
         self.take(")")
 
-    def struct(self, name):
+    def struct(self, name: str) -> None:
+        """Goes through a struct."""
         fields = self.structs.get(self.function.owner if name == "Self" else name, {})
         self.take("{")
         while self.peek() != "}":
@@ -352,7 +262,7 @@ class Body:
                 self.take()
         self.take("}")
 
-    def member(self, name, wanted, last, line):
+    def member(self, name: str, wanted: Sequence[str], last: Last, line: int) -> Last:
         """Goes through `.field` or `.call(..)`."""
         word = self.take()
         said = self.generics()
@@ -374,7 +284,8 @@ class Body:
             self.rewrites[found] = [*self.rewrites[found], "(← c.self.view_is)"]
         return found
 
-    def of_library(self, word, said, name, wanted, line):
+    def of_library(self, word: str, said: list[str], name: str, wanted: Sequence[str], line: int) -> int:
+        """Goes through a call of the reader or the writer."""
         form = (WRITES if self.kind == "WritesAll" else READS).get(word)
         if not form:
             unknown(line, f"the call `{word}`")
@@ -389,15 +300,15 @@ class Body:
             form, wide = f"signed {form} of {wide}{self.written(args, line)}", ""
         return self.add(form, "reads" if self.kind != "WritesAll" else "writes", word, name, wide, line)
 
-    def grows(self, typed, line):
-        """Tells whether a part of a type of the crate's own asks for memory."""
+    def grows(self, typed: list[str], line: int) -> bool:
+        """Returns true if a part of a type of the crate allocates memory."""
         said = {growing(it) for it in self.named("from_reader", "".join(typed))}
         if len(said) != 1:
             unknown(line, f"whether `{''.join(typed)}` asks for memory")
         return said.pop()
 
-    def width(self, word, typed, line):
-        """Gives the width of a call's value if it is of a signed type."""
+    def width(self, word: str, typed: list[str], line: int) -> str:
+        """Returns the width of the value of a call, if its type is signed."""
         if UNTYPED.match(word) or word.startswith(("parse", "build")):
             return ""
         if not typed:
@@ -410,55 +321,51 @@ class Body:
             unknown(line, f"a value of the type `{''.join(typed)}` in `{word}`")
         return f"w{signed[0][1:]}" if signed else ""
 
-    def written(self, args, line):
-        """Gives the field of `self` that a call writes, as a proof has it; nothing for a read."""
+    def written(self, args: list[list[str]], line: int) -> str:
+        """Returns the field of `self` that a call writes, as a proof has it; an empty text for a read."""
         if self.kind != "WritesAll":
             return ""
         if len(args) != 1 or args[0][:2] != ["self", "."] or len(args[0]) != 3:
             unknown(line, "a signed number in groups that is no field of `self`")
         return f" {self.fields}.{args[0][2]}"
 
-    def type_of(self, args):
-        """Gives the type of the last value that a call is handed, if it is a field of `self` or a name."""
+    def type_of(self, args: list[list[str]]) -> list[str]:
+        """Returns the type of the last argument of a call, if it is a field of `self` or a name."""
         said = args[-1] if args else []
         if len(said) == 3 and said[:2] == ["self", "."]:
             return self.structs.get(self.function.owner, {}).get(said[2], [])
         return self.function.params.get(said[0], self.let_types.get(said[0], [])) if len(said) == 1 else []
 
-    def own(self, word, owner, name, line):
+    def own(self, word: str, owner: str, name: str, line: int) -> int:
         """Goes through a call of a function of the crate's own."""
         args = self.arguments()
         if [self.stream] not in args:
             unknown(line, f"the call `{word}`, which is not of `{self.stream}`")
         found = self.named(word, self.function.owner if owner == "Self" else owner)
-        kinds = {clause_of(it) for it in found if clause_of(it)}
+        kinds = {clause for it in found if (clause := clause_of(it))}
         if len(kinds) != 1:
             unknown(line, f"the contract of `{word}`")
         kind, label = kinds.pop()
         becomes = {becomes_of(it) for it in [*found, self.function]} - {""}
-        form = {("Reads", "Reads"): "read", ("ReadsOwn", "Reads"): "read", ("ReadsOwn", "ReadsOwn"): "part"}
-        form |= {("GrowsOwn", "Reads"): "read", ("GrowsOwn", "ReadsOwn"): "part", ("GrowsOwn", "GrowsOwn"): "growing part"}
-        form |= {("GrowsOwn", "GrowingOutcome"): "grown"}
-        form |= {("WritesAll", "WritesAll"): "list"}
-        if (self.kind, kind) not in form:
+        if (self.kind, kind) not in OWN_FORMS:
             unknown(line, f"the contract of `{word}`")
-        wide, form = self.signed_of(found[0], args), form[self.kind, kind]
+        wide, form = self.signed_of(found[0], args), OWN_FORMS[self.kind, kind]
         form = f"made {form}" if len(becomes) > 1 and form.endswith("part") else form
         if wide and form.endswith("part"):
             unknown(line, f"the signed number of `{word}`")
         return self.add(f"signed {form} of {wide}" if wide else form, label, word, name, "", line)
 
-    def named(self, word, owner):
-        """Gives the functions of this name, of a type, of a module, or of whatever owner: the nearest ones."""
-        alike = (lambda it: it.owner == ("" if owner.islower() else owner)) if owner else (lambda it: True)
+    def named(self, word: str, owner: str) -> list[Function]:
+        """Returns the nearest functions of this name: of a type, of a module, or of any owner."""
+        wanted = "" if owner.islower() else owner
         for functions in self.functions:
-            found = [it for it in functions if it.name == word and alike(it)]
+            found = [it for it in functions if it.name == word and (not owner or it.owner == wanted)]
             if found:
                 return found
         return []
 
-    def signed_of(self, function, args):
-        """Gives the width of a signed number that a function of the crate's own reads, or also which one it writes."""
+    def signed_of(self, function: Function, args: list[list[str]]) -> str:
+        """Returns the width of a signed number that a function of the crate reads, or writes: then with the number."""
         said = [it for it in function.result if SIGNED.match(it)]
         if said and "Vec" not in function.result:
             return f"w{said[0][1:]}"
@@ -467,8 +374,8 @@ class Body:
                 return f"w{typed[0][1:]} {self.fields}.{arg[2]}"
         return ""
 
-    def arguments(self):
-        """Goes through the arguments of a call, and notes what is known of them; gives their words."""
+    def arguments(self) -> list[list[str]]:
+        """Goes through the arguments of a call, and notes what is known of them; returns their words."""
         before = len(self.pure)
         args = self.list_of_values()
         for it in args:
@@ -477,53 +384,55 @@ class Body:
         self.rewrites[len(self.calls)] = self.pure[before:]
         return args
 
-    def is_vector(self, said):
-        """Tells whether these words name a field of `self` that is a `Vec`."""
+    def is_vector(self, said: list[str]) -> bool:
+        """Returns true if these words name a field of `self` that is a `Vec`."""
         said = [it for it in said if it not in (".", "&")]
         fields = self.structs.get(self.function.owner, {})
         return len(said) == 2 and said[0] == "self" and fields.get(said[1], [])[:1] == ["Vec"]
 
-    def step_of(self, word):
-        """Gives the name of the next step of a call."""
+    def step_of(self, word: str) -> str:
+        """Returns the name of the next step of a call."""
         self.steps[word] += 1
         return word + (f"-{self.steps[word]}" if self.steps[word] > 1 else "")
 
-    def add(self, form, fact, word, name, wide, line):
+    def add(self, form: str, fact: str, word: str, name: str, wide: str, line: int) -> int:
+        """Adds a call, and returns its place."""
         self.calls.append(Call(form, fact, name or word, self.step_of(word), "end", wide, line))
         return len(self.calls) - 1
 
-    def question(self, last, line):
+    def question(self, last: Last, line: int) -> None:
+        """Notes the `?` after the last call."""
         if not isinstance(last, int) or last != len(self.calls) - 1:
             unknown(line, "a `?` behind something that is no call")
         call = self.calls[last]
         self.labels[call.label] += 1
         count = self.labels[call.label]
-        self.calls[last] = call._replace(way="?", label=call.label + (f"-{count}" if count > 1 else ""))
+        self.calls[last] = replace(call, way="?", label=call.label + (f"-{count}" if count > 1 else ""))
 
 
-def growing(function):
-    """Tells whether the type whose `from_reader` this is says that a read of it asks for memory."""
+def growing(function: Function) -> bool:
+    """Returns true if this is the `from_reader` of a type whose read allocates memory."""
     return function.ghosts.get("grows") == ["true"]
 
 
-def clause_of(function):
-    """Gives the kind of a function's contract, and the clause's name, or None."""
+def clause_of(function: Function) -> tuple[str, str] | None:
+    """Returns the kind of the contract of a function, and the name of the clause, or None."""
     ensured = [(it[2][0], it[1]) for it in function.clauses if it[0] == "ensures" and it[2]]
     known = [it for it in ensured if it[0] in NEXT or it[0] == "GrowingOutcome"]
     return known[0] if len(known) == 1 and (len(ensured) == 1 or known[0][1]) else None
 
 
-def becomes_of(function):
-    """Gives the name of what an error of the reader becomes in a function with errors of its own."""
-    said = next((it[2] for it in function.clauses if it[0] == "ensures" and it[2][:1] in (["ReadsOwn"], ["GrowsOwn"])), [])
-    return said[4] if said[1:4] == ["R", ".", "source"] else ""
+def becomes_of(function: Function) -> str:
+    """Returns the error map of a function with errors of its own, or an empty text."""
+    own = [it[2] for it in function.clauses if it[0] == "ensures" and it[2][:1] in (["ReadsOwn"], ["GrowsOwn"])]
+    return own[0][4] if own and own[0][1:4] == ["R", ".", "source"] else ""
 
 
 # ---- the contract
 
 
-def contract(function):
-    """Gives the kind of the chain, the reader or writer, the clause's name, and the lemma that stands around a term."""
+def contract(function: Function) -> tuple[str, str, str, str]:
+    """Returns the kind of the calls, the reader or writer, the name of the clause, and the lemma around a term."""
     trait = TRAIT.match(function.trait)
     if trait:
         return contract_of_trait(function, trait[1] == "From")
@@ -537,7 +446,8 @@ def contract(function):
     return found[0], said[-3], found[1], ""
 
 
-def contract_of_trait(function, reads):
+def contract_of_trait(function: Function, reads: bool) -> tuple[str, str, str, str]:
+    """Returns the same for a function of a trait of the library."""
     plain = function.ghosts.get("becomes") == ["same_error"] and "answers" not in function.ghosts
     if reads and growing(function):
         if "plain_reads" in function.ghosts.get("reads", []):
@@ -552,119 +462,18 @@ def contract_of_trait(function, reads):
     return "WritesAll", next(it for it in function.params if it != "self"), "writes", "plainly_written 5"
 
 
-def entries_of(folder, function):
-    """Gives the definitions in the crate's specs of what the contract names."""
+def entries_of(folder: str, function: Function) -> str:
+    """Returns the definitions in the specs of the crate that the contract names."""
     said = [word for it in function.clauses for word in it[2]] + function.ghosts.get("reads", [])
     paths = sorted(glob.glob(f"{folder}/specs/**/*.antt", recursive=True))
     text = "".join(open(it, encoding="utf-8").read() for it in paths)
     return "".join(it[0] for it in re.finditer(r"^(\S+) [^:\n]*=.*\n(?: .*\n)*", text, re.M) if it[1] in said)
 
 
-# ---- the answers
-
-
-class Answers:
-    """Makes the answers of a function, and notes the lemmas that they name."""
-
-    def __init__(self, kind, field, around, generic):
-        self.kind, self.field, self.around, self.args = kind, field, around, "g c" if generic else "c"
-        self.used, self.rewrites = set(), {}
-        self.opened = 0  # the first call at which `around` stands around the terms
-        self.signed = {}  # the signed numbers that a reading function is handed, and their widths
-
-    def term(self, said, **meant):
-        """Gives a term that is said in the words of the tables."""
-        return re.sub(r"[^\s(),]+", lambda it: self.word(it[0], meant), said)
-
-    def word(self, word, meant):
-        if word.isdigit():
-            return " ".join("_" * int(word))
-        if any(word in names.split() for names in LEMMAS.values()):
-            self.used.add(word)
-        return meant.get(word) or SHORT.get(word, word)
-
-    def of_call(self, call, table, arm, residual=""):
-        """Gives what stands for a call: `arm` is `in_ok-x` or `in_err-x`, or the call's own step."""
-        part = call.form == "part" and self.kind in PLAINLY
-        form = ("list" if self.kind == "WritesAll" else "read") if part else call.form
-        form, _, wide = form.partition(" of ")
-        form += " of" if wide else ""
-        if call.wide and (self.kind == "WritesAll" or table is not STOP):
-            form = f"signed {form}" if self.kind == "WritesAll" else "signed"
-        if form not in table[self.kind]:
-            where = "as the last call" if table is LAST else f"in `{self.kind}`"
-            unknown(call.line, f"`{call.step}` {where}")
-        fact = f"c.{arm}.ensures" + (f".{call.fact}" if call.fact else "")
-        for known in self.rewrites.get(id(call), []):
-            fact = f"(rw {known} at {fact})"
-            self.used |= {"◌∙◌"} if "∙" in known else set()
-        if table is LAST and self.signed:
-            fact = f"(rw ({self.known_signed()}) at {fact})"
-        fact = self.term(PLAINLY[self.kind], FACT=fact) if part else fact
-        wide = wide or call.wide
-        if "WIDE" in table[self.kind][form]:
-            self.word(wide.split(" ")[0], {})
-        return self.term(table[self.kind][form], ARM=f"c.{arm}", FACT=fact, RESIDUAL=residual, WIDE=wide)
-
-    def answer(self, goal, terms, around=True):
-        """Gives one answer: each term but the last takes the next one."""
-        terms = [self.term(self.around), *terms] if self.around and around else terms
-        *front, last = terms
-        if front and " " not in last:
-            front[-1], last = f"{front[-1]} {last}", ""
-        text = " (".join([*front, last] if last else front) + ")" * (len(front) - (not last))
-        return f"pub {goal} : goal.{goal}\n" + self.laid_out(f"{goal} {self.args} =", text)
-
-    def laid_out(self, head, text):
-        if not self.field:
-            return filled(f"{head} {text}", 4)
-        line = f"{head} record {{ {self.field} = {text} }}"
-        return line if len(line) <= COLUMNS else f"{head} record {{\n" + filled(f"  {self.field} = {text};", 6) + "\n}"
-
-    def all(self, calls):
-        """Gives the answers in order: at each `?`, and at the end."""
-        found, front = [], []
-        last = calls[-1] if calls and calls[-1].way == "end" else None
-        stops = 0
-        for k, call in enumerate(calls[: -1 if last else None]):
-            if call.form == "if":
-                holds, fails = TESTS[self.kind][::-1] if call.wide else TESTS[self.kind]
-                at = f"c.if-{call.label}"
-                ends = [self.term(f"{holds} {at}.true"), self.term(END[self.kind])]
-                found.append(self.answer(f"returns-then-{call.label}", front + ends))
-                front = front + [self.term(f"{fails} {at}.false")]
-                continue
-            if call.way == "?":
-                arm = f"in_err-{call.label}"
-                residual = f"c.from_residual{f'-{arm}' if stops else ''}.ensures.1"
-                stops += 1
-                terms = front + [self.of_call(call, STOP, arm, residual)]
-                found.append(self.answer(f"returns-{arm}", terms, k >= self.opened))
-            front = front + [self.of_call(call, NEXT, f"in_ok-{call.label}" if call.way else call.step)]
-        if not last and self.signed:
-            front = front + [f"rw ({self.known_signed()})"]
-        end = self.of_call(last, LAST, last.step) if last else self.term(END[self.kind])
-        return found + [self.answer("returns", front + [end])]
-
-    def known_signed(self):
-        """Gives that the signed numbers which a reading function was handed are what their bits say."""
-        for it, wide in self.signed.items():
-            self.used |= {"to_z-of_z", "sfits_of", wide}
-        return ", ".join(f"to_z-of_z {wide} c.args.{it} (search sfits_of)" for it, wide in self.signed.items())
-
-    def uses(self, goals):
-        """Gives the imports."""
-        lines = []
-        for module, names in LEMMAS.items():
-            named = [f"{it} as {SHORT[it]}" if it in SHORT else it for it in names.split() if it in self.used]
-            lines += [f"use {module}.{{{', '.join(named)}}}"] if named else []
-        return "\n".join([*lines, f"use {goals} as goal"])
-
-
-def chosen(functions, wanted):
-    """Gives the function that is named as in `rt check --only`; an impl's trait may be left out."""
-    *owner, name = wanted.split("::")
-    owner = "".join(owner)
+def chosen(functions: list[Function], wanted: str) -> Function:
+    """Returns the function with a name of `rt check --only`, of which the trait of an impl may be left out."""
+    *parts, name = wanted.split("::")
+    owner = "".join(parts)
     found = [it for it in functions if it.name == name and it.owner + it.trait == owner]
     found = found or [it for it in functions if it.name == name and it.owner == owner]
     if len(found) != 1:
@@ -672,14 +481,14 @@ def chosen(functions, wanted):
     return found[0]
 
 
-def has_model(path, name):
-    """Tells whether contracts see a type of this file by a model."""
+def has_model(path: str, name: str) -> bool:
+    """Returns true if contracts see a type of this file by a model."""
     with open(path, encoding="utf-8") as file:
         return bool(name) and f"impl Model for {name} " in file.read()
 
 
-def functions_near(folder, path):
-    """Gives the functions of the modules that a file imports from, and those of the whole crate."""
+def functions_near(folder: str, path: str) -> tuple[list[Function], list[Function]]:
+    """Returns the functions of the modules that a file imports from, and the functions of the whole crate."""
     with open(path, encoding="utf-8") as file:
         text = file.read()
     modules = set(re.findall(r"^use crate::(\w+)", text, re.MULTILINE))
@@ -692,7 +501,7 @@ def functions_near(folder, path):
 
 
 def answers_of(folder: str, file: str, wanted: str) -> str:
-    """Gives the answers of a function, as `rt check --only` names it."""
+    """Returns the answers of a function with a name of `rt check --only`."""
     path = os.path.join(folder, file)
     functions, structs = read_source(path)
     function = chosen(functions, wanted)
@@ -706,13 +515,16 @@ def answers_of(folder: str, file: str, wanted: str) -> str:
     calls = body.whole()
     entries = entries_of(folder, function)
     if entries and "const_entry" not in entries:
-        calls = [it._replace(form="alone") if (kind, it.form) == ("Reads", "const") else it for it in calls]
-    answers.rewrites = {id(it): body.rewrites.get(k, []) for k, it in enumerate(calls)}
+        calls = [replace(it, form="alone") if (kind, it.form) == ("Reads", "const") else it for it in calls]
+    calls = [replace(it, known=tuple(body.rewrites.get(k, []))) for k, it in enumerate(calls)]
     answers.opened = (body.opened or 0) if modeled else 0
     if kind != "WritesAll":
         params = {it: "".join(typed) for it, typed in function.params.items()}
         answers.signed = {it: f"w{typed[1:]}" for it, typed in params.items() if SIGNED.match(typed)}
-    parts = answers.all(calls)
+    try:
+        parts = answers.all(calls)
+    except UnknownCall as it:
+        raise Unknown(str(it)) from None
     module = re.sub(r"^src/|\.rt$", "", os.path.normpath(file)).split("/")
     module = [] if module == ["lib"] else module
     owner = [function.owner + function.trait] if function.owner else []

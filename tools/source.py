@@ -1,24 +1,50 @@
-"""What the scripts share: how a file of Rattle is read."""
+"""Reads the functions and the structs of a file of Rattle."""
+from __future__ import annotations
+
 import re
-from collections import namedtuple
+from dataclasses import dataclass
+from typing import NamedTuple, NoReturn
 
 WORD = re.compile(r"""//[^\n]*|"(?:\\.|[^"\\])*"|'(?:\\.|[^'\\])'|'\w+|\w+|::|->|=>|\S""")
 CLOSES = {"(": ")", "[": "]", "{": "}"}
-Token = namedtuple("Token", "word line")
-Function = namedtuple("Function", "name owner trait generic params clauses result body ghosts line")
+Structs = dict[str, dict[str, list[str]]]  # the fields of each struct, with the words of their types
+
+
+class Token(NamedTuple):
+    """A word, and its line."""
+
+    word: str
+    line: int
+
+
+@dataclass
+class Function:
+    """A function. Types, clauses and ghosts are lists of words; a clause has its kind, its name and its words."""
+
+    name: str
+    owner: str
+    trait: str
+    generic: bool
+    params: dict[str, list[str]]
+    clauses: list[tuple[str, str, list[str]]]
+    result: list[str]
+    body: list[Token]
+    ghosts: dict[str, list[str]]
+    line: int
 
 
 class Unknown(Exception):
-    """What the script does not know, with its line."""
+    """Something that the script does not know, with its line."""
 
 
-def unknown(line, what):
+def unknown(line: int, what: str) -> NoReturn:
+    """Ends with something that the script does not know."""
     raise Unknown(f"line {line}: this script does not know {what}")
 
 
-def tokens_of(text):
-    """Gives the words of a source, without its comments, each with its line."""
-    found, line, at = [], 1, 0
+def tokens_of(text: str) -> list[Token]:
+    """Returns the words of a source, without its comments."""
+    found, line, at = list[Token](), 1, 0
     for it in WORD.finditer(text):
         line, at = line + text.count("\n", at, it.start()), it.start()
         if not it[0].startswith("//"):
@@ -26,8 +52,8 @@ def tokens_of(text):
     return found
 
 
-def behind(tokens, at):
-    """Gives the place behind the bracket that closes the one at `at`; also of `<`."""
+def behind(tokens: list[Token], at: int) -> int:
+    """Returns the place after the bracket that closes the one at `at`, which may be `<`."""
     opens = tokens[at].word
     closes, depth = CLOSES.get(opens, ">"), 0
     for place in range(at, len(tokens)):
@@ -37,13 +63,14 @@ def behind(tokens, at):
     return unknown(tokens[at].line, f"`{opens}` is not closed")
 
 
-def words(tokens):
+def words(tokens: list[Token]) -> list[str]:
+    """Returns the words without their lines."""
     return [it.word for it in tokens]
 
 
-def split(tokens):
-    """Splits at the commas that stand in no brackets."""
-    parts, depth = [[]], 0
+def split(tokens: list[Token]) -> list[list[Token]]:
+    """Splits at the commas outside of brackets."""
+    parts, depth = [list[Token]()], 0
     for it in tokens:
         depth += (it.word in "([{<") - (it.word in ")]}>")
         if it.word == "," and depth == 0:
@@ -53,9 +80,9 @@ def split(tokens):
     return [it for it in parts if it]
 
 
-def named_types(tokens):
-    """Gives the parameters of a function, or the fields of a struct, each with its type."""
-    found = {}
+def named_types(tokens: list[Token]) -> dict[str, list[str]]:
+    """Returns the parameters of a function, or the fields of a struct, each with its type."""
+    found: dict[str, list[str]] = {}
     for part in split(tokens):
         said = words(part)
         if ":" in said:
@@ -64,18 +91,23 @@ def named_types(tokens):
     return found
 
 
-def has_type_parameter(tokens):
+def has_type_parameter(tokens: list[Token]) -> bool:
+    """Returns true if a list of parameters has one that is not a lifetime."""
     return any(not it[0].word.startswith("'") for it in split(tokens))
 
 
-def function_at(tokens, at, owner, trait, generic, ghosts):
-    """Gives the function at `fn`, and the place behind it."""
+def function_at(
+    tokens: list[Token], at: int, owner: str, trait: str, generic: bool, ghosts: dict[str, list[str]]
+) -> tuple[Function, int]:
+    """Returns the function at `fn`, and the place after it."""
     name, line, place = tokens[at + 1].word, tokens[at].line, at + 2
     if tokens[place].word == "<":
         end = behind(tokens, place)
         generic, place = generic or has_type_parameter(tokens[place + 1 : end - 1]), end
     end = behind(tokens, place)
-    params, result, clauses, place = named_types(tokens[place + 1 : end - 1]), [], [], end
+    params, place = named_types(tokens[place + 1 : end - 1]), end
+    result: list[str] = []
+    clauses: list[tuple[str, str, list[str]]] = []
     while tokens[place].word not in ("{", ";", "requires", "ensures"):
         end = behind(tokens, place) if tokens[place].word in "[(" else place + 1
         result, place = result + words(tokens[place:end]), end
@@ -89,15 +121,16 @@ def function_at(tokens, at, owner, trait, generic, ghosts):
     return Function(name, owner, trait, generic, params, clauses, result, body, ghosts, line), end
 
 
-def bare(tokens):
-    """Gives a type's or a trait's name as `rt` joins it, as `FromError` of `From<Error>`."""
+def bare(tokens: list[Token]) -> str:
+    """Returns the name of a type or a trait as `rt` joins it: `FromError` for `From<Error>`."""
     return "".join(it for it in words(tokens) if re.match(r"[A-Z]\w*", it))
 
 
-def impl_at(tokens, at):
-    """Gives the functions of the impl at `at`, and the place behind it."""
+def impl_at(tokens: list[Token], at: int) -> tuple[list[Function], int]:
+    """Returns the functions of the impl at `at`, and the place after it."""
     opens = next(it for it in range(at, len(tokens)) if tokens[it].word == "{")
-    end, place, generic, ghosts = behind(tokens, opens), at + 1, False, {}
+    end, place, generic = behind(tokens, opens), at + 1, False
+    ghosts: dict[str, list[str]] = {}
     if tokens[place].word == "<":
         place = behind(tokens, place)
         generic = has_type_parameter(tokens[at + 2 : place - 1])
@@ -105,7 +138,7 @@ def impl_at(tokens, at):
     cut = place + head.index("for") if "for" in head else None
     trait = bare(tokens[place:cut]) if cut else ""
     owner = tokens[cut + 1 if cut else place].word
-    found, place = [], opens + 1
+    found, place = list[Function](), opens + 1
     while place < end - 1:
         word = tokens[place].word
         if word == "fn":
@@ -120,9 +153,11 @@ def impl_at(tokens, at):
     return found, end
 
 
-def read_source(path):
-    """Gives the functions and the structs of a file."""
-    tokens, functions, structs, at = tokens_of(open(path, encoding="utf-8").read()), [], {}, 0
+def read_source(path: str) -> tuple[list[Function], Structs]:
+    """Returns the functions and the structs of a file."""
+    tokens, at = tokens_of(open(path, encoding="utf-8").read()), 0
+    functions: list[Function] = []
+    structs: Structs = {}
     while at < len(tokens):
         word = tokens[at].word
         if word == "impl":

@@ -1,7 +1,6 @@
 """Refuses lines that do not belong together, and names that the printed text uses itself."""
 from __future__ import annotations
 
-import re
 from typing import Iterator
 
 from describing import model as m

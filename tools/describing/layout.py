@@ -229,10 +229,3 @@ class Format:
         """Returns true if no earlier line has the same optional part."""
         optional = [it for it in self.lines if isinstance(it.kind, m.Optional | m.If)]
         return next(it for it in optional if it.use and line.use and it.use.name == line.use.name) is line
-
-    def functions(self) -> list[str]:
-        """Returns the functions whose bodies are calls one after another."""
-        later = [f"{self.type}::{what}_{k + 1}" for what in ("read", "write") for k in range(1, len(self.pieces()))]
-        optional = [it for it in self.lines if isinstance(it.kind, m.Optional | m.If)]
-        own = [f"read_{snake(it.kind.use.name)}_if" for it in optional if isinstance(it.kind, m.Optional | m.If)]
-        return list(dict.fromkeys([f"{self.type}::read", f"{self.type}::write", *later, *own]))

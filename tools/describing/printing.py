@@ -2,26 +2,25 @@
 from __future__ import annotations
 
 import os
-import shutil
 import subprocess
 import tempfile
 from typing import Mapping
 
-from chains import answers_of
 from describing import model as m
 from describing.examples import described
 from describing.layout import Format
 from describing.model import Refused
 from describing.names import TAKEN
+from describing.proofs import calls
 from describing.proofs import printed as proofs
 from describing.rust import printed as rust
 from describing.specs import printed as specs
-from source import Unknown
 
 
 def files_of(f: Format) -> dict[str, str]:
-    """Returns the texts by their places in the crate, except the answers of call sequences."""
-    return rust.files(f) | specs.files(f) | proofs.files(f) | specs.fields_files(f) | proofs.answer_files(f)
+    """Returns the texts by their places in the crate."""
+    found = rust.files(f) | specs.files(f) | proofs.files(f) | specs.fields_files(f) | proofs.answer_files(f)
+    return found | calls.files(f)
 
 
 def put(folder: str, place: str, text: str) -> None:
@@ -61,38 +60,29 @@ def lay_out(crate: str) -> None:
         raise Refused(f"rt fmt: {(ran.stdout + ran.stderr).strip()}")
 
 
-def print_into(crate: str, f: Format) -> list[str]:
-    """Puts the files of a format into a crate, and returns their places."""
+def check_parts(f: Format, folder: str, printed_now: set[str]) -> None:
+    """Refuses a part whose module is not printed."""
     for it in f.lines:
         for use in m.uses(it.kind):
-            if not os.path.exists(os.path.join(crate, "src", f"{use.module}.rt")):
+            if use.module not in printed_now and not os.path.exists(os.path.join(folder, "src", f"{use.module}.rt")):
                 why = f"`{use.module}` is not printed: run `./format` on `{use.module}.fields` first"
                 raise Refused(why, it.kind.at)
-    files = files_of(f)
-    for place, text in files.items():
-        put(crate, place, text)
-    for function in f.functions():
-        place = proofs.answers_path(f, function.replace("::", "/"))
-        try:
-            files[place] = f"-- {f.made}\n{answers_of(crate, f'src/{f.m}.rt', function)}"
-        except Unknown as it:
-            raise Refused(f"answers of {function}: {it}") from None
-        put(crate, place, files[place])
-    return list(files)
 
 
 def printed(descriptions: Mapping[str, str], folder: str) -> list[tuple[Format, dict[str, str]]]:
     """Returns the format of each description, by path and module, and the texts of its files by place."""
     found = [format_of(it, folder, name) for it, name in descriptions.items()]
+    for k, f in enumerate(found):
+        check_parts(f, folder, {it.m for it in found[:k]})
     with tempfile.TemporaryDirectory() as room:
         crate = os.path.join(room, "crates", os.path.basename(os.path.abspath(folder)))
-        if os.path.isdir(os.path.join(folder, "src")):
-            shutil.copytree(os.path.join(folder, "src"), os.path.join(crate, "src"))
-        places = [print_into(crate, it) for it in found]
+        files = [files_of(it) for it in found]
+        for place, text in (it for one in files for it in one.items()):
+            put(crate, place, text)
         put(room, "crates.txt", f"{os.path.basename(crate)}:\n")
-        put(crate, root_of(crate), "".join(f"mod {it.m};\n" for it in found))
+        put(crate, root_of(folder), "".join(f"mod {it.m};\n" for it in found))
         lay_out(crate)
-        return [(it, {place: text_of(crate, place) for place in named}) for it, named in zip(found, places)]
+        return [(it, {place: text_of(crate, place) for place in named}) for it, named in zip(found, files)]
 
 
 # ---- the lines that name the files

@@ -5,7 +5,7 @@ from dataclasses import dataclass
 from typing import Callable, TypeAlias
 
 from describing import model as m
-from describing.input import Input, ReadError, Value, joined
+from describing.input import Input, ReadError, Value
 
 
 @dataclass(slots=True)

@@ -20,7 +20,20 @@ flags, counts, tags and sizes are not printed: `--pack` computes them.
                     with at most 100000 records. The whole input is read first
   --picture, --svg  print the picture of the bits, and read nothing
 
-Lines of which no code is printed yet are known here: `tag`, `choose`, `size`, `sized`, `fill`, `rest` and `until`.
+`./format --help` has the lines of a description. The following lines are known here only: no code is printed for them.
+
+    tag body 8                                         the number of the case of the choice `body`
+    choose body Body: 1 Ack of ack, 3 Stop, .. Other   that choice: a part, nothing, and the case for other numbers
+    choose body Body by kind: 1 Ack of ack, 2 Raw bytes  a choice by an earlier number or enum; a case may hold bytes
+    size body 16 plus 20 by 4                          the size of `body` in bytes, plus (or less) 20, in units of 4 bytes
+    sized body bytes                                   bytes of that size
+    sized body Body of body WrongSize                  a part of exactly that size, or the error's case
+    choose body Body sized WrongSize: 1 Ack of ack     a choice of exactly that size
+    fill items Item of item WrongSize                  parts up to the end of the size of `items`
+    rest items u16 16                                  items of a list up to the end of the bytes, or of the size around
+    until name u8 8 0                                  numbers up to the first 0, which is no item
+
+A size limits the reader: no bit after it is read.
 
 status: 0 the input ended after a record; 2 the command, the description or a file is refused; 3 a record is refused,
 or a line does not fit the description; 4 the input ended inside a record. The records before are printed.
@@ -220,9 +233,24 @@ def options_of(asked: argparse.Namespace) -> Options:
     return Options(asked.repeat, asked.offset, asked.count, asked.skip, asked.keep_going, inside)
 
 
+def byte_fields(it: m.Description) -> set[str]:
+    """Returns the names of the fields that hold bytes, also inside parts."""
+    found = {kind.name for kind in it.fields if isinstance(m.held_item(kind), m.Octet)}
+    return found.union(*(byte_fields(use.description) for kind in it.kinds for use in m.uses(kind)))
+
+
+def check_inside(it: m.Description, inside: list[tuple[str, m.Description]]) -> None:
+    """Refuses `--in` for a field that no record has, or that holds no bytes."""
+    known = byte_fields(it).union(*(byte_fields(other) for _, other in inside))
+    for name, _ in inside:
+        if name not in known:
+            raise Refused(f"--in {name}: no field `{name}` holds bytes")
+
+
 def run(asked: argparse.Namespace) -> None:
     """Runs a command."""
     it, options = loaded(asked.description), options_of(asked)
+    check_inside(it, options.inside)
     if asked.picture:
         print("\n".join(picture.text(it.kinds)[2:-1]))
     elif asked.svg:

@@ -56,7 +56,7 @@ def listed(value: list[Value]) -> str:
 
 
 def number_of(node: Node) -> str:
-    """Returns the number of a case, or a number in hex, behind `=`."""
+    """Returns the number of a case, or a number in hex, after `=`."""
     if isinstance(node.kind, m.Enum) and isinstance(node.value, str):
         return f"= {node.kind.enum.number(node.value)}"
     numbers = (m.Number, m.Const, m.Tag)

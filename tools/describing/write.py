@@ -66,7 +66,7 @@ def unfit(name: str, value: Value, what: str) -> Unfit:
 
 def number(name: str, value: Value, least: int, most: int) -> int:
     """Returns a number in a range. One that JSON does not hold exactly may be a string of its decimal digits."""
-    if isinstance(value, str) and most > EXACT and re.fullmatch(r"-?\d+", value):
+    if isinstance(value, str) and most > EXACT and re.fullmatch(r"-?(0|[1-9]\d*)", value):
         value = int(value)
     if isinstance(value, bool) or not isinstance(value, int) or not least <= value <= most:
         raise unfit(name, value, f"a number from {least} to {most}")
@@ -80,8 +80,6 @@ def raw(name: str, value: Value) -> bytes:
     try:
         if isinstance(value, str):
             return bytes.fromhex(value)
-        if isinstance(value, list):
-            return bytes(it for it in value if isinstance(it, int))
     except ValueError:
         pass
     raise unfit(name, value, "bytes in hex")
@@ -239,33 +237,60 @@ def check_there(kind: m.Optional | m.If, value: Value, whole: Record, name: str)
 
 def arm_of(kind: m.Choose, value: Value, name: str) -> tuple[m.Arm, Value]:
     """Returns the case of a choice, and what it holds."""
-    case = value if isinstance(value, str) else next(iter(value), "") if isinstance(value, dict) else ""
+    case = value if isinstance(value, str) else next(iter(value)) if isinstance(value, dict) and len(value) == 1 else ""
     for it in kind.arms:
-        if it.case == case:
+        if it.case == case and isinstance(value, dict) == (it.held is not None or it.number is None):
             return it, value.get(case) if isinstance(value, dict) else None
-    raise unfit(name, value, f"one of {', '.join(it.case for it in kind.arms)}")
+    raise unfit(name, value, f"one of {', '.join(arm_form(it) for it in kind.arms)}")
 
 
-def tag_number(kind: m.Choose, value: Value, name: str) -> int:
+def arm_form(arm: m.Arm) -> str:
+    """Returns how JSON has a case of a choice."""
+    if isinstance(arm.held, m.Use):
+        return f'{{"{arm.case}": {{..}}}}'
+    if isinstance(arm.held, m.Octet):
+        held = '"HEX"' if arm.number is not None else '{"number": N, "bytes": "HEX"}'
+        return f'{{"{arm.case}": {held}}}'
+    return f'"{arm.case}"' if arm.number is not None else f'{{"{arm.case}": N}}'
+
+
+def other_of(held: Value, name: str) -> tuple[Value, Value]:
+    """Returns the number and the bytes of a case for other numbers."""
+    if not isinstance(held, dict) or set(held) != {"number", "bytes"}:
+        raise unfit(name, held, 'an object with "number" and "bytes"')
+    return held["number"], held["bytes"]
+
+
+def arm_number(kind: m.Choose, value: Value, name: str) -> int:
     """Returns the number that selects a case."""
     arm, held = arm_of(kind, value, name)
     if arm.number is not None:
         return arm.number
-    found = held["number"] if isinstance(held, dict) else held
-    most = (1 << 128) - 1
-    if kind.arm(number(name, found, 0, most)) is not arm:
-        raise unfit(name, value, "this number is that of another case")
-    return number(name, found, 0, most)
+    said = other_of(held, f"{name}.{arm.case}")[0] if arm.held else held
+    found = number(name, said, 0, (1 << 128) - 1)
+    if kind.arm(found) is not arm:
+        raise unfit(name, value, "the number of another case")
+    return found
 
 
 def put_choice(bits: Bits, kind: m.Choose, value: Value, name: str) -> None:
     """Writes what a case holds."""
     arm, held = arm_of(kind, value, name)
+    inner = f"{name}.{arm.case}"
     if isinstance(arm.held, m.Use):
-        put_item(bits, f"{name}.{arm.case}", arm.held, held)
+        put_item(bits, inner, arm.held, held)
     elif isinstance(arm.held, m.Octet):
-        inside = held["bytes"] if arm.number is None and isinstance(held, dict) else held
-        put_items(bits, f"{name}.{arm.case}", arm.held, inside, None)
+        put_items(bits, inner, arm.held, other_of(held, inner)[1] if arm.number is None else held, None)
+
+
+def check_selected(kind: m.Choose, description: m.Description, whole: Record, path: str) -> None:
+    """Refuses a choice whose case is not selected by the earlier field that it names."""
+    for it in description.fields:
+        if it.name == kind.by and isinstance(it, m.Number | m.Enum):
+            name, said = joined(path, kind.name), whole[it.name]
+            selects = enum_number(it.name, it.enum, said) if isinstance(it, m.Enum) else said
+            if arm_number(kind, whole[kind.name], name) != selects:
+                raise unfit(name, whole[kind.name], f"not the case that `{it.name}` selects")
 
 
 def length(name: str, value: Value, octets: bool) -> int:
@@ -290,7 +315,7 @@ def put_hidden(bits: Bits, kind: m.Hidden, description: m.Description, whole: Re
         case m.Tag(name=tag):
             target = field_of(description, lambda it: isinstance(it, m.Choose) and it.by == tag)
             assert isinstance(target, m.Choose)
-            found = tag_number(target, whole.get(target.name), joined(path, target.name))
+            found = arm_number(target, whole.get(target.name), joined(path, target.name))
             bits.put(number(kind.name, found, 0, (1 << kind.width) - 1), kind.width)
         case m.Size():
             put_size(bits, kind, description, whole, path)
@@ -327,6 +352,8 @@ def put_record(bits: Bits, description: m.Description, whole: Record, path: str 
         if m.is_field(it):
             if it.name not in whole:
                 raise Unfit(f"`{joined(path, it.name)}` is missing")
+            if isinstance(it, m.Choose):
+                check_selected(it, description, whole, path)
             put_field(bits, it, whole[it.name], whole, joined(path, it.name))
         elif isinstance(it, m.Const | m.Skip | m.Flag | m.Count | m.Tag | m.Size):
             put_hidden(bits, it, description, whole, path)

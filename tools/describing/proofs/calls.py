@@ -1,0 +1,221 @@
+"""The calls of the functions that read and write a format, as `chains` takes them, and the answers of these functions."""
+from __future__ import annotations
+
+from collections import Counter
+from dataclasses import dataclass, field
+
+from describing import model as m
+from describing.layout import Format, Line
+from describing.model import snake
+from describing.proofs.chains import Answers, Call
+from describing.specs.terms import asked_enum, short
+
+# Contracts of reads, from the weakest: a plain read, one with errors of its own, one that allocates.
+PLAIN, OWN, GROWING = "Reads", "ReadsOwn", "GrowsOwn"
+
+
+@dataclass
+class Labels:
+    """Names that are numbered from the second time on."""
+
+    seen: Counter[str] = field(default_factory=Counter)
+
+    def next(self, name: str) -> str:
+        """Returns a name, with its number if it was there before."""
+        self.seen[name] += 1
+        return name if self.seen[name] == 1 else f"{name}-{self.seen[name]}"
+
+
+def contract(error: str, grows: bool) -> str:
+    """Returns the contract of the read of a format or a part."""
+    return GROWING if grows else OWN if error else PLAIN
+
+
+def part_contract(use: m.Use) -> str:
+    """Returns the contract of the read of a part."""
+    return contract(use.description.error, m.has_list(use))
+
+
+def becomes(error: str, module: str) -> str:
+    """Returns the error map of the reads of a format."""
+    return f"becomes_{module}" if error else "same_error"
+
+
+# ---- reads
+
+
+def own_read(f: Format, kind: str, error_map: str) -> str:
+    """Returns the form of the call of a function of the crate with a contract and an error map."""
+    if kind == PLAIN:
+        return "read"
+    form = "growing part" if kind == GROWING else "part"
+    ours = f.becomes_name if f.own else ""
+    return f"made {form}" if ours and error_map and ours != error_map else form
+
+
+def read_call(f: Format, line: Line) -> tuple[str, str, str]:
+    """Returns the form of the call that reads a line, the clause of the called function, and the width if it is signed."""
+    kind = line.kind
+    match kind:
+        case m.Number() if kind.integer.signed:
+            return "read", "reads", f"w{kind.integer.base[1:]}"
+        case m.Groups() if kind.integer.signed:
+            return f"signed read of w{kind.integer.base[1:]}", "reads", ""
+        case m.Golomb():
+            return ("signed read of w32", "", "") if kind.signed else ("read", "reads", "")
+        case m.Const():
+            return "const", "reads", ""
+        case m.Enum() | m.Array(item=m.EnumType()):
+            return own_read(f, OWN if line.error else PLAIN, f.becomes_name), "", ""
+        case m.Part():
+            use = kind.use
+            return own_read(f, part_contract(use), becomes(use.description.error, use.module)), "", ""
+        case m.Optional() | m.If():
+            return own_read(f, OWN if line.error else PLAIN, f.becomes_name), "", ""
+        case m.List():
+            if isinstance(kind.item, m.Octet):
+                return "growing", "reads", ""
+            return ("growing part" if line.error else "grown"), "", ""
+    return "read", "reads", ""
+
+
+def read_label(line: Line) -> str:
+    """Returns the name of the value that a line reads, or the name of the call that reads none."""
+    return line.name or ("read_const" if isinstance(line.kind, m.Const) else "skip")
+
+
+def read_answers(f: Format, k: int) -> str:
+    """Returns the answers of the function that reads a piece."""
+    pieces, labels, steps = f.pieces(), Labels(), Labels()
+    calls = []
+    for it in pieces[k]:
+        form, fact, wide = read_call(f, it)
+        asks = isinstance(it.kind, m.If) and asked_enum(f, it.kind) is not None
+        known = (f"c.{steps.next('number')}.ensures",) if asks else ()
+        calls.append(Call(form, fact, labels.next(read_label(it)), "", wide=wide, known=known))
+    answers = Answers(contract(f.error, f.grows), "", "", True)
+    if k:
+        before = f.entry_at(pieces[k][0])[1]
+        answers.signed = {it.name: wide for it in before if (wide := signed_width(it.kind))}
+    if k + 1 < len(pieces):
+        name = f"read_{k + 2}"
+        form = own_read(f, contract(f.error, f.grows), f.becomes_name)
+        calls.append(Call(form, "", name, name, "end"))
+    return text(f, answers, calls, f.type, f"read_{k + 1}" if k else "read")
+
+
+def signed_width(kind: m.Kind) -> str:
+    """Returns the width of the type of a line whose value is a signed number, or an empty text."""
+    match kind:
+        case m.Number() | m.Groups() if kind.integer.signed:
+            return f"w{kind.integer.base[1:]}"
+        case m.Golomb() if kind.signed:
+            return "w32"
+    return ""
+
+
+def optional_answers(f: Format, use: m.Use) -> str:
+    """Returns the answers of the function that reads an optional part."""
+    form = own_read(f, part_contract(use), becomes(use.description.error, use.module))
+    calls = [Call("if", "", "not-there", "not-there", "if", "not"), Call(form, "", "read", "read")]
+    answers = Answers(OWN if use.description.error else PLAIN, "", "", True)
+    return text(f, answers, calls, "", f"read_{snake(use.name)}_if")
+
+
+# ---- writes
+
+
+class Writes:
+    """The calls that write some lines, with what is known of their arguments."""
+
+    def __init__(self, f: Format) -> None:
+        self.f, self.steps, self.labels = f, Labels(), Labels()
+        self.fields = "c.self.inside" if f.grows else "c.args.self.now"  # of `self`, as a proof has them
+
+    def call(self, line: Line) -> Call:
+        """Returns the call that writes a line."""
+        form, name, fact, wide = self.form(line.kind)
+        known = self.known(line.kind)
+        return Call(form, fact, self.labels.next(name), "", wide=wide, known=known)
+
+    def form(self, kind: m.Printed) -> tuple[str, str, str, str]:
+        """Returns the form of the call, its name, the clause of the called function, and the width if it is signed."""
+        match kind:
+            case m.Bool() | m.Flag():
+                return "call", "write_bit", "writes", ""
+            case m.Number():
+                return "value", "write", "writes", f"w{kind.integer.base[1:]}" if kind.integer.signed else ""
+            case m.Array(item=m.Integer()):
+                return "list", "write", "writes", ""
+            case m.Groups() if kind.integer.signed:
+                return f"signed value of w{kind.integer.base[1:]} {self.fields}.{kind.name}", "write_vbr", "writes", ""
+            case m.Groups():
+                return "value", "write_vbr", "writes", ""
+            case m.Golomb():
+                form = f"signed list of w32 {self.fields}.{kind.name}" if kind.signed else "list"
+                return form, f"write_{short(kind)}", "", ""
+            case m.Const():
+                return "call", "write_const", "writes", ""
+            case m.Skip():
+                return "call", "pad", "writes", ""
+            case m.Unary():
+                return "call", "write_unary", "writes", ""
+            case m.Part():
+                return "list", "write", "", ""
+            case m.Optional() | m.If():
+                return "list", f"write_{snake(kind.use.name)}_if", "", ""
+            case m.Array() | m.List():
+                if isinstance(kind.item, m.Octet):
+                    return "call", "write_bytes", "writes", ""
+                return "list", f"write_{kind.name}", "", ""
+        return "value", "write", "writes", ""
+
+    def known(self, kind: m.Printed) -> tuple[str, ...]:
+        """Returns the equations of the arguments of a call."""
+        match kind:
+            case m.Flag():
+                return (f"c.{self.steps.next('is_some')}.ensures",)
+            case m.Enum():
+                return (f"c.{self.steps.next('number')}.ensures",)
+            case m.Count():
+                length = f"{self.fields}.{kind.target}.ok.0"
+                return (f"(c.{self.steps.next('len')}.ensures ∙ {length})",)
+            case m.List():
+                return (f"c.{self.steps.next('deref')}.ensures.value",)
+        return ()
+
+
+def write_answers(f: Format, k: int) -> str:
+    """Returns the answers of the function that writes a piece."""
+    pieces, writes = f.pieces(), Writes(f)
+    calls = [writes.call(it) for it in pieces[k]]
+    answers = Answers("WritesAll", "", "rw (← c.self.view_is)" if f.grows else "", True)
+    if k + 1 < len(pieces):
+        name, known = f"write_{k + 2}", ("(← c.self.view_is)",) * f.grows
+        calls.append(Call("list", "", name, name, "end", known=known))
+    if f.grows:
+        of_self = [not isinstance(it.kind, m.Const | m.Skip) for it in pieces[k]] + [k + 1 < len(pieces)]
+        answers.opened = of_self.index(True) if True in of_self else 0
+    return text(f, answers, calls, f.type, f"write_{k + 1}" if k else "write")
+
+
+# ---- all of them
+
+
+def text(f: Format, answers: Answers, calls: list[Call], owner: str, name: str) -> str:
+    """Returns the text of the answers of a function."""
+    parts = answers.all(calls)
+    goals = ".".join([f.goals, *[owner] * bool(owner), name, "Goals"])
+    return "\n\n".join([f"-- {f.made}\n{answers.uses(goals)}", *parts])
+
+
+def files(f: Format) -> dict[str, str]:
+    """Returns the answers of the functions that read and write the format, by their places in the crate."""
+    count = len(f.pieces())
+    found = {f"{f.type}/read": read_answers(f, 0), f"{f.type}/write": write_answers(f, 0)}
+    found |= {f"{f.type}/read_{k + 1}": read_answers(f, k) for k in range(1, count)}
+    found |= {f"{f.type}/write_{k + 1}": write_answers(f, k) for k in range(1, count)}
+    for it in f.lines:
+        if isinstance(it.kind, m.Optional | m.If):
+            found.setdefault(f"read_{snake(it.kind.use.name)}_if", optional_answers(f, it.kind.use))
+    return {f"proofs/{f.m}/{path}/Answers.antt": answers for path, answers in found.items()}
