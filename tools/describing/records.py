@@ -87,10 +87,12 @@ class Records:
         self.row, self.options, self.report = row, options, report
         self.read, self.quick = record_reader(it), flat(it) if options.repeat and not options.inside else None
         self.skip, self.number, self.refused = skipper(options.skip), 0, 0
-        self.bits = m.fixed_bits(it)
-        self.constant_skip = options.skip[:1].isdigit()
-        if options.keep_going and (self.bits is None or self.bits % 8 or not self.constant_skip):
-            raise Refused("--keep-going: a record has no constant size, so the next one is not found")
+        bits = m.fixed_bits(it)
+        self.bits = bits if bits and bits % 8 == 0 and options.skip[:1].isdigit() else None  # of every record
+        self.sync = next((one for one in it.kinds[:1] if isinstance(one, m.Const) and one.width >= 8), None)
+        if options.keep_going and not self.bits and not self.sync:
+            why = "records have no constant size, and begin with no constant of 8 bits or more"
+            raise Refused(f"--keep-going: {why}, so the next one is not found")
 
     def values(self) -> Iterator[Fields]:
         """Returns the fields of each record."""
@@ -133,11 +135,10 @@ class Records:
                 found, fields = one()
             except ReadError as it:
                 self.failed(start, it)
-                fields = {}
             else:
                 yield found
-            self.number += 1
-            self.pass_over(fields)
+                self.number += 1
+                self.pass_over(fields)
 
     def goes_on(self) -> bool:
         """Returns true if another record is to be read."""
@@ -151,12 +152,28 @@ class Records:
         if it.answer == "EndOfInput":
             raise Torn(f"{begins} torn: the input ends at byte {self.row.end // 8}, in `{it.path}`")
         self.refused += 1
-        if not self.options.keep_going or self.bits is None:
+        if not self.options.keep_going:
             raise Ended(f"{begins} refused: {it}")
         self.report(f"{begins} refused: {it}")
-        if not self.row.reach(start + self.bits):
-            raise Torn(f"{begins} torn: the input ends at byte {self.row.end // 8}, in `{it.path}`")
-        self.row.at = start + self.bits
+        self.number += 1
+        if self.bits:
+            if not self.row.reach(start + self.bits):
+                raise Torn(f"{begins} torn: the input ends at byte {self.row.end // 8}, in `{it.path}`")
+            self.row.at = start + self.bits
+            self.pass_over({})
+        elif self.sync:
+            self.find(start + 8, self.sync)
+
+    def find(self, at: int, sync: m.Const) -> None:
+        """Moves to the next byte where the first constant of a record begins, or to the end of the input."""
+        while self.row.reach(at + sync.width):
+            self.row.at = at
+            self.row.drop()
+            if self.row.number(sync.width) == sync.value:
+                self.row.at = at
+                return
+            at += 8
+        self.row.at = self.row.end
 
     def pass_over(self, fields: Fields) -> None:
         """Skips the bytes between a record and the next one."""

@@ -12,7 +12,8 @@ flags, counts, tags and sizes are not printed: `--pack` computes them.
   --count N         read at most N records
   --skip EXPRESSION the bytes between a record and the next one: a number, or `length`, `length+1`, `length*4-8` for a
                     field `length` of the record (`header.length` inside a part)
-  --keep-going      report a refused record and go on with the next one, if every record has the same size
+  --keep-going      report a refused record and go on with the next one. If all records have the same size, it follows
+                    that size; else it is at the next constant of 8 bits or more that every record begins with
   --in FIELD OTHER  read the bytes of FIELD by the description OTHER, which has an order of its own. Bytes that OTHER
                     does not read are not printed. `--pack` takes the option too
   --table           print a table of the lines with their positions (byte in hex, bit), with colours on a terminal

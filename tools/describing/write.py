@@ -2,7 +2,7 @@
 from __future__ import annotations
 
 import re
-from typing import Callable, TypeAlias
+from typing import Callable, TypeAlias, assert_never
 
 from describing import model as m
 from describing.input import Value
@@ -202,7 +202,10 @@ def put_field(bits: Bits, kind: m.Described, value: Value, whole: Record, name: 
             put_parts(bits, kind, value, whole, name)
 
 
-def put_parts(bits: Bits, kind: m.Described, value: Value, whole: Record, name: str) -> None:
+Composed: TypeAlias = m.Enum | m.Array | m.Part | m.Optional | m.If | m.List | m.Rest | m.Fill | m.Sized | m.Choose
+
+
+def put_parts(bits: Bits, kind: Composed, value: Value, whole: Record, name: str) -> None:
     """Writes a field that has parts."""
     match kind:
         case m.Enum():
@@ -219,16 +222,19 @@ def put_parts(bits: Bits, kind: m.Described, value: Value, whole: Record, name: 
             put_items(bits, name, kind.item, value, None)
         case m.Fill():
             put_items(bits, name, kind.use, value, None)
-        case m.Sized(item=m.Octet() as octet):
-            put_items(bits, name, octet, value, None)
-        case m.Sized(item=m.Use() as use):
-            put_item(bits, name, use, value)
+        case m.Sized():
+            if isinstance(kind.item, m.Octet):
+                put_items(bits, name, kind.item, value, None)
+            else:
+                put_item(bits, name, kind.item, value)
         case m.Choose():
             put_choice(bits, kind, value, name)
+        case _:
+            assert_never(kind)
 
 
 def check_there(kind: m.Optional | m.If, value: Value, whole: Record, name: str) -> None:
-    """Refuses a part that is there if, and only if, it should not be."""
+    """Refuses an optional part that its condition contradicts."""
     if isinstance(kind, m.If):
         asked = whole.get(kind.field)
         if (asked in (kind.value, kind.asked)) != (value is not None):
@@ -343,18 +349,29 @@ def joined(path: str, name: str) -> str:
     return f"{path}.{name}" if path else name
 
 
+def tags(description: m.Description, whole: Record, path: str) -> Record:
+    """Returns the numbers of the tags, which conditions may ask for."""
+    found: Record = {}
+    for it in description.fields:
+        if isinstance(it, m.Choose) and it.name in whole:
+            found[it.by] = arm_number(it, whole[it.name], joined(path, it.name))
+    named = {it.name for it in description.kinds if isinstance(it, m.Tag)}
+    return {name: number_ for name, number_ in found.items() if name in named}
+
+
 def put_record(bits: Bits, description: m.Description, whole: Record, path: str = "") -> None:
     """Writes all lines."""
     unknown = set(whole) - {it.name for it in description.fields}
     if unknown:
         raise Unfit(f"`{joined(path, min(unknown))}` is no field of {description.name}")
+    asked = whole | tags(description, whole, path)
     for it in description.kinds:
         if m.is_field(it):
             if it.name not in whole:
                 raise Unfit(f"`{joined(path, it.name)}` is missing")
             if isinstance(it, m.Choose):
                 check_selected(it, description, whole, path)
-            put_field(bits, it, whole[it.name], whole, joined(path, it.name))
+            put_field(bits, it, whole[it.name], asked, joined(path, it.name))
         elif isinstance(it, m.Const | m.Skip | m.Flag | m.Count | m.Tag | m.Size):
             put_hidden(bits, it, description, whole, path)
 
