@@ -1,6 +1,7 @@
 """Refuses lines that do not belong together, and names that the printed text uses itself."""
 from __future__ import annotations
 
+import re
 from typing import Iterator
 
 from describing import model as m
@@ -43,6 +44,7 @@ def check_lines(it: m.Description, own: bool) -> None:
     names: list[str] = []
     for index, kind in enumerate(it.kinds):
         name = "" if isinstance(kind, m.Const | m.Skip) else m.label(kind)
+        check_name(name, kind.at)
         check_target(it, index, kind)
         if own and name in reserved.WORDS:
             raise Refused(f"`{name}` is a word of the proofs: take another name", kind.at)
@@ -50,6 +52,12 @@ def check_lines(it: m.Description, own: bool) -> None:
             raise Refused(f"two fields have one name, `{name}`", kind.at)
         check_error(it, kind)
         names.append(name)
+
+
+def check_name(name: str, at: Position) -> None:
+    """Refuses a name that Rust does not allow."""
+    if name and not re.fullmatch(r"[A-Za-z_][A-Za-z0-9_]*", name):
+        raise Refused(f"`{name}` is no name: take letters, digits and `_`", at)
 
 
 def check_error(it: m.Description, kind: m.Kind) -> None:
@@ -149,9 +157,13 @@ def check_types(it: m.Description, own: bool) -> None:
     types += [(at, enum.name) for at, enum in enums]
     types += [(kind.at, kind.type) for kind in it.kinds if isinstance(kind, m.Choose)]
     parts = [item.name for kind in it.kinds if isinstance(item := m.held_item(kind), m.Use)]
+    cases = [(at, case) for at, enum in enums for case in enum.names()]
+    errors = [(kind.at, m.error(kind)) for kind in it.kinds]
+    for at, name in [*types, *errors, *cases]:
+        check_name(name, at)
     for index, (at, name) in enumerate(types):
         if name and (name in [one for _, one in types[:index]] or name in parts):
             raise Refused(f"two types have one name, `{name}`", at)
-    for at, name in [*types, *[(kind.at, m.error(kind)) for kind in it.kinds]]:
+    for at, name in [*types, *errors]:
         if own and name in TAKEN:
             raise Refused(f"`{name}` is a name of the specs: take another one", at)

@@ -209,7 +209,7 @@ def check(description: m.Description, example: m.Example) -> None:
     """Refuses an example whose bytes have other values, or are not the bytes that are written for its values."""
     answer = example.answer
     said: dict[str, Value] | str = fields(description, answer) if "=" in answer else answer
-    if isinstance(said, str) and held(description, answer) and not names_own(description, answer):
+    if answer and isinstance(said, str) and held(description, answer) and not names_own(description, answer):
         raise Refused(f"`{answer}` holds an error of the part: give the example in its description")
     if isinstance(said, str) and answer not in [*reader_errors(description), *errors_of(description)]:
         raise Refused(f"an example answers `{answer}`, which is no case of the error")
