@@ -4,7 +4,7 @@ use Rattle.std.specs.Io.KnownBytes.{Consumes}
 use Rattle.std.specs.declared.io.ErrorKind.{ErrorKind}
 use Rattle.std.specs.declared.io.ErrorKind.TheVariants.{UnexpectedEof}
 use Rattle.bitstream_io.specs.Alignment.{to_boundary}
-use Rattle.bitstream_io.specs.Entry.{ReadEntry, call, chain, gives, takes, word_front}
+use Rattle.bitstream_io.specs.Codec.{Decoder, call, and_then, pure, consume, word_prefix}
 use Rattle.bitstream_io.specs.Reads.{BitSource}
 use Rattle.bitstream_io.specs.Refusal.{Refusal, MayRefuseRead, MayRefuseWrite}
 use Rattle.bitstream_io.specs.Streams.{InputStream, OutputStream}
@@ -27,12 +27,12 @@ are_zeros [] = true
 are_zeros (b ∷ bits) = if b then false else are_zeros bits
 
 -- n bits: whether all are 0
-unfoldable pub zeros_entry : ℕ → ReadEntry Bool
-zeros_entry n = takes n (λ w. Ok (are_zeros w))
+unfoldable pub zeros_decoder : ℕ → Decoder Bool
+zeros_decoder n = consume n (λ w. Ok (are_zeros w))
 
 -- the bits up to the next byte boundary: whether all are 0
-unfoldable pub boundary_entry : ReadEntry Bool
-boundary_entry = call (λ p bits. word_front (to_boundary p) (λ w. Ok (are_zeros w)) bits)
+unfoldable pub boundary_decoder : Decoder Bool
+boundary_decoder = call (λ p bits. word_prefix (to_boundary p) (λ w. Ok (are_zeros w)) bits)
 
 -- no value, or the reason why bits are not what is packed
 abbrev pub if_zeros : Bool → Result (Option FieldValue) Reason
@@ -40,8 +40,8 @@ if_zeros zero = if zero then Ok None else Err PaddingNotZero
 
 -- the read call of a field whose padding has to be zero
 abbrev pub exact_read : FieldCalls
-exact_read o (Padding n) = chain (zeros_entry n) (λ zero. gives (if_zeros zero))
-exact_read o Align = chain boundary_entry (λ zero. gives (if_zeros zero))
+exact_read o (Padding n) = and_then (zeros_decoder n) (λ zero. pure (if_zeros zero))
+exact_read o Align = and_then boundary_decoder (λ zero. pure (if_zeros zero))
 exact_read o field = field_read o field
 
 -- the fields, and the last alignment
@@ -49,18 +49,18 @@ abbrev pub with_alignment : List Field → List Field
 with_alignment fields = fields ++ Align ∷ []
 
 -- a fault of the last alignment, which stands behind n fields, names no field
-abbrev pub unnamed : ℕ → Fault → Fault
-unnamed n f = if f.field == n + 1 then fault 0 f.reason else f
+abbrev pub without_field : ℕ → Fault → Fault
+without_field n f = if f.field == n + 1 then fault 0 f.reason else f
 
 -- the same of what bits say
-abbrev pub unnamed_last : ℕ → Unpacked → Unpacked
-unnamed_last n (Unpacks vs at) = Unpacks vs at
-unnamed_last n (Stops f) = Stops (unnamed n f)
+abbrev pub without_last_field : ℕ → Unpacked → Unpacked
+without_last_field n (Unpacks vs at) = Unpacks vs at
+without_last_field n (Stops f) = Stops (without_field n f)
 
 -- what bits say for packed fields and a last alignment: the values and the place behind the alignment, or the first
 -- fault
-abbrev pub repacked : Order → List Field → List Bool → Unpacked
-repacked o fields bits = unnamed_last (length fields) (says_by exact_read o 1 (with_alignment fields) 0 bits)
+abbrev pub unpack_aligned : Order → List Field → List Bool → Unpacked
+unpack_aligned o fields bits = without_last_field (length fields) (says_by exact_read o 1 (with_alignment fields) 0 bits)
 
 -- each value of the field has one word
 abbrev pub HasOneWord : Field → Type 0
@@ -72,7 +72,7 @@ HasOneWord field = Unit {0}
 -- the same of values that were read, or the fault
 abbrev pub unnamed_result : ℕ → Result (List FieldValue) Fault → Result (List FieldValue) Fault
 unnamed_result n (Ok vs) = Ok vs
-unnamed_result n (Err f) = Err (unnamed n f)
+unnamed_result n (Err f) = Err (without_field n f)
 
 -- the read calls of packed fields and of a last alignment, and the values that they answer
 pub record ReadsPacked {R : Type 0} (K : BitSource R) (fields : List Field) (old : R)
@@ -88,12 +88,12 @@ pub record ReadPacked (o : Order) (fields : List Field) (old : Option (List ℕ)
     (new : Option (List ℕ)) : Type 0 where
   pub gone : List ℕ
   pub loses : Consumes old new gone
-  pub says : (more : List Bool) → repacked o fields (bits o gone ++ more) ≡ Unpacks vs (8 * length gone)
+  pub says : (more : List Bool) → unpack_aligned o fields (bits o gone ++ more) ≡ Unpacks vs (8 * length gone)
 
 -- why packed fields are not read from a stream's bytes
 abbrev pub PackedFault : (Refusal → Type 0) → Order → List Field → Option (List ℕ) → Fault → Option (List ℕ) → Type 0
 PackedFault may o fields old f new = (g : Fault)
-    × FieldsFault exact_read may o (with_alignment fields) old g new × (f ≡ unnamed (length fields) g)
+    × FieldsFault exact_read may o (with_alignment fields) old g new × (f ≡ without_field (length fields) g)
 
 -- packed fields, read from a stream's bytes: the values, or the fault
 abbrev pub ReadsPackedBytes : {R : Type 0} → InputStream R → Order → List Field → R → Result (List FieldValue) Fault → R → Type 0
@@ -151,14 +151,14 @@ Repacks I O o fields input output (Err f) input_after output_after =
 
 -- all bytes of a stream say values, and no byte is left over
 abbrev pub AreRepacked : Order → List Field → List ℕ → Type 0
-AreRepacked o fields xs = (vs : List FieldValue) × (repacked o fields (bits o xs) ≡ Unpacks vs (8 * length xs))
+AreRepacked o fields xs = (vs : List FieldValue) × (unpack_aligned o fields (bits o xs) ≡ Unpacks vs (8 * length xs))
 
 -- all bytes of a stream say the fault, or are more than those that say values
 abbrev pub AreNotRepacked : Order → List Field → List ℕ → Fault → Type 0
 AreNotRepacked o fields xs f =
-    (repacked o fields (bits o xs) ≡ Stops f)
+    (unpack_aligned o fields (bits o xs) ≡ Stops f)
     ⊎ ((f ≡ fault 0 BytesLeftOver) × (vs : List FieldValue) × (n : ℕ) × (n < 8 * length xs)
-    × (repacked o fields (bits o xs) ≡ Unpacks vs n))
+    × (unpack_aligned o fields (bits o xs) ≡ Unpacks vs n))
 
 -- The bytes of a stream are repacked exactly if they say values and none is left over, refused memory and the output's
 -- refusals aside.

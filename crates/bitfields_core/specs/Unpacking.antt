@@ -4,9 +4,9 @@ use Rattle.std.specs.Io.KnownBytes.{Consumes}
 use Rattle.bitstream_io.specs.Word.{Order, bits}
 use Rattle.bitstream_io.specs.Error.{Error}
 use Rattle.bitstream_io.specs.Error.TheVariants as errors
-use Rattle.bitstream_io.specs.Entry.{ReadEntry, Takes, chain, gives}
-use Rattle.bitstream_io.specs.ReadTable.{unsigned_entry, signed_entry, unary_entry, vbr_entry, any_vbr_entry, signed_vbr_entry, bytes_entry, skip_entry, align_entry}
-use Rattle.bitstream_io.specs.Run.{read_run}
+use Rattle.bitstream_io.specs.Codec.{Decoder, Done, and_then, pure}
+use Rattle.bitstream_io.specs.ReadTable.{unsigned_decoder, signed_decoder, unary_decoder, vbr_decoder, any_vbr_decoder, signed_vbr_decoder, bytes_decoder, skip_decoder, align_decoder}
+use Rattle.bitstream_io.specs.Sequence.{read_sequence}
 use Rattle.bitstream_io.specs.Fault.{read_refusal_of}
 use Rattle.bitstream_io.specs.Refusal.{Refusal, IsTrueEnd, MayRefuseRead}
 use Rattle.bitstream_io.specs.Streams.{InputStream}
@@ -47,21 +47,21 @@ abbrev pub IsReadReason : Error → Reason → Type 0
 IsReadReason error why = why ≡ read_reason error
 
 -- the read call of a field, which answers the field's value, if it has one, or why its bits are wrong
-abbrev pub field_read : Order → Field → ReadEntry (Result (Option FieldValue) Reason)
-field_read o (Unsigned n) = chain (unsigned_entry o 128 n) (λ v. gives (Ok (Some (Value.Unsigned v))))
-field_read o (Signed n) = chain (signed_entry o 128 n) (λ x. gives (Ok (Some (Value.Signed x))))
-field_read o (Unary stop) = chain (unary_entry stop) (λ v. gives (Ok (Some (Value.Unsigned v))))
-field_read o (Variable size) = chain (vbr_entry o (group_bits size) 64 (2 ^ 64))
-    (λ v. gives (Ok (Some (Value.Unsigned v))))
-field_read o (Lenient size) = chain (any_vbr_entry o (group_bits size) 64 (2 ^ 64))
-    (λ v. gives (Ok (Some (Value.Unsigned v))))
-field_read o (SignedVariable size) = chain (signed_vbr_entry o (group_bits size) 64)
-    (λ x. gives (Ok (Some (Value.Signed x))))
-field_read o (Bytes n) = chain (bytes_entry o n) (λ bytes. gives (Ok (Some (Value.Bytes bytes))))
-field_read o (Constant n v) = chain (unsigned_entry o 32 n)
-    (λ u. gives (if u == v then Ok None else Err ConstantDiffers))
-field_read o (Padding n) = chain (skip_entry n) (λ _. gives (Ok None))
-field_read o Align = chain align_entry (λ _. gives (Ok None))
+abbrev pub field_read : Order → Field → Decoder (Result (Option FieldValue) Reason)
+field_read o (Unsigned n) = and_then (unsigned_decoder o 128 n) (λ v. pure (Ok (Some (Value.Unsigned v))))
+field_read o (Signed n) = and_then (signed_decoder o 128 n) (λ x. pure (Ok (Some (Value.Signed x))))
+field_read o (Unary stop) = and_then (unary_decoder stop) (λ v. pure (Ok (Some (Value.Unsigned v))))
+field_read o (Variable size) = and_then (vbr_decoder o (group_bits size) 64 (2 ^ 64))
+    (λ v. pure (Ok (Some (Value.Unsigned v))))
+field_read o (Lenient size) = and_then (any_vbr_decoder o (group_bits size) 64 (2 ^ 64))
+    (λ v. pure (Ok (Some (Value.Unsigned v))))
+field_read o (SignedVariable size) = and_then (signed_vbr_decoder o (group_bits size) 64)
+    (λ x. pure (Ok (Some (Value.Signed x))))
+field_read o (Bytes n) = and_then (bytes_decoder o n) (λ bytes. pure (Ok (Some (Value.Bytes bytes))))
+field_read o (Constant n v) = and_then (unsigned_decoder o 32 n)
+    (λ u. pure (if u == v then Ok None else Err ConstantDiffers))
+field_read o (Padding n) = and_then (skip_decoder n) (λ _. pure (Ok None))
+field_read o Align = and_then align_decoder (λ _. pure (Ok None))
 
 -- the number of bytes that are read for a field, as bytes
 abbrev pub byte_count : Field → ℕ
@@ -75,24 +75,24 @@ asks_memory field = false
 
 -- the read call of each field, in an order of bits
 abbrev pub FieldCalls : Type 0
-FieldCalls = Order → Field → ReadEntry (Result (Option FieldValue) Reason)
+FieldCalls = Order → Field → Decoder (Result (Option FieldValue) Reason)
 
 -- what the answers of the fields' read calls come to; the fields are numbered from k on
-abbrev pub answered : ℕ → List Field → ℕ → List (Result (Result (Option FieldValue) Reason) Error × ℕ) → Unpacked
-answered k [] at answers = Unpacks [] at
-answered k (field ∷ fields) at [] = Stops (fault k BitsEnded)
-answered k (field ∷ fields) at ((Ok (Ok v), next) ∷ answers) =
-    values_and (value_list v) (answered (k + 1) fields next answers)
-answered k (field ∷ fields) at ((Ok (Err why), next) ∷ answers) = Stops (fault k why)
-answered k (field ∷ fields) at ((Err e, next) ∷ answers) = Stops (fault k (read_reason e))
+abbrev pub unpack_answers : ℕ → List Field → ℕ → List (Result (Result (Option FieldValue) Reason) Error × ℕ) → Unpacked
+unpack_answers k [] at answers = Unpacks [] at
+unpack_answers k (field ∷ fields) at [] = Stops (fault k BitsEnded)
+unpack_answers k (field ∷ fields) at ((Ok (Ok v), next) ∷ answers) =
+    values_and (value_list v) (unpack_answers (k + 1) fields next answers)
+unpack_answers k (field ∷ fields) at ((Ok (Err why), next) ∷ answers) = Stops (fault k why)
+unpack_answers k (field ∷ fields) at ((Err e, next) ∷ answers) = Stops (fault k (read_reason e))
 
 -- what the bits from a place on say for fields, which are numbered from k on, by the fields' read calls
 abbrev pub says_by : FieldCalls → Order → ℕ → List Field → ℕ → List Bool → Unpacked
-says_by calls o k fields at bits = answered k fields at (read_run (map (calls o) fields) at bits)
+says_by calls o k fields at bits = unpack_answers k fields at (read_sequence (map (calls o) fields) at bits)
 
 -- what the bits from a place on say for fields, which are numbered from k on
-abbrev pub unpacked : Order → ℕ → List Field → ℕ → List Bool → Unpacked
-unpacked o k fields at bits = says_by field_read o k fields at bits
+abbrev pub unpack_bits : Order → ℕ → List Field → ℕ → List Bool → Unpacked
+unpack_bits o k fields at bits = says_by field_read o k fields at bits
 
 -- ---- from a reader
 
@@ -183,26 +183,26 @@ pub record UnpackedBytes (o : Order) (fields : List Field) (old : Option (List �
   pub len : ℕ
   pub taken : TakesLeastBytes old gone len new
   pub values : List FieldValue
-  pub says : (more : List Bool) → unpacked o 1 fields 0 (bits o gone ++ more) ≡ Unpacks values len
+  pub says : (more : List Bool) → unpack_bits o 1 fields 0 (bits o gone ++ more) ≡ Unpacks values len
   pub prints : text ≡ printed_lines values
 
 -- The bytes taken say the fault. They hold the bits of the fields before, and those that the read call of its own field
 -- takes to tell its reason, and no more.
 pub record ToldBytes (calls : FieldCalls) (o : Order) (fields : List Field) (old : Option (List ℕ)) (f : Fault)
     (new : Option (List ℕ)) : Type 0 where
-  pub front : List Field
+  pub prefix : List Field
   pub here : Field
   pub back : List Field
-  pub parts : fields ≡ front ++ here ∷ back
+  pub parts : fields ≡ prefix ++ here ∷ back
   pub why : Reason
-  pub reason : f ≡ fault (1 + length front) why
+  pub reason : f ≡ fault (1 + length prefix) why
   pub gone : List ℕ
   pub values : List FieldValue
   pub at : ℕ
-  pub before : says_by calls o 1 front 0 (bits o gone) ≡ Unpacks values at
+  pub before : says_by calls o 1 prefix 0 (bits o gone) ≡ Unpacks values at
   pub len : ℕ
   pub answer : Result (Result (Option FieldValue) Reason) Error
-  pub found : (calls o here).reads at (drop at (bits o gone)) ≡ Takes len answer
+  pub found : (calls o here).reads at (drop at (bits o gone)) ≡ Done len answer
   pub tells : TellsReason answer why
   pub taken : TakesLeastBytes old gone (at + len) new
   pub says : (more : List Bool) → says_by calls o 1 fields 0 (bits o gone ++ more) ≡ Stops f
@@ -211,34 +211,34 @@ pub record ToldBytes (calls : FieldCalls) (o : Order) (fields : List Field) (old
 -- the fields before it, and no more.
 pub record LineRefusedBytes (calls : FieldCalls) (o : Order) (fields : List Field) (old : Option (List ℕ)) (f : Fault)
     (new : Option (List ℕ)) : Type 0 where
-  pub front : List Field
+  pub prefix : List Field
   pub here : Field
   pub back : List Field
-  pub parts : fields ≡ front ++ here ∷ back
-  pub reason : f ≡ fault (1 + length front) OutOfMemory
+  pub parts : fields ≡ prefix ++ here ∷ back
+  pub reason : f ≡ fault (1 + length prefix) OutOfMemory
   pub gone : List ℕ
   pub len : ℕ
   pub taken : TakesLeastBytes old gone len new
   pub values : List FieldValue
   pub at : ℕ
-  pub before : says_by calls o 1 front 0 (bits o gone) ≡ Unpacks values at
+  pub before : says_by calls o 1 prefix 0 (bits o gone) ≡ Unpacks values at
   pub value : FieldValue
-  pub says : says_by calls o 1 (front ++ here ∷ []) 0 (bits o gone) ≡ Unpacks (values ++ value ∷ []) len
+  pub says : says_by calls o 1 (prefix ++ here ∷ []) 0 (bits o gone) ≡ Unpacks (values ++ value ∷ []) len
 
 -- Memory for the bytes of a field was refused. The bytes taken hold the bits of the fields before it, and no more.
 pub record BufferRefusedBytes (calls : FieldCalls) (o : Order) (fields : List Field) (old : Option (List ℕ)) (f : Fault)
     (new : Option (List ℕ)) : Type 0 where
-  pub front : List Field
+  pub prefix : List Field
   pub here : Field
   pub back : List Field
-  pub parts : fields ≡ front ++ here ∷ back
+  pub parts : fields ≡ prefix ++ here ∷ back
   pub asks : asks_memory here ≡ true
-  pub reason : f ≡ fault (1 + length front) OutOfMemory
+  pub reason : f ≡ fault (1 + length prefix) OutOfMemory
   pub gone : List ℕ
   pub len : ℕ
   pub taken : TakesLeastBytes old gone len new
   pub values : List FieldValue
-  pub before : says_by calls o 1 front 0 (bits o gone) ≡ Unpacks values len
+  pub before : says_by calls o 1 prefix 0 (bits o gone) ≡ Unpacks values len
 
 -- memory was refused for the value or the line of a field, or for its bytes
 abbrev pub MemoryRefusedBytes : FieldCalls → Order → List Field → Option (List ℕ) → Fault → Option (List ℕ) → Type 0
@@ -276,10 +276,10 @@ UnpacksBytes I o fields old (Err f) new =
 pub record SaidBytes (o : Order) (fields : List Field) (xs text : List ℕ) : Type 0 where
   pub values : List FieldValue
   pub len : ℕ
-  pub says : unpacked o 1 fields 0 (bits o xs) ≡ Unpacks values len
+  pub says : unpack_bits o 1 fields 0 (bits o xs) ≡ Unpacks values len
   pub prints : text ≡ printed_lines values
 
 -- the lines or the fault that all bytes of a stream say, refused memory aside
 abbrev pub IsSaid : Order → List Field → List ℕ → Result (List ℕ) Fault → Type 0
 IsSaid o fields xs (Ok text) = SaidBytes o fields xs text
-IsSaid o fields xs (Err f) = (f.reason ≡ OutOfMemory) ⊎ (unpacked o 1 fields 0 (bits o xs) ≡ Stops f)
+IsSaid o fields xs (Err f) = (f.reason ≡ OutOfMemory) ⊎ (unpack_bits o 1 fields 0 (bits o xs) ≡ Stops f)

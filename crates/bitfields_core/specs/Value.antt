@@ -17,13 +17,13 @@ use Rattle.bitfields_core.specs.Fault.{fault}
 use Rattle.bitfields_core.specs.Layout.{one_more}
 
 -- the parts, without an empty last one
-abbrev pub ended : List (List ℕ) → List (List ℕ)
-ended parts =
+abbrev pub without_empty_last : List (List ℕ) → List (List ℕ)
+without_empty_last parts =
     if length (slice_index_or parts (length parts - 1) []) == 0 then take (length parts - 1) parts else parts
 
 -- the lines of an input: each ends in LF, which the last may lack
 abbrev pub lines : List ℕ → List (List ℕ)
-lines input = ended (slice_split (λ b. b == 10) input)
+lines input = without_empty_last (slice_split (λ b. b == 10) input)
 
 -- what the value of a field is
 abbrev pub value_kind : Field → ValueKind

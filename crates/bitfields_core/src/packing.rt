@@ -4,7 +4,7 @@ ghost use Rattle.std.specs.Prelude.{◌≡◌, false, None, [], ◌∷◌, ◌++
 ghost use Rattle.bitstream_io.specs.Sink.{Writes, WritesAll};
 ghost use Rattle.bitstream_io.specs.WriteTable.{align, unary_word, vbr, signed_vbr};
 ghost use Rattle.bitfields_core.specs.Layout.{group_bits};
-ghost use Rattle.bitfields_core.specs.Packing.{field_write, field_writes, packed, WritesBits, write_reason as write_reason_of, Packs, PacksValues};
+ghost use Rattle.bitfields_core.specs.Packing.{field_write, field_writes, packed_bits, WritesBits, write_reason as write_reason_of, Packs, PacksValues};
 ghost use Rattle.bitfields_core.specs.Value.{lines as lines_of, values as values_of, FitsField, Fit};
 
 use crate::fault::{Fault, Reason};
@@ -75,7 +75,7 @@ pub fn pack_to<W: BitWrite>(
     ensures calls { WritesAll W.sink (field_writes W.sink.order layout.now values.now ++ align ∷ [])
         writer.old result writer.new }
     ensures adds { W.sink.failed writer.old ≡ false → W.sink.limit ≡ None
-        → WritesBits W.sink (packed W.sink.order layout.now values.now (W.sink.len writer.old))
+        → WritesBits W.sink (packed_bits W.sink.order layout.now values.now (W.sink.len writer.old))
         writer.old result writer.new }
 {
     append_fields(layout.fields(), values, writer)?;

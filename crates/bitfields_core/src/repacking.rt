@@ -1,7 +1,7 @@
 //! Repacking: packed bytes, read and packed again.
 
 ghost use Rattle.std.specs.Prelude.{◌≡◌, ℕ, List, Some, IfOk};
-ghost use Rattle.bitstream_io.specs.Gather.{seen};
+ghost use Rattle.bitstream_io.specs.Gather.{result_map};
 ghost use Rattle.bitstream_io.specs.Refusal.{MayRefuseRead, TrueEnds};
 ghost use Rattle.bitfields_core.specs.Layout.{IsLayout};
 ghost use Rattle.bitfields_core.specs.Repacking.{Ends, IsRepacked, ReadsPackedBytes, Repacks};
@@ -54,7 +54,7 @@ fn read_packed<E: Endianness, R: Source>(
     input: &mut R,
 ) -> Result<Vec<FieldValue>, Fault>
     ensures reads { ReadsPackedBytes R.stream E.order layout.now
-        input.old (seen (λ v. v.items) result) input.new }
+        input.old (result_map (λ v. v.items) result) input.new }
     ensures fit { IfOk result (λ v. Fit layout.now v.items) }
     ensures is_layout { IsLayout layout.now }
 {

@@ -4,7 +4,7 @@ ghost use Rattle.std.specs.Prelude.{◌≡◌, ◌+◌, ◌++◌, [], ◌∷◌,
 ghost use Rattle.std.specs.List.{All};
 ghost use Rattle.bitfields_core.specs.Fault.{fault};
 ghost use Rattle.bitfields_core.specs.Layout.{IsField, IsLayout, IsUnlessMemory};
-ghost use Rattle.bitstream_io.specs.Gather.{seen};
+ghost use Rattle.bitstream_io.specs.Gather.{result_map};
 ghost use Rattle.bitfields_core.specs.Value.{lines as lines_of, values as values_of, value_in as value_in_of, value_count as value_count_of, Fit, value_list};
 
 use crate::fault::{Fault, Reason};
@@ -21,7 +21,7 @@ use std::alloc::Global;
 /// Those of [`pack`](crate::pack), before it writes.
 pub fn values(alloc: Global, layout: &Layout, input: &[u8]) -> Result<Vec<FieldValue>, Fault>
     ensures values { IsUnlessMemory (values_of 1 layout.now (lines_of input.now))
-        (seen (λ v. v.items) result) }
+        (result_map (λ v. v.items) result) }
     ensures fit { IfOk result (λ v. Fit layout.now v.items) }
 {
     let lines = lines(alloc, input)?;
@@ -31,7 +31,7 @@ pub fn values(alloc: Global, layout: &Layout, input: &[u8]) -> Result<Vec<FieldV
 fn read_values(alloc: Global, fields: &[Field], lines: &[&[u8]]) -> Result<Vec<FieldValue>, Fault>
     requires { IsLayout fields.now }
     ensures { IsUnlessMemory (values_of 1 fields.now (map (λ x. x.now) lines.now))
-        (seen (λ v. v.items) result) }
+        (result_map (λ v. v.items) result) }
 {
     let mut values = Vec::new(alloc);
     let mut rest = lines;

@@ -49,7 +49,7 @@ fn lends_the_stream_of_a_reader(rt: HostRuntime) {
 }
 
 /// Whether a reader that took 12 bits, and one that met the end, go back to the start.
-fn goes_back<R: SeekSource>(reader: &mut BitReader<R, BE>, bits: u32) -> [bool; 7] {
+fn round_trip<R: SeekSource>(reader: &mut BitReader<R, BE>, bits: u32) -> [bool; 7] {
     [
         gives(reader.read_unsigned_var(bits), 0xb1e_u16),
         gives(reader.position_in_bits(), 12),
@@ -64,7 +64,7 @@ fn goes_back<R: SeekSource>(reader: &mut BitReader<R, BE>, bits: u32) -> [bool; 
 /// The width of the words is known only as the program runs.
 #[test]
 fn seeks_in_memory(rt: HostRuntime) {
-    each_holds(&rt, &goes_back(&mut BitReader::new(Slice::new(&D)), 12));
+    each_holds(&rt, &round_trip(&mut BitReader::new(Slice::new(&D)), 12));
 }
 
 /// Takes a writer by value.

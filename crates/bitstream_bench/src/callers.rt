@@ -50,7 +50,7 @@ const WHOLE_BLOCK: [u8; 34] = [
 ];
 
 /// Whether a block goes back to the bytes.
-fn goes_back(block: &StreamInfo) -> bool {
+fn round_trip(block: &StreamInfo) -> bool {
     let mut built = [0; 34];
     let mut writer = BitWriter::<_, BE>::new(SliceMut::new(&mut built));
     writer.build(block).is_ok() & (built == WHOLE_BLOCK)
@@ -138,7 +138,7 @@ fn parses_and_builds_a_stream_info(rt: HostRuntime) {
     let block: StreamInfo = reader.parse().expect(&rt, "a block");
     same(&rt, fields(&block), FIELDS);
     are(&rt, &block.checksum, &WHOLE_BLOCK[18..]);
-    holds(&rt, goes_back(&block) & has_272_bits(&block));
+    holds(&rt, round_trip(&block) & has_272_bits(&block));
     parses_up_to_each(&rt, &block, &READ);
     builds_up_to_each(&rt, rt.alloc(), &block, &WRITTEN);
 }

@@ -29,10 +29,10 @@ fn reads<R: BitRead + Drop>(mut reader: R, bits: u32, number: u8, buf: &mut [u8]
 fn lent_readers_read(rt: HostRuntime) {
     let mut bytes = [0; 2];
     let mut reader = BitReader::<_, BE>::new(counted(D.as_slice()));
-    let front = reads(reader.by_ref(), 4, 11, &mut bytes);
+    let prefix = reads(reader.by_ref(), 4, 11, &mut bytes);
     let behind = gives(reader.read_unsigned_var(8), 0xbc_u8);
     let requests = reader.into_reader().requests;
-    each_holds(&rt, &[front, bytes == [0x1e, 0xd3], behind, requests == 3]);
+    each_holds(&rt, &[prefix, bytes == [0x1e, 0xd3], behind, requests == 3]);
     let mut many = [0; 4096];
     let mut reader = BitReader::<_, BE>::new(counted(MANY.as_slice()));
     let all = reads(reader.by_ref(), 0, 0, &mut many);
@@ -48,10 +48,10 @@ fn writes<W: BitWrite + Drop>(mut writer: W, bits: u32, number: u8, bytes: &[u8]
 #[test]
 fn lent_writers_write(rt: HostRuntime) {
     let mut writer = BitWriter::<_, BE>::new(counted(Vec::new(rt.alloc())));
-    let front = writes(writer.by_ref(), 4, 11, &[0x1e, 0xd3]);
+    let prefix = writes(writer.by_ref(), 4, 11, &[0x1e, 0xd3]);
     let behind = writer.write_unsigned_var(12, 0xbc1_u16).is_ok();
     let stream = writer.into_writer();
-    each_holds(&rt, &[front, behind, stream.requests == 2]);
+    each_holds(&rt, &[prefix, behind, stream.requests == 2]);
     are(&rt, &stream.inner, &D);
     let mut writer = BitWriter::<_, BE>::new(counted(Vec::new(rt.alloc())));
     let all = writes(writer.by_ref(), 0, 0, &MANY);
@@ -74,10 +74,10 @@ fn writes_whole<W: ByteWrite + Drop>(mut writer: W, byte: u8, bytes: &[u8]) -> b
 fn lent_readers_of_bytes_read(rt: HostRuntime) {
     let mut two = [0; 2];
     let mut reader = ByteReader::<_, BE>::new(counted(D.as_slice()));
-    let front = reads_whole(&mut reader, 0xb1, &mut two);
+    let prefix = reads_whole(&mut reader, 0xb1, &mut two);
     let behind = gives(reader.read(), 0xc1_u8);
     let requests = reader.into_reader().requests;
-    each_holds(&rt, &[front, two == [0xed, 0x3b], behind, requests == 3]);
+    each_holds(&rt, &[prefix, two == [0xed, 0x3b], behind, requests == 3]);
     let mut many = [0; 4095];
     let mut reader = ByteReader::<_, BE>::new(counted(MANY.as_slice()));
     let all = reads_whole(&mut reader, 0xa5, &mut many);
@@ -88,10 +88,10 @@ fn lent_readers_of_bytes_read(rt: HostRuntime) {
 #[test]
 fn lent_writers_of_bytes_write(rt: HostRuntime) {
     let mut writer = ByteWriter::<_, BE>::new(counted(Vec::new(rt.alloc())));
-    let front = writes_whole(&mut writer, 0xb1, &[0xed, 0x3b]);
+    let prefix = writes_whole(&mut writer, 0xb1, &[0xed, 0x3b]);
     let behind = writer.write(0xc1_u8).is_ok();
     let stream = writer.into_writer();
-    each_holds(&rt, &[front, behind, stream.requests == 3]);
+    each_holds(&rt, &[prefix, behind, stream.requests == 3]);
     are(&rt, &stream.inner, &D);
     let mut writer = ByteWriter::<_, BE>::new(counted(Vec::new(rt.alloc())));
     let all = writes_whole(&mut writer, 0xa5, &MANY[1..]);

@@ -366,10 +366,10 @@ fn ends_refused(
 ) -> bool {
     let Refusal(refusing, field, written, requests) = refusal;
     let ended = play(alloc, row.0, row.1, false, refused_at(*refusing, kind));
-    let front = row.2.get(..*written).unwrap_or(b"");
+    let prefix = row.2.get(..*written).unwrap_or(b"");
     match format!(in alloc; "{field}: {reason}") {
         Ok(fault) => {
-            ends(alloc, &ended, 5, front, fault.as_str()) & (ended.requests == *requests)
+            ends(alloc, &ended, 5, prefix, fault.as_str()) & (ended.requests == *requests)
         }
         Err(_) => false,
     }

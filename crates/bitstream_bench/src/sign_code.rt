@@ -2,7 +2,7 @@
 ghost use Rattle.bitstream_io.specs.Reads.{Reads};
 ghost use Rattle.bitstream_io.specs.Sink.{WritesAll};
 ghost use Rattle.bitstream_io.specs.Tree.{bit_by_bit};
-ghost use Rattle.bitstream_bench.specs.SignCode.{sign_entry, sign_word};
+ghost use Rattle.bitstream_bench.specs.SignCode.{sign_decoder, sign_word};
 
 use bitstream_io::huffman::{FromBits, NextBit, PutBit, ToBits};
 use bitstream_io::{BitRead, BitReadExt, BitWrite, BitWriteExt, Error};
@@ -14,7 +14,7 @@ struct SignCode;
 impl FromBits for SignCode {
     type Symbol = Option<bool>;
 
-    ghost entry = { λ _. sign_entry };
+    ghost decoder = { λ _. sign_decoder };
 
     fn from_bits<N: NextBit>(&self, next: &mut N) -> Result<Option<bool>, Error> {
         if next.next_bit()? {
@@ -48,7 +48,7 @@ impl ToBits for SignCode {
 ///
 /// Those of the reader.
 pub fn read_sign<R: BitRead>(reader: &mut R) -> Result<Option<bool>, Error>
-    ensures reads { Reads R.source sign_entry reader.old result reader.new }
+    ensures reads { Reads R.source sign_decoder reader.old result reader.new }
 {
     reader.read_huffman(&SignCode)
 }

@@ -63,12 +63,12 @@ fn goes_in<E: Endianness + Drop>(
         requests: 0,
         refused: 0,
     });
-    let front = reader.read_unsigned_var::<u8>(place).is_ok();
+    let prefix = reader.read_unsigned_var::<u8>(place).is_ok();
     let same = match form {
         Form::Primitive => reads_primitive(&mut reader, bytes),
         Form::Vector => reads_vector(alloc, &mut reader, bytes),
     };
-    written & front & same & (reader.into_reader().requests == requests)
+    written & prefix & same & (reader.into_reader().requests == requests)
 }
 
 /// What bytes are read as, behind how many bits, how many there are, and how many requests that takes.

@@ -18,7 +18,7 @@ const FRONT: u8 = 0x5b;
 struct Shape {
     /// Whether the highest digit of a word comes first.
     high_first: bool,
-    /// How many digits stand in front.
+    /// How many digits stand in prefix.
     queued: u32,
     /// How many bits the word has.
     width: u32,
@@ -34,7 +34,7 @@ impl Shape {
     }
 
     /// Returns the digits in front of the word.
-    fn front(self) -> u128 {
+    fn prefix(self) -> u128 {
         Shape::lowest(u128::from(FRONT), self.queued)
     }
 
@@ -99,7 +99,7 @@ fn write_words<N: Numeric + Integer, W: BitWrite>(writer: &mut W, shape: Shape) 
     let mut written = true;
     for digit in 0..shape.width.saturating_add(1) {
         written &= writer
-            .write_unsigned_var(shape.queued, shape.front())
+            .write_unsigned_var(shape.queued, shape.prefix())
             .is_ok()
             & writer
                 .write_var(shape.width, shape.value::<N>(digit))
@@ -122,7 +122,7 @@ fn write_bits<W: BitWrite>(writer: &mut W, shape: Shape, number: u128, bits: u32
 fn write_singly<W: BitWrite>(writer: &mut W, shape: Shape) -> bool {
     let mut written = true;
     for digit in 0..shape.width.saturating_add(1) {
-        written &= write_bits(writer, shape, shape.front(), shape.queued)
+        written &= write_bits(writer, shape, shape.prefix(), shape.queued)
             & write_bits(writer, shape, shape.turned(digit), shape.width)
             & writer.byte_align().is_ok();
     }
@@ -142,7 +142,7 @@ fn has_bits<R: BitRead>(reader: &mut R, shape: Shape, number: u128, bits: u32) -
 fn reads_singly<R: BitRead>(reader: &mut R, shape: Shape) -> bool {
     let mut same = true;
     for digit in 0..shape.width.saturating_add(1) {
-        same &= has_bits(reader, shape, shape.front(), shape.queued)
+        same &= has_bits(reader, shape, shape.prefix(), shape.queued)
             & has_bits(reader, shape, shape.turned(digit), shape.width);
         reader.byte_align();
     }
@@ -154,7 +154,7 @@ fn reads_singly<R: BitRead>(reader: &mut R, shape: Shape) -> bool {
 fn reads_words<N: Numeric + Integer, R: BitRead>(reader: &mut R, shape: Shape) -> bool {
     let mut same = true;
     for digit in 0..shape.width.saturating_add(1) {
-        same &= gives(reader.read_unsigned_var(shape.queued), shape.front())
+        same &= gives(reader.read_unsigned_var(shape.queued), shape.prefix())
             & gives(reader.read_var(shape.width), shape.value::<N>(digit));
         reader.byte_align();
     }

@@ -1,7 +1,7 @@
 //! Numbers of a known length, which are there if so many bits are left.
 ghost use Rattle.std.specs.Prelude.{◌≡◌, ◌≤◌, false, length, IfSome, IsOk};
 ghost use Rattle.bitstream_io.specs.Callers.{Reads, High, bits_left, memory_source};
-ghost use Rattle.bitstream_callers.specs.Axes.{axes_entry};
+ghost use Rattle.bitstream_callers.specs.Axes.{axes_decoder};
 
 use bitstream_io::{BE, BitRead, Error, SliceReader};
 
@@ -10,7 +10,7 @@ use bitstream_io::{BE, BitRead, Error, SliceReader};
 pub struct Axes {
     /// To the right.
     pub x: u16,
-    /// To the front.
+    /// To the prefix.
     pub y: u16,
     /// Up.
     pub z: u16,
@@ -23,7 +23,7 @@ pub struct Axes {
 /// Those of the reader.
 pub fn read_axes(reader: &mut SliceReader<'_, BE>) -> Result<Axes, Error>
     // Takes just 36 bits and answers their numbers, or answers an error.
-    ensures reads { Reads (memory_source High) axes_entry reader.old result reader.new }
+    ensures reads { Reads (memory_source High) axes_decoder reader.old result reader.new }
     // If 36 bits are left to a reader that has not failed, it answers no error.
     ensures done { ((memory_source High).state reader.old).failed ≡ false
         → IfSome (bits_left High ((memory_source High).state reader.old))

@@ -1,14 +1,14 @@
 //! The first message of a TLS connection.
 //!
 //! Made by `./format` from formats/client_hello.fields: edit that file and make this one anew.
-ghost use Rattle.bitstream_callers.specs.ClientHello.{client_hello_entry, client_hello_writes, client_hello_size, client_hello_bits, Fits, becomes_client_hello, compression_of, compression_number, compression_read};
+ghost use Rattle.bitstream_callers.specs.ClientHello.{client_hello_decoder, client_hello_writes, client_hello_size, client_hello_bits, Fits, becomes_client_hello, compression_of, compression_number, compression_read};
 ghost use Rattle.bitstream_callers.specs.declared.client_hello.ClientHello.{ClientHello};
 ghost use Rattle.bitstream_callers.specs.declared.client_hello.ClientHelloError.{ClientHelloError};
 ghost use Rattle.bitstream_callers.specs.declared.client_hello.ClientHelloError.TheVariants.{Reader};
 ghost use Rattle.std.specs.Prelude.{◌≡◌, ◌<◌, ◌≤◌, ◌*◌, ◌++◌, ◌∷◌, [], ◌⊎◌, ℕ, Bool, true, List, Ok, Err, length, IfOk, IsOk};
 ghost use Rattle.std.specs.List.{flat_map};
 ghost use Rattle.std.specs.declared.io.ErrorKind.TheVariants.{WriteZero};
-ghost use Rattle.bitstream_io.specs.Callers.{Takes, Error, Order, High, bits, unsigned, write_run, ReadsOwn, OwnAnswer, WritesAll, AllAccepted, run_length, sure_answer, GrowsOwn, MayAllocate, OutOfMemory, Stream, seen, same_error, parts_entry};
+ghost use Rattle.bitstream_io.specs.Callers.{Done, Error, Order, High, bits, unsigned, write_sequence, ReadsOwn, OwnAnswer, WritesAll, AllAccepted, sequence_length, sure_answer, GrowsOwn, MayAllocate, OutOfMemory, Stream, result_map, same_error, parts_decoder};
 ghost use Rattle.bitstream_io.specs.SliceMut.{HoldsFirst, written_bytes};
 
 use bitstream_io::{
@@ -160,8 +160,8 @@ fn read_compressions<R: BitRead>(
     alloc: Global,
     count: u64,
 ) -> Result<Vec<Compression>, ClientHelloError>
-    ensures { GrowsOwn R.source becomes_client_hello (parts_entry (compression_read R.source.order) count)
-        reader.old (seen (λ found. found.items) result) reader.new }
+    ensures { GrowsOwn R.source becomes_client_hello (parts_decoder (compression_read R.source.order) count)
+        reader.old (result_map (λ found. found.items) result) reader.new }
 {
     let mut found = Vec::new(alloc);
     for _ in 0..count {
@@ -190,7 +190,7 @@ impl ClientHello {
     /// `Reader(OutOfMemory)` if memory for a list is refused, behind the items before.
     /// Else those of the reader: after each of them it has failed.
     pub fn read<R: BitRead>(reader: &mut R, alloc: Global) -> Result<ClientHello, ClientHelloError>
-        ensures { GrowsOwn R.source becomes_client_hello (client_hello_entry R.source.order) reader.old result reader.new }
+        ensures { GrowsOwn R.source becomes_client_hello (client_hello_decoder R.source.order) reader.old result reader.new }
     {
         reader.read_const::<Bits<8>, Bits<1>, ClientHelloError>(ClientHelloError::OtherMessage)?;
         let size = reader.read::<Bits<24>, u32>()?;
@@ -223,15 +223,15 @@ impl ClientHello {
     /// `Reader(OutOfMemory)` if memory for an item of a list is refused.
     pub fn parse(packet: &[u8], alloc: Global) -> Result<ClientHello, ClientHelloError>
         ensures answer { (OwnAnswer becomes_client_hello (λ answer. answer)
-            (sure_answer ((client_hello_entry High).reads 0 (bits High packet.now))) result)
+            (sure_answer ((client_hello_decoder High).reads 0 (bits High packet.now))) result)
             ⊎ ((result ≡ Err (ClientHelloError.Reader OutOfMemory))
-            × MayAllocate (client_hello_entry High) 0 (bits High packet.now)) }
+            × MayAllocate (client_hello_decoder High) 0 (bits High packet.now)) }
         ensures back { (value : ClientHello) (more : List Bool) → Fits value
-            → bits High packet.now ≡ write_run (client_hello_writes High value) 0 ++ more
+            → bits High packet.now ≡ write_sequence (client_hello_writes High value) 0 ++ more
             → (result ≡ Ok value)
             ⊎ (result ≡ Err (ClientHelloError.Reader OutOfMemory)) }
     {
-        client_hello_goes_back();
+        client_hello_round_trip();
         ClientHello::read(&mut BitReader::<_, BE>::over(packet), alloc)
     }
 
@@ -271,7 +271,7 @@ impl ClientHello {
         ensures packed { IfOk result (λ packed. bits High (written_bytes packed) ≡ client_hello_bits self.now) }
         ensures first { IfOk result (HoldsFirst buffer.entry.ghost_name buffer.old) }
         ensures accepted { IsOk result → AllAccepted (client_hello_writes High self.now) 0 }
-        ensures misfit { (error : Error) → run_length (client_hello_writes High self.now) 0 ≡ Err error
+        ensures misfit { (error : Error) → sequence_length (client_hello_writes High self.now) 0 ≡ Err error
             → result ≡ Err error }
         ensures room { Fits self.now → client_hello_size High self.now ≤ 8 * length buffer.old
             → IsOk result }
@@ -291,7 +291,7 @@ impl FromBitStreamUsing for ClientHello {
 
     ghost becomes = { becomes_client_hello };
 
-    ghost reads = { λ o _. client_hello_entry o };
+    ghost reads = { λ o _. client_hello_decoder o };
 
     fn from_reader<R: BitRead>(
         reader: &mut R,
@@ -315,10 +315,10 @@ impl ToBitStream for ClientHello {
 
 /// What fits its bits is read back as it was written, in either order of bits, wherever it stands.
 /// The read takes the bits that were written, and no more: as many as `client_hello_size` says.
-pub fn client_hello_goes_back()
+pub fn client_hello_round_trip()
     ensures back { (o : Order) (value : ClientHello) (at from : ℕ) (more : List Bool) → Fits value
-        → let written = write_run (client_hello_writes o value) at in
-        (client_hello_entry o).reads from (written ++ more) ≡ Takes (length written) (Ok (Ok value)) }
+        → let written = write_sequence (client_hello_writes o value) at in
+        (client_hello_decoder o).reads from (written ++ more) ≡ Done (length written) (Ok (Ok value)) }
     ensures size { (o : Order) (value : ClientHello) (at : ℕ) → Fits value
-        → length (write_run (client_hello_writes o value) at) ≡ client_hello_size o value }
+        → length (write_sequence (client_hello_writes o value) at) ≡ client_hello_size o value }
 {}

@@ -1,7 +1,7 @@
 //! The picture of a FLAC file, as types that own memory and say how they are read and written. Their
 //! calls stand one behind the other.
 ghost use Rattle.std.specs.Prelude.{◌≡◌, ◌++◌, true, ℕ, Bool, List, length, Ok};
-ghost use Rattle.bitstream_io.specs.Callers.{same_error, WritesAll, Order, Takes, write_run};
+ghost use Rattle.bitstream_io.specs.Callers.{same_error, WritesAll, Order, Done, write_sequence};
 ghost use Rattle.bitstream_callers.specs.Picture.{counted_reads, counted_writes, picture_reads, picture_writes, size_reads, size_writes, IsPicture};
 ghost use Rattle.bitstream_callers.specs.declared.picture.Picture.{Picture};
 
@@ -117,7 +117,7 @@ impl ToBitStream for PictureSize {
 /// A picture, as a file has it.
 #[derive(Drop)]
 pub struct Picture {
-    /// What it shows: 3 for a front cover.
+    /// What it shows: 3 for a prefix cover.
     pub kind: u32,
     /// The name of its format, as `image/png`.
     pub media: CountedBytes,
@@ -171,6 +171,6 @@ impl ToBitStream for Picture {
 /// it stands. The read takes the bits that were written, and no more.
 pub fn pictures_go_back()
     ensures { (o : Order) (picture : Picture) (at from : ℕ) (more : List Bool) → IsPicture picture
-        → let word = write_run (picture_writes o picture) at in
-        (picture_reads o).reads from (word ++ more) ≡ Takes (length word) (Ok (Ok picture)) }
+        → let word = write_sequence (picture_writes o picture) at in
+        (picture_reads o).reads from (word ++ more) ≡ Done (length word) (Ok (Ok picture)) }
 {}

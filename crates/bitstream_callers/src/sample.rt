@@ -1,11 +1,11 @@
 //! What a vehicle's telemetry measured at one time.
 //!
 //! Made by `./format` from formats/sample.fields: edit that file and make this one anew.
-ghost use Rattle.bitstream_callers.specs.Sample.{sample_entry, sample_writes, sample_bits, sample_at, Fits};
+ghost use Rattle.bitstream_callers.specs.Sample.{sample_decoder, sample_writes, sample_bits, sample_at, Fits};
 ghost use Rattle.bitstream_callers.specs.declared.sample.Sample.{Sample};
 ghost use Rattle.std.specs.Prelude.{◌≡◌, ◌<◌, ◌≤◌, ◌++◌, ℕ, Bool, List, Ok, Err, length, IfOk, IsOk};
 ghost use Rattle.std.specs.declared.io.ErrorKind.TheVariants.{WriteZero};
-ghost use Rattle.bitstream_io.specs.Callers.{Takes, Error, EndOfInput, Order, High, bits, write_run, Reads, WritesAll, run_length, sure_answer, Stream, same_error, plain_reads};
+ghost use Rattle.bitstream_io.specs.Callers.{Done, Error, EndOfInput, Order, High, bits, write_sequence, Reads, WritesAll, sequence_length, sure_answer, Stream, same_error, plain_reads};
 ghost use Rattle.bitstream_io.specs.SliceMut.{HoldsFirst, written_bytes};
 
 use bitstream_io::{
@@ -43,7 +43,7 @@ impl Sample {
     ///
     /// Those of the reader: after each of them it has failed.
     pub fn read<R: BitRead>(reader: &mut R) -> Result<Sample, Error>
-        ensures { Reads R.source (sample_entry R.source.order) reader.old result reader.new }
+        ensures { Reads R.source (sample_decoder R.source.order) reader.old result reader.new }
     {
         let seconds = reader.read::<Bits<20>, u32>()?;
         let running = reader.read_bit()?;
@@ -63,13 +63,13 @@ impl Sample {
     ///
     /// `EndOfInput` for fewer than 6 bytes.
     pub fn parse(packet: &[u8]) -> Result<Sample, Error>
-        ensures answer { result ≡ sure_answer ((sample_entry High).reads 0 (bits High packet.now)) }
+        ensures answer { result ≡ sure_answer ((sample_decoder High).reads 0 (bits High packet.now)) }
         ensures there { 6 ≤ length packet.now → result ≡ Ok (sample_at (bits High packet.now)) }
         ensures short { length packet.now < 6 → result ≡ Err EndOfInput }
         ensures back { (value : Sample) (more : List Bool) → Fits value
             → bits High packet.now ≡ sample_bits value ++ more → result ≡ Ok value }
     {
-        sample_goes_back();
+        sample_round_trip();
         Sample::read(&mut BitReader::<_, BE>::over(packet))
     }
 
@@ -101,7 +101,7 @@ impl Sample {
         ensures packed { IfOk result (λ packed. bits High (written_bytes packed) ≡ sample_bits self.now) }
         ensures first { IfOk result (HoldsFirst buffer.entry.ghost_name buffer.old) }
         ensures fits { IsOk result → Fits self.now }
-        ensures misfit { (error : Error) → run_length (sample_writes High self.now) 0 ≡ Err error
+        ensures misfit { (error : Error) → sequence_length (sample_writes High self.now) 0 ≡ Err error
             → result ≡ Err error }
         ensures room { Fits self.now → 6 ≤ length buffer.old → IsOk result }
         ensures short { Fits self.now → length buffer.old < 6 → result ≡ Err (Stream WriteZero) }
@@ -115,7 +115,7 @@ impl FromBitStream for Sample {
 
     ghost becomes = { same_error };
 
-    ghost reads = { λ o. plain_reads (sample_entry o) };
+    ghost reads = { λ o. plain_reads (sample_decoder o) };
 
     fn from_reader<R: BitRead>(reader: &mut R) -> Result<Sample, Error> {
         Sample::read(reader)
@@ -136,10 +136,10 @@ impl ToBitStream for Sample {
 
 /// What fits its bits is read back as it was written, in either order of bits, wherever it stands.
 /// The read takes the bits that were written, and no more: 48 bits.
-pub fn sample_goes_back()
+pub fn sample_round_trip()
     ensures back { (o : Order) (value : Sample) (at from : ℕ) (more : List Bool) → Fits value
-        → let written = write_run (sample_writes o value) at in
-        (sample_entry o).reads from (written ++ more) ≡ Takes (length written) (Ok value) }
+        → let written = write_sequence (sample_writes o value) at in
+        (sample_decoder o).reads from (written ++ more) ≡ Done (length written) (Ok value) }
     ensures size { (o : Order) (value : Sample) (at : ℕ) → Fits value
-        → length (write_run (sample_writes o value) at) ≡ 48 }
+        → length (write_sequence (sample_writes o value) at) ≡ 48 }
 {}

@@ -1,8 +1,8 @@
 //! Samples of 12 bits, in a vector.
 ghost use Rattle.std.specs.Prelude.{◌≡◌, ◌⊎◌, ◌++◌, ◌*◌, ◌^◌, ◌<◌, ◌≤◌, ℕ, Bool, List, Ok, Err, length};
 ghost use Rattle.std.specs.List.{All};
-ghost use Rattle.bitstream_io.specs.Callers.{Takes, EndOfInput, OutOfMemory, seen, Reads, write_run, WritesAll, Order, High, bits};
-ghost use Rattle.bitstream_callers.specs.Samples.{ReadSome, samples_entry, samples_in, samples_writes};
+ghost use Rattle.bitstream_io.specs.Callers.{Done, EndOfInput, OutOfMemory, result_map, Reads, write_sequence, WritesAll, Order, High, bits};
+ghost use Rattle.bitstream_callers.specs.Samples.{ReadSome, samples_decoder, samples_in, samples_writes};
 
 use bitstream_io::{BE, BitRead, BitReadExt, BitReader, BitWrite, BitWriteExt, Bits, Error};
 use std::alloc::Global;
@@ -18,8 +18,8 @@ pub fn read_samples<R: BitRead>(
     reader: &mut R,
     count: usize,
 ) -> Result<Vec<u16>, Error>
-    ensures { Reads R.source (samples_entry R.source.order count)
-        reader.old (seen (λ samples. samples.items) result) reader.new
+    ensures { Reads R.source (samples_decoder R.source.order count)
+        reader.old (result_map (λ samples. samples.items) result) reader.new
         ⊎ ((result ≡ Err OutOfMemory) × ReadSome R.source count reader.old reader.new) }
 {
     let mut samples = Vec::new(alloc);
@@ -37,7 +37,7 @@ pub fn read_samples<R: BitRead>(
 pub fn parse_samples(alloc: Global, bytes: &[u8], count: usize) -> Result<Vec<u16>, Error>
     ensures there { count * 12 ≤ 8 * length bytes.now
         → (result ≡ Err OutOfMemory)
-        ⊎ (seen (λ samples. samples.items) result ≡ Ok (samples_in count (bits High bytes.now))) }
+        ⊎ (result_map (λ samples. samples.items) result ≡ Ok (samples_in count (bits High bytes.now))) }
     ensures short { 8 * length bytes.now < count * 12
         → (result ≡ Err OutOfMemory) ⊎ (result ≡ Err EndOfInput) }
 {
@@ -64,7 +64,7 @@ pub fn write_samples<W: BitWrite>(writer: &mut W, samples: &[u16]) -> Result<(),
 pub fn samples_go_back()
     ensures { (o : Order) (samples : List ℕ) (at from : ℕ) (more : List Bool)
         → All (λ sample. sample < 2 ^ 12) samples
-        → let word = write_run (samples_writes o samples) at in
-        (samples_entry o (length samples)).reads from (word ++ more)
-        ≡ Takes (length word) (Ok samples) }
+        → let word = write_sequence (samples_writes o samples) at in
+        (samples_decoder o (length samples)).reads from (word ++ more)
+        ≡ Done (length word) (Ok samples) }
 {}

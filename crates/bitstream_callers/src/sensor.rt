@@ -1,9 +1,9 @@
 //! A measurement of a wheel's sensor: a unary number, numbers of variable width, and a prefix code.
 ghost use Rattle.std.specs.Prelude.{◌≡◌, ◌++◌, ℕ, Bool, List, Ok, IfOk, length};
-ghost use Rattle.bitstream_io.specs.Callers.{Takes, Reads, sure_answer, write_run, WritesAll, Order, High, bits};
+ghost use Rattle.bitstream_io.specs.Callers.{Done, Reads, sure_answer, write_sequence, WritesAll, Order, High, bits};
 ghost use Rattle.bitstream_io.specs.HuffmanTree.{tree_of};
 ghost use Rattle.bitstream_callers.specs.declared.sensor.Measurement.{Measurement};
-ghost use Rattle.bitstream_callers.specs.Sensor.{Fits, measurement_entry, measurement_writes, state_tree};
+ghost use Rattle.bitstream_callers.specs.Sensor.{Fits, measurement_decoder, measurement_writes, state_tree};
 
 use bitstream_io::huffman::HuffmanTree;
 use bitstream_io::{BE, BitRead, BitReadExt, BitReader, BitWrite, BitWriteExt, Bits, Error};
@@ -63,7 +63,7 @@ impl Measurement {
     /// written so.
     pub fn read<R: BitRead>(code: &StateCode, reader: &mut R) -> Result<Measurement, Error>
         requires { tree_of code.now ≡ state_tree }
-        ensures { Reads R.source (measurement_entry R.source.order) reader.old result reader.new }
+        ensures { Reads R.source (measurement_decoder R.source.order) reader.old result reader.new }
     {
         Ok(Measurement {
             missed: reader.read_unary::<Bits<0>>()?,
@@ -81,9 +81,9 @@ impl Measurement {
     pub fn parse(code: &StateCode, packet: &[u8]) -> Result<Measurement, Error>
         requires { tree_of code.now ≡ state_tree }
         ensures answer { result
-            ≡ sure_answer ((measurement_entry High).reads 0 (bits High packet.now)) }
+            ≡ sure_answer ((measurement_decoder High).reads 0 (bits High packet.now)) }
         ensures back { (measurement : Measurement) (more : List Bool) → Fits measurement
-            → bits High packet.now ≡ write_run (measurement_writes High measurement) 0 ++ more
+            → bits High packet.now ≡ write_sequence (measurement_writes High measurement) 0 ++ more
             → result ≡ Ok measurement }
     {
         measurements_go_back();
@@ -111,6 +111,6 @@ impl Measurement {
 pub fn measurements_go_back()
     ensures { (o : Order) (measurement : Measurement) (at from : ℕ) (more : List Bool)
         → Fits measurement
-        → let word = write_run (measurement_writes o measurement) at in
-        (measurement_entry o).reads from (word ++ more) ≡ Takes (length word) (Ok measurement) }
+        → let word = write_sequence (measurement_writes o measurement) at in
+        (measurement_decoder o).reads from (word ++ more) ≡ Done (length word) (Ok measurement) }
 {}

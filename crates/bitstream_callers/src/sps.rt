@@ -1,6 +1,6 @@
 //! The beginning of a sequence parameter set of H.264, with errors of its own.
 ghost use Rattle.bitstream_io.specs.Callers.{OwnAnswer, ReadsOwn, sure_answer, High, bits};
-ghost use Rattle.bitstream_callers.specs.Sps.{becomes_sps, sps_entry};
+ghost use Rattle.bitstream_callers.specs.Sps.{becomes_sps, sps_decoder};
 
 use bitstream_io::golomb::read_ue;
 use bitstream_io::{BE, BitRead, BitReadExt, BitReader, Bits, Error};
@@ -54,7 +54,7 @@ impl Sps {
     ///
     /// `OtherUnit`, `UnsupportedOrder`, and those of the reader.
     pub fn read<R: BitRead>(reader: &mut R) -> Result<Sps, SpsError>
-        ensures { ReadsOwn R.source becomes_sps (sps_entry R.source.order) reader.old result reader.new }
+        ensures { ReadsOwn R.source becomes_sps (sps_decoder R.source.order) reader.old result reader.new }
     {
         reader.read_const::<Bits<8>, Bits<0x67>, SpsError>(SpsError::OtherUnit)?;
         let profile = reader.read::<Bits<8>, u8>()?;
@@ -87,7 +87,7 @@ impl Sps {
     /// of the stream.
     pub fn parse(unit: &[u8]) -> Result<Sps, SpsError>
         ensures { OwnAnswer becomes_sps (λ answer. answer)
-            (sure_answer ((sps_entry High).reads 0 (bits High unit.now))) result }
+            (sure_answer ((sps_decoder High).reads 0 (bits High unit.now))) result }
     {
         Sps::read(&mut BitReader::<_, BE>::over(unit))
     }

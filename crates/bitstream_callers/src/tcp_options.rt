@@ -1,6 +1,6 @@
 //! The options of a TCP header, by a parser that holds its reader beside what it fills.
 ghost use Rattle.bitstream_io.specs.Callers.{Reads, High, memory_source};
-ghost use Rattle.bitstream_callers.specs.TcpOptions.{option_entry};
+ghost use Rattle.bitstream_callers.specs.TcpOptions.{option_decoder};
 
 use bitstream_io::{BE, BitRead, BitReadExt, Bits, Error, SliceReader};
 
@@ -25,7 +25,7 @@ struct Parser<'a, 'b> {
 impl Parser<'_, '_> {
     /// Reads an option, and tells whether another one may follow. One of a length below 2 is the last.
     fn next(&mut self) -> Result<bool, Error>
-        ensures { Reads (memory_source High) option_entry self.old.reader result self.new.reader }
+        ensures { Reads (memory_source High) option_decoder self.old.reader result self.new.reader }
     {
         let kind = self.reader.read::<Bits<8>, u8>()?;
         if kind <= 1 {

@@ -1,6 +1,6 @@
 //! Heartbeats, and samples of a vehicle's telemetry in a vector and behind their length.
 ghost use Rattle.std.specs.Prelude.{◌≡◌, ◌<◌, ◌^◌, IfErr, IfOk, IsOk, length};
-ghost use Rattle.bitstream_io.specs.Callers.{write_run, High, align, bits};
+ghost use Rattle.bitstream_io.specs.Callers.{write_sequence, High, align, bits};
 ghost use Rattle.bitstream_callers.specs.Sample.{Fits, sample_bits, sample_writes};
 ghost use Rattle.bitstream_callers.specs.Telemetry.{IsMisfitOrMemory, framed_bits, heartbeat_writes};
 
@@ -14,7 +14,7 @@ use std::alloc::Global;
 ///
 /// `Checked` for a number of 128 or more, or `OutOfMemory`.
 pub fn heartbeat(alloc: Global, number: u8, well: bool) -> Result<Vec<u8>, Error>
-    ensures packed { IfOk result (λ bytes. bits High bytes.items ≡ write_run (heartbeat_writes number well) 0) }
+    ensures packed { IfOk result (λ bytes. bits High bytes.items ≡ write_sequence (heartbeat_writes number well) 0) }
     ensures fits { IsOk result → number < 2 ^ 7 }
     ensures refused { IfErr result (IsMisfitOrMemory (heartbeat_writes number well)) }
 {
@@ -49,7 +49,7 @@ impl Sample {
     /// `Checked` for a field that its bits do not hold.
     pub fn bits(&self) -> Result<u8, Error>
         ensures count { IfOk result
-            (λ bits. bits ≡ length (write_run (sample_writes High self.now) 0)) }
+            (λ bits. bits ≡ length (write_sequence (sample_writes High self.now) 0)) }
         ensures fits { IsOk result → Fits self.now }
     {
         let mut counter = BitsWritten::<u8>::new();

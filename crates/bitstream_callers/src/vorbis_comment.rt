@@ -1,6 +1,6 @@
 //! The Vorbis comment of a FLAC file, as types that own memory and say how they are read from whole bytes.
 ghost use Rattle.std.specs.Prelude.{◌≡◌, ◌++◌, true, ℕ, List, length, Ok};
-ghost use Rattle.bitstream_io.specs.Callers.{OutOfMemory, Takes};
+ghost use Rattle.bitstream_io.specs.Callers.{OutOfMemory, Done};
 ghost use Rattle.bitstream_callers.specs.VorbisComment.{becomes_reader, comment_bytes, comment_reads, IsComment, text_reads};
 ghost use Rattle.bitstream_callers.specs.VorbisTexts.{Comment};
 ghost use Rattle.bitstream_callers.specs.declared.vorbis_comment.CommentError.TheVariants.{Reader};
@@ -118,5 +118,5 @@ impl FromByteStreamUsing for VorbisComment {
 pub fn comments_go_back()
     ensures { (comment : Comment) (more : List ℕ) → IsComment comment
         → comment_reads.reads (comment_bytes comment ++ more)
-        ≡ Takes (length (comment_bytes comment)) (Ok (Ok comment)) }
+        ≡ Done (length (comment_bytes comment)) (Ok (Ok comment)) }
 {}

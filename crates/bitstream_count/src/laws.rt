@@ -6,7 +6,7 @@
 ghost use Rattle.std.specs.Hash as fed;
 ghost use Rattle.std.specs.List.{fold};
 ghost use Rattle.std.specs.Prelude.{◌≡◌, ◌↔◌, ℕ, ◌^◌, ◌<◌, ◌≤◌, ◌++◌, Bool, true, false, Err, IsOk, IsTrue, List, Ok, Some, length, not, replicate, take, ◌⊎◌, ℤ};
-ghost use Rattle.bitstream_count.specs.Entry.{Takes};
+ghost use Rattle.bitstream_count.specs.Codec.{Done};
 ghost use Rattle.bitstream_count.specs.Unary.{unary, read_unary};
 ghost use Rattle.bitstream_count.specs.declared.error.Error.{Error};
 ghost use Rattle.bitstream_count.specs.declared.error.Error.TheVariants.{RunTooLong};
@@ -106,7 +106,7 @@ pub fn unary_words_begin_no_other()
 /// A unary word is read back, whatever follows it.
 pub fn unary_words_read_back()
     ensures { (stop : Bool) (k : ℕ) (rest : List Bool) → k < 2 ^ 32
-        → read_unary stop (unary stop k ++ rest) ≡ Takes (length (unary stop k)) (Ok k) }
+        → read_unary stop (unary stop k ++ rest) ≡ Done (length (unary stop k)) (Ok k) }
 {}
 
 /// A number is answered only if the bits begin with its unary word. `RunTooLong` is answered only
@@ -114,11 +114,11 @@ pub fn unary_words_read_back()
 pub fn unary_words_alone_are_read()
     // If a number is answered, it is below 2^32, and the bits taken are its unary word.
     ensures number { (stop : Bool) (bits : List Bool) (n k : ℕ)
-        → read_unary stop bits ≡ Takes n (Ok k)
+        → read_unary stop bits ≡ Done n (Ok k)
         → (k < 2 ^ 32) × (n ≤ length bits) × (take n bits ≡ unary stop k) }
     // An error is `RunTooLong`, and 2^32 bits are taken then, none of them the stop bit.
     ensures error { (stop : Bool) (bits : List Bool) (n : ℕ) (error : Error)
-        → read_unary stop bits ≡ Takes n (Err error)
+        → read_unary stop bits ≡ Done n (Err error)
         → (error ≡ RunTooLong) × (n ≡ 2 ^ 32) × (n ≤ length bits)
         × (take n bits ≡ replicate n (not stop)) }
 {}
@@ -133,13 +133,13 @@ pub fn variable_width_words_begin_no_other()
 pub fn variable_width_words_read_back()
     ensures { (strict : Bool) (o : Order) (field width limit : ℕ) (w : List Bool) (v : ℕ) (rest : List Bool)
         → 2 ≤ field → IsAccepted strict o field width limit w v
-        → read_vbr strict o field width limit (w ++ rest) ≡ Takes (length w) (Ok v) }
+        → read_vbr strict o field width limit (w ++ rest) ≡ Done (length w) (Ok v) }
 {}
 
 /// A number of variable width is answered only if the bits begin with an accepted word of it.
 pub fn variable_width_words_alone_are_read()
     ensures { (strict : Bool) (o : Order) (field width limit : ℕ) (bits : List Bool) (n v : ℕ) → 2 ≤ field
-        → read_vbr strict o field width limit bits ≡ Takes n (Ok v)
+        → read_vbr strict o field width limit bits ≡ Done n (Ok v)
         → IsAccepted strict o field width limit (take n bits) v × (n ≤ length bits) }
 {}
 

@@ -3,7 +3,7 @@ use Rattle.bitstream_formats.specs.declared.adts_header.AdtsHeader.{AdtsHeader}
 use Rattle.bitstream_formats.specs.declared.adts_header.AdtsHeaderError.{AdtsHeaderError}
 use Rattle.bitstream_formats.specs.declared.adts_header.AdtsHeaderError.TheVariants.{Reader, NoSync, UnknownLayer}
 use Rattle.std.specs.Prelude.{◌≡◌, ◌^◌, ◌<◌, ◌++◌, ◌∷◌, [], if◌then◌else◌, ℕ, Bool, List, Result, Ok, Err, take, drop}
-use Rattle.bitstream_io.specs.Callers.{◌>>=◌, ReadEntry, WriteEntry, gives, Error, Order, High, number, word, first_bit, bit_entry, unsigned_entry, const_entry, plain, bit, unsigned, align, write_run}
+use Rattle.bitstream_io.specs.Callers.{◌>>=◌, Decoder, Encoder, pure, Error, Order, High, number, word, first_bit, bit_decoder, unsigned_decoder, const_decoder, plain, bit, unsigned, align, write_sequence}
 
 -- Made by `./format` from formats/adts_header.fields: edit that file and make this one anew.
 
@@ -24,21 +24,21 @@ abbrev pub const_at_13 : List Bool → ℕ
 const_at_13 bits = number High (bits_at 13 2 bits)
 
 -- the reads, in order, behind 2 that may be refused
-abbrev pub adts_header_entry_2 : Order → Bool → ReadEntry (Result AdtsHeader AdtsHeaderError)
-adts_header_entry_2 o mpeg_2 = do
-  protection_absent ← bit_entry
-  profile ← unsigned_entry o 8 2
-  frequency ← unsigned_entry o 8 4
-  private ← bit_entry
-  channels ← unsigned_entry o 8 3
-  original ← bit_entry
-  home ← bit_entry
-  copyright_id ← bit_entry
-  copyright_start ← bit_entry
-  frame_length ← unsigned_entry o 16 13
-  fullness ← unsigned_entry o 16 11
-  blocks ← unsigned_entry o 8 2
-  gives (Ok (record {
+abbrev pub adts_header_decoder_2 : Order → Bool → Decoder (Result AdtsHeader AdtsHeaderError)
+adts_header_decoder_2 o mpeg_2 = do
+  protection_absent ← bit_decoder
+  profile ← unsigned_decoder o 8 2
+  frequency ← unsigned_decoder o 8 4
+  private ← bit_decoder
+  channels ← unsigned_decoder o 8 3
+  original ← bit_decoder
+  home ← bit_decoder
+  copyright_id ← bit_decoder
+  copyright_start ← bit_decoder
+  frame_length ← unsigned_decoder o 16 13
+  fullness ← unsigned_decoder o 16 11
+  blocks ← unsigned_decoder o 8 2
+  pure (Ok (record {
     mpeg_2 = mpeg_2;
     protection_absent = protection_absent;
     profile = profile;
@@ -55,20 +55,20 @@ adts_header_entry_2 o mpeg_2 = do
   }))
 
 -- the reads, in order, behind 1 that may be refused
-abbrev pub adts_header_entry_1 : Order → ReadEntry (Result AdtsHeader AdtsHeaderError)
-adts_header_entry_1 o = do
-  mpeg_2 ← bit_entry
-  is_2 ← const_entry o 2 0
-  if is_2 then adts_header_entry_2 o mpeg_2 else gives (Err UnknownLayer)
+abbrev pub adts_header_decoder_1 : Order → Decoder (Result AdtsHeader AdtsHeaderError)
+adts_header_decoder_1 o = do
+  mpeg_2 ← bit_decoder
+  is_2 ← const_decoder o 2 0
+  if is_2 then adts_header_decoder_2 o mpeg_2 else pure (Err UnknownLayer)
 
 -- the reads, in order
-abbrev pub adts_header_entry : Order → ReadEntry (Result AdtsHeader AdtsHeaderError)
-adts_header_entry o = do
-  is_0 ← const_entry o 12 4095
-  if is_0 then adts_header_entry_1 o else gives (Err NoSync)
+abbrev pub adts_header_decoder : Order → Decoder (Result AdtsHeader AdtsHeaderError)
+adts_header_decoder o = do
+  is_0 ← const_decoder o 12 4095
+  if is_0 then adts_header_decoder_1 o else pure (Err NoSync)
 
 -- the writes, in order
-abbrev pub adts_header_writes : Order → AdtsHeader → List WriteEntry
+abbrev pub adts_header_writes : Order → AdtsHeader → List Encoder
 adts_header_writes o value =
     plain (word o 12 4095)
     ∷ bit value.mpeg_2
@@ -102,7 +102,7 @@ adts_header_size o value = 56
 
 -- the bits of all fields, up to a whole byte
 unfoldable pub adts_header_bits : AdtsHeader → List Bool
-adts_header_bits value = write_run (adts_header_writes High value ++ align ∷ []) 0
+adts_header_bits value = write_sequence (adts_header_writes High value ++ align ∷ []) 0
 
 -- the fields that bits say, each by its place
 abbrev pub adts_header_at : List Bool → AdtsHeader

@@ -1,13 +1,13 @@
 //! What stands before a frame of AAC (ISO/IEC 14496-3, section 1.A.2.2), without its checksum.
 //!
 //! Made by `./format` from formats/adts_header.fields: edit that file and make this one anew.
-ghost use Rattle.bitstream_formats.specs.AdtsHeader.{adts_header_entry, adts_header_writes, adts_header_bits, adts_header_at, Fits, becomes_adts_header, const_at_0, const_at_13};
+ghost use Rattle.bitstream_formats.specs.AdtsHeader.{adts_header_decoder, adts_header_writes, adts_header_bits, adts_header_at, Fits, becomes_adts_header, const_at_0, const_at_13};
 ghost use Rattle.bitstream_formats.specs.declared.adts_header.AdtsHeader.{AdtsHeader};
 ghost use Rattle.bitstream_formats.specs.declared.adts_header.AdtsHeaderError.{AdtsHeaderError};
 ghost use Rattle.bitstream_formats.specs.declared.adts_header.AdtsHeaderError.TheVariants.{Reader, NoSync, UnknownLayer};
 ghost use Rattle.std.specs.Prelude.{◌≡◌, ◌≢◌, ◌<◌, ◌≤◌, ◌++◌, ℕ, Bool, List, Ok, Err, length, IfOk, IsOk};
 ghost use Rattle.std.specs.declared.io.ErrorKind.TheVariants.{WriteZero};
-ghost use Rattle.bitstream_io.specs.Callers.{Takes, Error, EndOfInput, Order, High, bits, write_run, ReadsOwn, OwnAnswer, WritesAll, run_length, sure_answer, Stream, same_error};
+ghost use Rattle.bitstream_io.specs.Callers.{Done, Error, EndOfInput, Order, High, bits, write_sequence, ReadsOwn, OwnAnswer, WritesAll, sequence_length, sure_answer, Stream, same_error};
 ghost use Rattle.bitstream_io.specs.SliceMut.{HoldsFirst, written_bytes};
 
 use bitstream_io::{
@@ -86,7 +86,7 @@ impl AdtsHeader {
     /// `NoSync`, `UnknownLayer`, behind the bits that say so.
     /// Else those of the reader: after each of them it has failed.
     pub fn read<R: BitRead>(reader: &mut R) -> Result<AdtsHeader, AdtsHeaderError>
-        ensures { ReadsOwn R.source becomes_adts_header (adts_header_entry R.source.order) reader.old result reader.new }
+        ensures { ReadsOwn R.source becomes_adts_header (adts_header_decoder R.source.order) reader.old result reader.new }
     {
         reader.read_const::<Bits<12>, Bits<4095>, AdtsHeaderError>(AdtsHeaderError::NoSync)?;
         let mpeg_2 = reader.read_bit()?;
@@ -127,7 +127,7 @@ impl AdtsHeader {
     /// `NoSync`, `UnknownLayer`, `Reader(EndOfInput)` for fewer than 7 bytes.
     pub fn parse(packet: &[u8]) -> Result<AdtsHeader, AdtsHeaderError>
         ensures answer { OwnAnswer becomes_adts_header (λ answer. answer)
-            (sure_answer ((adts_header_entry High).reads 0 (bits High packet.now))) result }
+            (sure_answer ((adts_header_decoder High).reads 0 (bits High packet.now))) result }
         ensures there { 7 ≤ length packet.now → const_at_0 (bits High packet.now) ≡ 4095
             → const_at_13 (bits High packet.now) ≡ 0
             → result ≡ Ok (adts_header_at (bits High packet.now)) }
@@ -142,7 +142,7 @@ impl AdtsHeader {
         ensures back { (value : AdtsHeader) (more : List Bool) → Fits value
             → bits High packet.now ≡ adts_header_bits value ++ more → result ≡ Ok value }
     {
-        adts_header_goes_back();
+        adts_header_round_trip();
         AdtsHeader::read(&mut BitReader::<_, BE>::over(packet))
     }
 
@@ -185,7 +185,7 @@ impl AdtsHeader {
         ensures packed { IfOk result (λ packed. bits High (written_bytes packed) ≡ adts_header_bits self.now) }
         ensures first { IfOk result (HoldsFirst buffer.entry.ghost_name buffer.old) }
         ensures fits { IsOk result → Fits self.now }
-        ensures misfit { (error : Error) → run_length (adts_header_writes High self.now) 0 ≡ Err error
+        ensures misfit { (error : Error) → sequence_length (adts_header_writes High self.now) 0 ≡ Err error
             → result ≡ Err error }
         ensures room { Fits self.now → 7 ≤ length buffer.old → IsOk result }
         ensures short { Fits self.now → length buffer.old < 7 → result ≡ Err (Stream WriteZero) }
@@ -199,7 +199,7 @@ impl FromBitStream for AdtsHeader {
 
     ghost becomes = { becomes_adts_header };
 
-    ghost reads = { adts_header_entry };
+    ghost reads = { adts_header_decoder };
 
     fn from_reader<R: BitRead>(reader: &mut R) -> Result<AdtsHeader, AdtsHeaderError> {
         AdtsHeader::read(reader)
@@ -220,10 +220,10 @@ impl ToBitStream for AdtsHeader {
 
 /// What fits its bits is read back as it was written, in either order of bits, wherever it stands.
 /// The read takes the bits that were written, and no more: 56 bits.
-pub fn adts_header_goes_back()
+pub fn adts_header_round_trip()
     ensures back { (o : Order) (value : AdtsHeader) (at from : ℕ) (more : List Bool) → Fits value
-        → let written = write_run (adts_header_writes o value) at in
-        (adts_header_entry o).reads from (written ++ more) ≡ Takes (length written) (Ok (Ok value)) }
+        → let written = write_sequence (adts_header_writes o value) at in
+        (adts_header_decoder o).reads from (written ++ more) ≡ Done (length written) (Ok (Ok value)) }
     ensures size { (o : Order) (value : AdtsHeader) (at : ℕ) → Fits value
-        → length (write_run (adts_header_writes o value) at) ≡ 56 }
+        → length (write_sequence (adts_header_writes o value) at) ≡ 56 }
 {}

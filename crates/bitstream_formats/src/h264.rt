@@ -19,7 +19,7 @@ mod trailing;
 mod units;
 mod vui;
 
-pub use emulation::{emulation_goes_back, remove_emulation};
+pub use emulation::{emulation_round_trip, remove_emulation};
 use pps::read_pps;
 pub use sets::{ParameterSets, PictureSet, SequenceSet};
 use sps::read_sps;

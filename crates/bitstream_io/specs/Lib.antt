@@ -13,7 +13,7 @@ pub use Rattle.bitstream_count.specs.Checks
 pub use Rattle.bitstream_count.specs.Counts
 pub use Rattle.bitstream_count.specs.declared.checked_error.CheckedError
 pub use Rattle.bitstream_count.specs.declared.error.Error
-pub use Rattle.bitstream_count.specs.Entry
+pub use Rattle.bitstream_count.specs.Codec
 pub use Rattle.bitstream_count.specs.Kind
 pub use Rattle.bitstream_count.specs.Unary
 pub use Rattle.bitstream_count.specs.Vbr

@@ -1,16 +1,16 @@
 -- Items that a loop reads or writes: what its invariant says. And what several answers say as one.
 use Rattle.std.specs.Prelude.{ℕ, ◌+◌, List, [], ◌∷◌, take, flat_map, Result, Ok, Err}
-use Rattle.bitstream_count.specs.Entry.{ReadEntry, WriteEntry}
+use Rattle.bitstream_count.specs.Codec.{Decoder, Encoder}
 use Rattle.bitstream_stream.specs.Reading.Reads.{BitSource, Reads}
 use Rattle.bitstream_stream.specs.Writing.Sink.{Sink, WritesAll}
-use Rattle.bitstream_value.specs.Array.{items_entry}
+use Rattle.bitstream_value.specs.Array.{items_decoder}
 
 -- so many items were read, and these are they
-abbrev pub ItemsRead : {R A : Type 0} → BitSource R → ReadEntry A → ℕ → R → List A → R → Type 0
-ItemsRead K entry n old items new = Reads K (items_entry entry n) old (Ok items) new
+abbrev pub ItemsRead : {R A : Type 0} → BitSource R → Decoder A → ℕ → R → List A → R → Type 0
+ItemsRead K decoder n old items new = Reads K (items_decoder decoder n) old (Ok items) new
 
 -- of these items the first n were written, each by its calls
-abbrev pub ItemsWritten : {S A : Type 0} → Sink S → (A → List WriteEntry) → List A → ℕ → S → S → Type 0
+abbrev pub ItemsWritten : {S A : Type 0} → Sink S → (A → List Encoder) → List A → ℕ → S → S → Type 0
 ItemsWritten K calls items n old new = WritesAll K (flat_map calls (take n items)) old (Ok tt) new
 
 -- the bits of parts, one behind the other

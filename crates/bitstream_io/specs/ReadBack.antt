@@ -2,13 +2,13 @@
 use Rattle.std.specs.Prelude.{◌≡◌, ◌++◌, ℕ, ◌+◌, ◌%◌, ◌^◌, ◌<◌, ◌==◌, if◌then◌else◌, Bool, true, false, List, [], ◌∷◌, length, map, Option, Some, None, Result, Ok, Err, is_ok, ⊤}
 use Rattle.std.specs.List.{All}
 use Rattle.bitstream_number.specs.Word.{Order, FitsSignedBits, bits}
-use Rattle.bitstream_count.specs.Entry.{ReadEntry, WriteEntry, Takes}
+use Rattle.bitstream_count.specs.Codec.{Decoder, Encoder, Done}
 use Rattle.bitstream_count.specs.declared.error.Error.{Error}
 use Rattle.bitstream_count.specs.declared.error.Error.TheVariants.{OutOfMemory}
 use Rattle.bitstream_order.specs.Fault.{read_refusal_of}
 use Rattle.bitstream_order.specs.Refusal.{Refusal, IsTrueEnd}
 use Rattle.bitstream_stream.specs.Reading.Reads.{BitSource}
-use Rattle.bitstream_stream.specs.Run.{accepted, write_run}
+use Rattle.bitstream_stream.specs.Sequence.{accepted_bits, write_sequence}
 use Rattle.bitstream_io.specs.declared.script.answers.Answer.{Answer}
 use Rattle.bitstream_io.specs.declared.script.answers.Answer.TheVariants as answer
 use Rattle.bitstream_io.specs.declared.script.read_call.ReadCall.{ReadCall}
@@ -16,7 +16,7 @@ use Rattle.bitstream_io.specs.declared.script.read_call.ReadCall.TheVariants as 
 use Rattle.bitstream_io.specs.declared.script.write_call.WriteCall.{WriteCall}
 use Rattle.bitstream_io.specs.declared.script.write_call.WriteCall.TheVariants.{Bit, U8, U16, U32, U64, U128, I8, I16, I32, I64, I128, Unary0, Unary1, Vbr4, Vbr8, SignedVbr4, SignedVbr8, Bytes, Pad, Align}
 use Rattle.bitstream_io.specs.ReadScript.{asks_memory, failed_answers}
-use Rattle.bitstream_io.specs.Script.{write_entry, write_entries}
+use Rattle.bitstream_io.specs.Script.{write_encoder, write_encoders}
 
 -- The values of a call are values of their types. Of a number in a given number of bits nothing is asked: if it is
 -- accepted, it
@@ -32,17 +32,17 @@ IsCall (Bytes bytes) = All (λ b. b < 256) bytes
 IsCall _ = ⊤
 
 -- Wherever these calls write, the read takes just what they wrote, whatever follows it, and answers a.
-abbrev pub IsReadAs : {A : Type 0} → List WriteEntry → ReadEntry A → A → Type 0
+abbrev pub IsReadAs : {A : Type 0} → List Encoder → Decoder A → A → Type 0
 IsReadAs writes entry a =
     (len p : ℕ) (more : List Bool)
-    → let word = write_run writes len in entry.reads p (word ++ more) ≡ Takes (length word) (Ok a)
+    → let word = write_sequence writes len in entry.reads p (word ++ more) ≡ Done (length word) (Ok a)
 
 -- the accepted ones of calls, in their order, each called at the length that is reached before it
 abbrev pub accepted_calls : Order → List WriteCall → ℕ → List WriteCall
 accepted_calls o [] len = []
 accepted_calls o (call ∷ calls) len =
-    let word = write_entry o call len in
-    let others = accepted_calls o calls (len + length (accepted word)) in
+    let word = write_encoder o call len in
+    let others = accepted_calls o calls (len + length (accepted_bits word)) in
     if is_ok word then call ∷ others else others
 
 -- the read of the same name and width; for a pad the skip of as many bits, for bytes as many bytes
@@ -109,7 +109,7 @@ pub record StandsBefore {R : Type 0} (K : BitSource R) (calls : List WriteCall) 
   pub bytes : List ℕ
   pub more : List Bool
   pub known : (K.state reader).bytes ≡ Some bytes
-  pub begins : (K.state reader).queue ++ bits K.order bytes ≡ write_run (write_entries None K.order calls) len ++ more
+  pub begins : (K.state reader).queue ++ bits K.order bytes ≡ write_sequence (write_encoders None K.order calls) len ++ more
   pub place : (K.state reader).taken % 8 ≡ len % 8
 
 -- What the matching reads of calls answer that wrote these words, if the bits left begin with them. A reader that had

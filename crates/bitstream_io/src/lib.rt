@@ -127,7 +127,7 @@ pub mod laws {
     pub use crate::golomb::{signed_golomb_numbers_go_back, unsigned_golomb_numbers_go_back};
     pub use crate::script::laws::{
         appending_composes, calls_have_values_of_their_types, lists_of_reads_are_known,
-        played_calls_are_direct_calls, words_have_one_length, write_runs_join,
+        played_calls_are_direct_calls, words_have_one_length, write_sequences_join,
         written_calls_are_read, written_calls_come_back, written_parts_are_read,
         written_values_are_read, written_words_are_read,
     };

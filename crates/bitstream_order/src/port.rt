@@ -171,7 +171,7 @@ impl<S: Source> Port<S> {
             (source_state S.stream self.old) buf.new result (source_state S.stream self.new) }
     {
         let count = buf.len();
-        self.fetch_front(buf, count, true)
+        self.fetch_prefix(buf, count, true)
     }
 
     /// Fills the first `count` bytes of the buffer, which has as many or more, by one request, for these
@@ -182,7 +182,7 @@ impl<S: Source> Port<S> {
     ///
     /// As [`fetch`](Port::fetch).
     #[inline(always)]
-    pub fn fetch_front(&mut self, buf: &mut [u8], count: usize, constant: bool) -> Result<(), Error>
+    pub fn fetch_prefix(&mut self, buf: &mut [u8], count: usize, constant: bool) -> Result<(), Error>
         requires { count ≤ length buf.old }
         // The buffer's front gets the next `count` bytes by one request, or it is refused.
         ensures fetches { Fetches (MayRefuseRead S.stream)
@@ -194,7 +194,7 @@ impl<S: Source> Port<S> {
         let before = Snapshot::of(&self.stream);
         // A request counts even if it is refused.
         self.requests.add(1);
-        match self.stream.read_front(buf, count, constant) {
+        match self.stream.read_prefix(buf, count, constant) {
             Ok(()) => {
                 self.fetched.add(count as u64);
                 Ok(())

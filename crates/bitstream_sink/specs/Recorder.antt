@@ -1,7 +1,7 @@
 -- What a recorder has recorded.
 use Rattle.std.specs.Prelude.{◌≡◌, ℕ, Bool, List, [], ◌∷◌, ◌++◌, Some}
 use Rattle.bitstream_number.specs.Word.{Order, word, bits}
-use Rattle.bitstream_count.specs.Entry.{WriteEntry}
+use Rattle.bitstream_count.specs.Codec.{Encoder}
 use Rattle.bitstream_stream.specs.Writing.Sink.{Sink, inner_sink}
 use Rattle.bitstream_stream.specs.Writing.WriteTable.{buffer, unsigned}
 use Rattle.bitstream_stream.specs.Writing.Writer.{queued_bits, queue_number, has_failed, new_writer_state}
@@ -39,6 +39,6 @@ recorder_failed recorder = has_failed recorder.writer
 
 -- the calls that play a recorder to a sink of this order: one of its whole bytes, and one of the bits behind them as a
 -- word
-abbrev pub playback_entries : {N E A : Type 0} → Order → BitRecorder N E A → List WriteEntry
-playback_entries o recorder = buffer o (recorded_bytes recorder) ∷ unsigned o 8 (recorded_queued recorder)
+abbrev pub playback_encoders : {N E A : Type 0} → Order → BitRecorder N E A → List Encoder
+playback_encoders o recorder = buffer o (recorded_bytes recorder) ∷ unsigned o 8 (recorded_queued recorder)
     (recorded_queue recorder) ∷ []

@@ -50,7 +50,7 @@ impl<N, E: Endianness, A: Allocator> BitRecorder<N, E, A> {
     ghost use Rattle.bitstream_stream.specs.Writing.Sink.{WritesAll, Appended, Kept};
     ghost use Rattle.bitstream_order.specs.Streaming.Growing.{growing_bytes};
     ghost use Rattle.bitstream_sink.specs.Counter.{Counts};
-    ghost use Rattle.bitstream_sink.specs.Recorder.{IsEmptyRecorder, recorded_bits, recorder_failed, playback_entries};
+    ghost use Rattle.bitstream_sink.specs.Recorder.{IsEmptyRecorder, recorded_bits, recorder_failed, playback_encoders};
 
     /// Returns a recorder of no bits, which takes its memory from the allocator.
     pub fn new(alloc: A) -> BitRecorder<N, E, A>
@@ -148,7 +148,7 @@ impl<N, E: Endianness, A: Allocator> BitRecorder<N, E, A> {
         // Unless the recorder has failed, the whole bytes are written, and then the bits behind
         // them as one word, up to the first error.
         ensures writes { recorder_failed self.now ≡ false →
-            WritesAll W.sink (playback_entries W.sink.order self.now) target.old result target.new }
+            WritesAll W.sink (playback_encoders W.sink.order self.now) target.old result target.new }
         // If it succeeds and both have one order, just the recorded bits are appended.
         ensures same_order { W.sink.order ≡ E.order → OnOk result
             (Appended W.sink target.old (recorded_bits E.order self.now) target.new) }

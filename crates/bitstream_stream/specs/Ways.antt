@@ -8,7 +8,7 @@ use Rattle.bitstream_count.specs.declared.error.Error.TheVariants.{Failed}
 use Rattle.bitstream_order.specs.Port.{Sent, SendRefused, port_stream, with_stream}
 use Rattle.bitstream_order.specs.Refusal.{Refusal}
 use Rattle.bitstream_order.specs.declared.streams.lent.Lent.{Lent}
-use Rattle.bitstream_order.specs.Moving.Gather.{seen}
+use Rattle.bitstream_order.specs.Moving.Gather.{result_map}
 use Rattle.bitstream_order.proofs.DropLemmas.{none_few, dropped_whole, dropped_back}
 use Rattle.bitstream_stream.specs.Writing.Carries.{WriterState}
 use Rattle.bitstream_stream.specs.Writing.Sink.{Sink, Writes}
@@ -103,7 +103,7 @@ EndsAligned {W} {E} K old new stream = (aligned : BitWriter W E) × Writes {T = 
 -- a writer that could not be aligned
 abbrev pub EndsUnaligned : {W E A : Type 0} → Sink (BitWriter W E) → BitWriter W E → Result A Error → BitWriter W E
     → Type 0
-EndsUnaligned K old result new = Writes {T = Unit {0}} K align old (seen (λ _. tt) result) new
+EndsUnaligned K old result new = Writes {T = Unit {0}} K align old (result_map (λ _. tt) result) new
 
 -- What a flush does. The writer had failed; or the stream passed on what it buffers itself, and all else is as
 -- it was; or the stream refused that, as it may refuse, and the writer has failed with an empty queue.

@@ -1,9 +1,9 @@
 //! The calls of a reader of bits.
 ghost use Rattle.std.specs.Prelude.{◌≡◌, ℕ, ◌+◌, ◌%◌, ◌^◌, ◌<◌, ◌≤◌, ◌⊎◌, ◌↔◌, ◌==◌, false, length, Ok, IsTrue};
 ghost use Rattle.bitstream_order.specs.Parts.{value_bytes};
-ghost use Rattle.bitstream_order.specs.Moving.Gather.{seen};
+ghost use Rattle.bitstream_order.specs.Moving.Gather.{result_map};
 ghost use Rattle.bitstream_stream.specs.Reading.Reads.{BitSource, Reads, ReadsConst, ReadsGrowing, failed_reader, lent_source};
-ghost use Rattle.bitstream_stream.specs.Reading.ReadTable.{bit_entry, unsigned_entry, signed_entry, const_entry, unary_entry, count_entry, align_entry, bytes_entry, skip_entry, is_full, groups_entry, vbr_entry, any_vbr_entry, signed_vbr_entry, any_signed_vbr_entry};
+ghost use Rattle.bitstream_stream.specs.Reading.ReadTable.{bit_decoder, unsigned_decoder, signed_decoder, const_decoder, unary_decoder, count_decoder, align_decoder, bytes_decoder, skip_decoder, is_full, groups_decoder, vbr_decoder, any_vbr_decoder, signed_vbr_decoder, any_signed_vbr_decoder};
 
 use crate::piece::{GROWTH, grow};
 use crate::vbr::is_redundant;
@@ -53,8 +53,8 @@ pub trait BitRead {
     ///
     /// `ReadBits` if the type has fewer bits. Nothing is taken then.
     fn read_unsigned_counted<C: Count, U: UnsignedInteger>(&mut self, bits: C) -> Result<U, Error>
-        ensures reads { Reads source (unsigned_entry source.order U.BITS_SIZE (C.number bits))
-            self.old (seen U.value result) self.new };
+        ensures reads { Reads source (unsigned_decoder source.order U.BITS_SIZE (C.number bits))
+            self.old (result_map U.value result) self.new };
 
     /// Reads a signed number, a two's complement of the given number of bits.
     ///
@@ -62,19 +62,19 @@ pub trait BitRead {
     ///
     /// `ReadBits` if the type has fewer bits. Nothing is taken then.
     fn read_signed_counted<C: SignedCount, S: SignedInteger>(&mut self, bits: C) -> Result<S, Error>
-        ensures reads { Reads source (signed_entry source.order S.BITS_SIZE (C.number bits))
-            self.old (seen S.integer result) self.new };
+        ensures reads { Reads source (signed_decoder source.order S.BITS_SIZE (C.number bits))
+            self.old (result_map S.integer result) self.new };
 
     /// Reads a value from its bytes, in the reader's byte order.
     fn read_to<V: Primitive>(&mut self) -> Result<V, Error>
-        ensures reads { Reads source (bytes_entry source.order V.BYTES) self.old
-            (seen (value_bytes source.order V.be_bytes V.le_bytes) result) self.new };
+        ensures reads { Reads source (bytes_decoder source.order V.BYTES) self.old
+            (result_map (value_bytes source.order V.be_bytes V.le_bytes) result) self.new };
 
     /// Reads a value from its bytes, in the byte order F. The bits of each byte are read in the
     /// reader's order.
     fn read_as_to<F: Endianness, V: Primitive>(&mut self) -> Result<V, Error>
-        ensures reads { Reads source (bytes_entry source.order V.BYTES) self.old
-            (seen (value_bytes F.order V.be_bytes V.le_bytes) result) self.new };
+        ensures reads { Reads source (bytes_decoder source.order V.BYTES) self.old
+            (result_map (value_bytes F.order V.be_bytes V.le_bytes) result) self.new };
 
     /// Returns whether the reader is at a byte boundary. A reader that has failed is not.
     fn byte_aligned(&self) -> bool
@@ -84,7 +84,7 @@ pub trait BitRead {
     /// Skips the bits up to the next byte boundary. They are queued, so no request is made. A
     /// reader that has failed stays as it is.
     fn byte_align(&mut self)
-        ensures reads { Reads source align_entry self.old (Ok tt) self.new };
+        ensures reads { Reads source align_decoder self.old (Ok tt) self.new };
 
     /// Makes the reader fail, and drops its queue.
     fn fail(&mut self)
@@ -92,7 +92,7 @@ pub trait BitRead {
 
     /// Reads one bit, and returns whether it is 1.
     fn read_bit(&mut self) -> Result<bool, Error>
-        ensures reads { Reads source bit_entry self.old result self.new }
+        ensures reads { Reads source bit_decoder self.old result self.new }
     {
         let bit: u8 = self.read_unsigned_var(1)?;
         Ok(bit == 1)
@@ -104,8 +104,8 @@ pub trait BitRead {
     ///
     /// As [`read_unsigned_counted`](BitRead::read_unsigned_counted).
     fn read_unsigned_var<U: UnsignedInteger>(&mut self, bits: u32) -> Result<U, Error>
-        ensures reads { Reads source (unsigned_entry source.order U.BITS_SIZE bits)
-            self.old (seen U.value result) self.new }
+        ensures reads { Reads source (unsigned_decoder source.order U.BITS_SIZE bits)
+            self.old (result_map U.value result) self.new }
     {
         self.read_unsigned_counted(BitCount::unknown(bits))
     }
@@ -113,8 +113,8 @@ pub trait BitRead {
     /// Reads an unsigned number of `B::BITS` bits, at most as many as U has.
     fn read_unsigned<B: Width, U: UnsignedInteger>(&mut self) -> Result<U, Error>
         requires { B.BITS ≤ U.BITS_SIZE }
-        ensures reads { Reads source (unsigned_entry source.order U.BITS_SIZE B.BITS)
-            self.old (seen U.value result) self.new }
+        ensures reads { Reads source (unsigned_decoder source.order U.BITS_SIZE B.BITS)
+            self.old (result_map U.value result) self.new }
     {
         self.read_unsigned_var(B::BITS)
     }
@@ -126,8 +126,8 @@ pub trait BitRead {
     /// `NoSignBit` at 0 bits. Nothing is taken then. Else as
     /// [`read_signed_counted`](BitRead::read_signed_counted).
     fn read_signed_var<S: SignedInteger>(&mut self, bits: u32) -> Result<S, Error>
-        ensures reads { Reads source (signed_entry source.order S.BITS_SIZE bits)
-            self.old (seen S.integer result) self.new }
+        ensures reads { Reads source (signed_decoder source.order S.BITS_SIZE bits)
+            self.old (result_map S.integer result) self.new }
     {
         match BitCount::unknown(bits).signed_count() {
             Some(count) => self.read_signed_counted(count),
@@ -142,8 +142,8 @@ pub trait BitRead {
     fn read_signed<B: Width, S: SignedInteger>(&mut self) -> Result<S, Error>
         requires some { 1 ≤ B.BITS }
         requires within { B.BITS ≤ S.BITS_SIZE }
-        ensures reads { Reads source (signed_entry source.order S.BITS_SIZE B.BITS)
-            self.old (seen S.integer result) self.new }
+        ensures reads { Reads source (signed_decoder source.order S.BITS_SIZE B.BITS)
+            self.old (result_map S.integer result) self.new }
     {
         self.read_signed_var(B::BITS)
     }
@@ -157,7 +157,7 @@ pub trait BitRead {
     fn read_const<B: Width, V: Width, E: From<Error> + Drop>(&mut self, err: E) -> Result<(), E>
         requires word { B.BITS ≤ 32 }
         requires value { (V.BITS < 2 ^ B.BITS) ⊎ (B.BITS ≡ 0) }
-        ensures reads { ReadsConst source E.from_gives (const_entry source.order B.BITS V.BITS) err
+        ensures reads { ReadsConst source E.from_gives (const_decoder source.order B.BITS V.BITS) err
             self.old result self.new }
     {
         let value: u32 = self.read_unsigned::<B, u32>()?;
@@ -172,7 +172,7 @@ pub trait BitRead {
     /// reader has failed.
     fn read_unary<S: Width>(&mut self) -> Result<u32, Error>
         requires { S.BITS < 2 }
-        ensures reads { Reads source (unary_entry (S.BITS == 1)) self.old result self.new }
+        ensures reads { Reads source (unary_decoder (S.BITS == 1)) self.old result self.new }
     {
         let stop = S::BITS == 1;
         let mut count = 0u32;
@@ -193,8 +193,8 @@ pub trait BitRead {
     fn read_count<C: Count>(&mut self) -> Result<C, Error>
         requires some { 0 < C.MAX }
         requires full { IsTrue (is_full 32 C.MAX) }
-        ensures reads { Reads source (count_entry source.order C.MAX)
-            self.old (seen C.number result) self.new }
+        ensures reads { Reads source (count_decoder source.order C.MAX)
+            self.old (result_map C.number result) self.new }
     {
         let number = self.read_unsigned_var(count_bits(C::MAX))?;
         match C::of(number) {
@@ -206,8 +206,8 @@ pub trait BitRead {
 
     /// Fills a buffer with bytes. After an error the contents of the buffer are not specified.
     fn read_bytes(&mut self, buf: &mut [u8]) -> Result<(), Error>
-        ensures reads { Reads source (bytes_entry source.order (length buf.old))
-            self.old (seen (λ _. buf.new) result) self.new }
+        ensures reads { Reads source (bytes_decoder source.order (length buf.old))
+            self.old (result_map (λ _. buf.new) result) self.new }
     {
         let _: u8 = self.read_unsigned_var(0)?;
         for at in 0..buf.len() {
@@ -218,8 +218,8 @@ pub trait BitRead {
 
     /// Reads the bytes of a V: `read_to_bytes::<[u8; 4]>()` gives an array of four.
     fn read_to_bytes<V: Primitive>(&mut self) -> Result<V::Bytes, Error>
-        ensures reads { Reads source (bytes_entry source.order V.BYTES)
-            self.old (seen V.Bytes.items result) self.new }
+        ensures reads { Reads source (bytes_decoder source.order V.BYTES)
+            self.old (result_map V.Bytes.items result) self.new }
     {
         let mut bytes = V::buffer();
         self.read_bytes(V::as_bytes_mut(&mut bytes))?;
@@ -233,8 +233,8 @@ pub trait BitRead {
     ///
     /// `OutOfMemory` if memory for the bytes is refused. The reader has failed then.
     fn read_to_vec<A: Allocator>(&mut self, alloc: A, bytes: usize) -> Result<Vec<u8, A>, Error>
-        ensures reads { ReadsGrowing source (bytes_entry source.order bytes)
-            self.old (seen (λ v. v.items) result) self.new }
+        ensures reads { ReadsGrowing source (bytes_decoder source.order bytes)
+            self.old (result_map (λ v. v.items) result) self.new }
     {
         let mut buf = Vec::new(alloc);
         let _: u8 = self.read_unsigned_var(0)?;
@@ -253,7 +253,7 @@ pub trait BitRead {
 
     /// Skips the given number of bits, whatever they are.
     fn skip(&mut self, bits: u32) -> Result<(), Error>
-        ensures reads { Reads source (skip_entry bits) self.old result self.new }
+        ensures reads { Reads source (skip_decoder bits) self.old result self.new }
     {
         let _: u128 = self.read_unsigned_var(bits % 128)?;
         for _done in 0..bits / 128 {
@@ -273,8 +273,8 @@ pub trait BitRead {
         requires some { 2 ≤ F.BITS }
         requires within { F.BITS < U.BITS_SIZE }
         ensures reads { Reads source
-            (groups_entry strict source.order F.BITS U.BITS_SIZE (2 ^ U.BITS_SIZE))
-            self.old (seen U.value result) self.new }
+            (groups_decoder strict source.order F.BITS U.BITS_SIZE (2 ^ U.BITS_SIZE))
+            self.old (result_map U.value result) self.new }
     {
         let payload = F::BITS - 1;
         let mask = (U::ONE << payload) - U::ONE;
@@ -317,8 +317,8 @@ pub trait BitRead {
         requires some { 2 ≤ F.BITS }
         requires within { F.BITS < U.BITS_SIZE }
         ensures reads { Reads source
-            (vbr_entry source.order F.BITS U.BITS_SIZE (2 ^ U.BITS_SIZE))
-            self.old (seen U.value result) self.new }
+            (vbr_decoder source.order F.BITS U.BITS_SIZE (2 ^ U.BITS_SIZE))
+            self.old (result_map U.value result) self.new }
     {
         self.read_groups::<F, U>(true)
     }
@@ -332,8 +332,8 @@ pub trait BitRead {
         requires some { 2 ≤ F.BITS }
         requires within { F.BITS < U.BITS_SIZE }
         ensures reads { Reads source
-            (any_vbr_entry source.order F.BITS U.BITS_SIZE (2 ^ U.BITS_SIZE))
-            self.old (seen U.value result) self.new }
+            (any_vbr_decoder source.order F.BITS U.BITS_SIZE (2 ^ U.BITS_SIZE))
+            self.old (result_map U.value result) self.new }
     {
         self.read_groups::<F, U>(false)
     }
@@ -347,8 +347,8 @@ pub trait BitRead {
     fn read_signed_vbr<F: Width, S: SignedInteger>(&mut self) -> Result<S, Error>
         requires some { 2 ≤ F.BITS }
         requires within { F.BITS < S.BITS_SIZE }
-        ensures reads { Reads source (signed_vbr_entry source.order F.BITS S.BITS_SIZE)
-            self.old (seen S.integer result) self.new }
+        ensures reads { Reads source (signed_vbr_decoder source.order F.BITS S.BITS_SIZE)
+            self.old (result_map S.integer result) self.new }
     {
         let place = self.read_unsigned_vbr::<F, S::Unsigned>()?;
         Ok(unzigzag(place))
@@ -362,8 +362,8 @@ pub trait BitRead {
     fn read_signed_vbr_any<F: Width, S: SignedInteger>(&mut self) -> Result<S, Error>
         requires some { 2 ≤ F.BITS }
         requires within { F.BITS < S.BITS_SIZE }
-        ensures reads { Reads source (any_signed_vbr_entry source.order F.BITS S.BITS_SIZE)
-            self.old (seen S.integer result) self.new }
+        ensures reads { Reads source (any_signed_vbr_decoder source.order F.BITS S.BITS_SIZE)
+            self.old (result_map S.integer result) self.new }
     {
         let place = self.read_unsigned_vbr_any::<F, S::Unsigned>()?;
         Ok(unzigzag(place))

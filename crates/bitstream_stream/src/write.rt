@@ -40,7 +40,7 @@ pub trait BitWrite {
     ghost use Rattle.bitstream_number.specs.Word.{word};
     ghost use Rattle.bitstream_order.specs.Parts.{value_bytes};
     ghost use Rattle.bitstream_stream.specs.Writing.Sink.{Sink, Writes, IsWithin};
-    ghost use Rattle.bitstream_stream.specs.Writing.WriteTable.{unsigned, signed, plain, unary_word, bit as one_bit, count as count_entry, align, buffer, zeros, vbr, signed_vbr};
+    ghost use Rattle.bitstream_stream.specs.Writing.WriteTable.{unsigned, signed, plain, unary_word, bit as one_bit, count as count_decoder, align, buffer, zeros, vbr, signed_vbr};
 
     // What the states of the sink mean.
     ghost sink: { Sink Self };
@@ -188,7 +188,7 @@ pub trait BitWrite {
     /// Writes a count of bits, in as few bits as hold `C::MAX`.
     fn write_count<C: Count>(&mut self, count: C) -> Result<(), Error>
         requires { 0 < C.MAX }
-        ensures writes { Writes sink (count_entry sink.order C.MAX (C.number count))
+        ensures writes { Writes sink (count_decoder sink.order C.MAX (C.number count))
             self.old result self.new }
     {
         self.write_unsigned_var(count_bits(C::MAX), count.bits())

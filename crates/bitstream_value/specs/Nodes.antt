@@ -31,18 +31,18 @@ abbrev pub nodes_tree : {S : Type 0} → List (Node S) → Option (Tree S)
 nodes_tree nodes = tree_between nodes (length nodes) 0 (length nodes)
 
 -- a node with its places moved by n
-abbrev pub moved : {S : Type 0} → ℕ → Node S → Node S
-moved n (Leaf x) = Leaf x
-moved n (Branch z o) = Branch (z + n) (o + n)
+abbrev pub shift_node : {S : Type 0} → ℕ → Node S → Node S
+shift_node n (Leaf x) = Leaf x
+shift_node n (Branch z o) = Branch (z + n) (o + n)
 
 -- the places of the node, moved by n, are numbers of 64 bits
-abbrev pub FitsMoved : {S : Type 0} → ℕ → Node S → Type 0
-FitsMoved n (Leaf x) = ⊤
-FitsMoved n (Branch z o) = (z + n < 2 ^ 64) × (o + n < 2 ^ 64)
+abbrev pub FitsShifted : {S : Type 0} → ℕ → Node S → Type 0
+FitsShifted n (Leaf x) = ⊤
+FitsShifted n (Branch z o) = (z + n < 2 ^ 64) × (o + n < 2 ^ 64)
 
 -- the nodes of one tree and then those of another, and the places of their roots
 pub record Joined {S : Type 0} (first second nodes : List (Node S)) (first_root second_root : ℕ) : Type 0 where
-  pub nodes_are : nodes ≡ first ++ map (moved (length first)) second
+  pub nodes_are : nodes ≡ first ++ map (shift_node (length first)) second
   pub first_ends : first_root + 1 ≡ length first
   pub second_ends : second_root + 1 ≡ length first + length second
 

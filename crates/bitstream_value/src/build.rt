@@ -1,7 +1,7 @@
 //! Types whose values are written as bits.
 ghost use Rattle.std.specs.Prelude.{List, Result, Ok};
 ghost use Rattle.bitstream_count.specs.declared.error.Error.{Error};
-ghost use Rattle.bitstream_count.specs.Entry.{WriteEntry};
+ghost use Rattle.bitstream_count.specs.Codec.{Encoder};
 ghost use Rattle.bitstream_number.specs.Word.{Order, High};
 ghost use Rattle.bitstream_value.specs.Lengths.{CountsBits};
 ghost use Rattle.bitstream_value.specs.Own.{WritesOwn};
@@ -23,7 +23,7 @@ pub trait ToBitStream {
 
     // The calls that write a value, in either order of bits; and what is answered behind them, if all
     // were done.
-    ghost writes: { Order → Self → List WriteEntry };
+    ghost writes: { Order → Self → List Encoder };
 
     ghost answers: { Self → Result (Unit {0}) Self.Error } = { λ _. Ok tt };
 
@@ -84,7 +84,7 @@ pub trait ToBitStreamWith {
 
     // The calls that write a value, in either order of bits; and what is answered behind them, if all
     // were done.
-    ghost writes: { Order → Self → Self.Context → List WriteEntry };
+    ghost writes: { Order → Self → Self.Context → List Encoder };
 
     ghost answers: { Self → Self.Context → Result (Unit {0}) Self.Error } = { λ _ _. Ok tt };
 
@@ -147,7 +147,7 @@ pub trait ToBitStreamUsing {
 
     // The calls that write a value, in either order of bits; and what is answered behind them, if all
     // were done.
-    ghost writes: { Order → Self → Self.Context → List WriteEntry };
+    ghost writes: { Order → Self → Self.Context → List Encoder };
 
     ghost answers: { Self → Self.Context → Result (Unit {0}) Self.Error } = { λ _ _. Ok tt };
 

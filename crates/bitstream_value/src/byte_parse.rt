@@ -2,7 +2,7 @@
 ghost use Rattle.std.specs.Prelude.{Bool, false, Result};
 ghost use Rattle.bitstream_count.specs.declared.error.Error.{Error};
 ghost use Rattle.bitstream_number.specs.Word.{Order};
-ghost use Rattle.bitstream_stream.specs.WholeBytes.ByteReads.{ByteReadEntry};
+ghost use Rattle.bitstream_stream.specs.WholeBytes.ByteReads.{ByteDecoder};
 ghost use Rattle.bitstream_value.specs.ByteGrows.{ByteOwnReads};
 
 use bitstream_stream::bytes::byte_read::ByteRead;
@@ -20,7 +20,7 @@ pub trait FromByteStream: Sized {
     ghost becomes: { Error → Self.Error → Type 0 };
 
     // The reads of a value, in either order of bytes. They answer the errors of the type too.
-    ghost reads: { Order → ByteReadEntry (Result Self Self.Error) };
+    ghost reads: { Order → ByteDecoder (Result Self Self.Error) };
 
     /// Reads a value.
     ///
@@ -49,7 +49,7 @@ pub trait FromByteStreamWith: Sized {
     ghost becomes: { Error → Self.Error → Type 0 };
 
     // The reads of a value, in either order of bytes. They answer the errors of the type too.
-    ghost reads: { Order → Self.Context → ByteReadEntry (Result Self Self.Error) };
+    ghost reads: { Order → Self.Context → ByteDecoder (Result Self Self.Error) };
 
     /// Reads a value.
     ///
@@ -80,7 +80,7 @@ pub trait FromByteStreamUsing: Sized {
     ghost becomes: { Error → Self.Error → Type 0 };
 
     // The reads of a value, in either order of bytes. They answer the errors of the type too.
-    ghost reads: { Order → Self.Context → ByteReadEntry (Result Self Self.Error) };
+    ghost reads: { Order → Self.Context → ByteDecoder (Result Self Self.Error) };
 
     /// Reads a value.
     ///

@@ -1,8 +1,8 @@
 //! Checked values, read and written.
 ghost use Rattle.std.specs.Prelude.{◌≡◌, ℤ, Bool, List, length, IfOk};
-ghost use Rattle.bitstream_count.specs.Entry.{ReadEntry};
+ghost use Rattle.bitstream_count.specs.Codec.{Decoder};
 ghost use Rattle.bitstream_number.specs.Word.{Order};
-ghost use Rattle.bitstream_order.specs.Moving.Gather.{seen};
+ghost use Rattle.bitstream_order.specs.Moving.Gather.{result_map};
 ghost use Rattle.bitstream_stream.specs.Reading.Reads.{Reads};
 ghost use Rattle.bitstream_stream.specs.Writing.Sink.{Writes};
 ghost use Rattle.bitstream_stream.specs.Writing.WriteTable.{plain};
@@ -64,10 +64,10 @@ pub trait CheckablePrimitive: Checkable {
     /// The type of the count.
     type CountType;
 
-    // The count and the number of a value, and the read entry of both at a count, in either order.
+    // The count and the number of a value, and the decoder of both at a count, in either order.
     ghost counted: { Self → Self.CountType × ℤ };
 
-    ghost reads: { Order → Self.CountType → ReadEntry (Self.CountType × ℤ) };
+    ghost reads: { Order → Self.CountType → Decoder (Self.CountType × ℤ) };
 
     /// Reads a number of as many bits as the count says, and returns it with the count.
     ///
@@ -76,7 +76,7 @@ pub trait CheckablePrimitive: Checkable {
     /// `ReadBits` if the type has fewer bits. Nothing is taken then.
     fn read<R: BitRead>(reader: &mut R, count: Self::CountType) -> Result<Self, Error>
         ensures reads { Reads R.source (reads R.source.order count)
-            reader.old (seen counted result) reader.new };
+            reader.old (result_map counted result) reader.new };
 }
 
 /// Keeps the value that a call answered with a count that holds it, which the caller proves.

@@ -1,8 +1,8 @@
 //! Prefix codes: each symbol is a word of bits, and no word is the beginning of another.
 ghost use Rattle.std.specs.Prelude.{Bool, List};
-ghost use Rattle.bitstream_count.specs.Entry.{ReadEntry};
+ghost use Rattle.bitstream_count.specs.Codec.{Decoder};
 ghost use Rattle.bitstream_stream.specs.Reading.Reads.{BitSource, Reads};
-ghost use Rattle.bitstream_stream.specs.Reading.ReadTable.{bit_entry};
+ghost use Rattle.bitstream_stream.specs.Reading.ReadTable.{bit_decoder};
 ghost use Rattle.bitstream_stream.specs.Writing.Sink.{Sink, Writes, WritesAll};
 ghost use Rattle.bitstream_stream.specs.Writing.WriteTable.{bit};
 ghost use Rattle.bitstream_value.specs.Tree.{bit_by_bit};
@@ -23,7 +23,7 @@ pub trait NextBit {
 
     /// Reads one bit, and returns whether it is 1.
     fn next_bit(&mut self) -> Result<bool, Error>
-        ensures reads { Reads source bit_entry self.old result self.new };
+        ensures reads { Reads source bit_decoder self.old result self.new };
 }
 
 impl<R: BitRead> NextBit for R {
@@ -59,12 +59,12 @@ pub trait FromBits {
     /// The symbols of the code.
     type Symbol;
 
-    // The read entry of the code.
-    ghost entry: { Self → ReadEntry Self.Symbol };
+    // The decoder of the code.
+    ghost decoder: { Self → Decoder Self.Symbol };
 
     /// Reads one word, and returns its symbol.
     fn from_bits<N: NextBit>(&self, next: &mut N) -> Result<Self::Symbol, Error>
-        ensures reads { Reads N.source (entry self.now) next.old result next.new };
+        ensures reads { Reads N.source (decoder self.now) next.old result next.new };
 }
 
 /// A prefix code that is written, bit by bit.

@@ -1,7 +1,7 @@
 //! Types whose values are read and written as bits.
 ghost use Rattle.std.specs.Prelude.{ℕ, List, IfOk};
 ghost use Rattle.bitstream_number.specs.Word.{Order};
-ghost use Rattle.bitstream_count.specs.Entry.{ReadEntry, WriteEntry};
+ghost use Rattle.bitstream_count.specs.Codec.{Decoder, Encoder};
 ghost use Rattle.bitstream_stream.specs.Reading.Reads.{Reads};
 ghost use Rattle.bitstream_stream.specs.Writing.Sink.{WritesAll};
 
@@ -33,10 +33,10 @@ use bitstream_stream::write::BitWrite;
 /// -2^(n-1) to 2^(n-1) - 1, and a `NonZero` is at most 2^n. Callers know it, so that a sum on a
 /// field that is narrower than its type needs no test.
 pub trait Integer: Sized {
-    // The read entry and the write entries of a value in a number of bits, in either order.
-    ghost reads: { Order → ℕ → ReadEntry Self };
+    // The decoder and the encoders of a value in a number of bits, in either order.
+    ghost reads: { Order → ℕ → Decoder Self };
 
-    ghost writes: { Order → ℕ → Self → List WriteEntry };
+    ghost writes: { Order → ℕ → Self → List Encoder };
 
     // The widths at which no value is rejected for its width.
     ghost IsWidth: { ℕ → Type 0 };
@@ -105,11 +105,11 @@ pub trait Integer: Sized {
 /// Those of the reader ([`BitRead`]) and of the sink ([`BitWrite`]). The calls below name only the
 /// errors of their own.
 pub trait VBRInteger: Integer {
-    // The read entry and the write entries of a value in groups of a number of bits, in either
+    // The decoder and the encoders of a value in groups of a number of bits, in either
     // order.
-    ghost reads_vbr: { Order → ℕ → ReadEntry Self };
+    ghost reads_vbr: { Order → ℕ → Decoder Self };
 
-    ghost writes_vbr: { Order → ℕ → Self → List WriteEntry };
+    ghost writes_vbr: { Order → ℕ → Self → List Encoder };
 
     // The sizes that a group may have, in bits.
     ghost IsFieldSize: { ℕ → Type 0 };

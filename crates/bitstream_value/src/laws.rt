@@ -3,14 +3,14 @@
 //! The contract of each function is a law. Its body is empty.
 
 ghost use Rattle.std.specs.Prelude.{◌≡◌, ℕ, ◌+◌, ◌%◌, ◌<◌, ◌≤◌, ◌↔◌, Bool, true, List, ◌++◌, length, take, Option, IfSome, IsSome, Some, Result, Ok};
-ghost use Rattle.bitstream_count.specs.Entry.{Takes};
+ghost use Rattle.bitstream_count.specs.Codec.{Done};
 ghost use Rattle.bitstream_count.specs.declared.error.Error.{Error};
 ghost use Rattle.bitstream_number.specs.Word.{High};
 ghost use Rattle.bitstream_value.specs.ByteTypes.{ByteWritesOwn, CountsBytes, HasOneTotal};
 ghost use Rattle.bitstream_value.specs.Lengths.{CountsBits, HasOneLength, IsNumberWithin};
 ghost use Rattle.bitstream_value.specs.LimitedUnary.{limited_unary, limited_tree};
 ghost use Rattle.bitstream_value.specs.Own.{WritesOwn};
-ghost use Rattle.bitstream_value.specs.Tree.{Tree, IsPath, IsFirstPath, path_entry, first_path, symbol_word};
+ghost use Rattle.bitstream_value.specs.Tree.{Tree, IsPath, IsFirstPath, path_decoder, first_path, symbol_word};
 
 use crate::build::{ToBitStream, ToBitStreamUsing, ToBitStreamWith};
 use crate::byte_build::{ToByteStream, ToByteStreamUsing, ToByteStreamWith};
@@ -26,10 +26,10 @@ pub fn paths_are_read<S>()
         → u ++ x ≡ v ++ y → (u ≡ v) × (a ≡ b) }
     // A path is read as the symbol at its leaf, whatever follows it.
     ensures back { (t : Tree S) (w : List Bool) (s : S) (p : ℕ) (more : List Bool) → IsPath t w s
-        → (path_entry t).reads p (w ++ more) ≡ Takes (length w) (Ok s) }
+        → (path_decoder t).reads p (w ++ more) ≡ Done (length w) (Ok s) }
     // If a read answers, it took the bits of a path and answers the symbol at its leaf.
     ensures taken { (t : Tree S) (p : ℕ) (bits : List Bool) (n : ℕ) (answer : Result S Error)
-        → (path_entry t).reads p bits ≡ Takes n answer
+        → (path_decoder t).reads p bits ≡ Done n answer
         → (n ≤ length bits) × ((s : S) × (answer ≡ Ok s) × IsPath t (take n bits) s) }
 {}
 
@@ -45,7 +45,7 @@ pub fn symbols_have_words<S>()
     // The word is read as a symbol that is the same, whatever follows it.
     ensures back { (same : S → S → Bool) (t : Tree S) (s : S) (w : List Bool)
         → first_path same t s ≡ Some w → (x : S) × (same x s ≡ true)
-        × ((p : ℕ) (more : List Bool) → (path_entry t).reads p (w ++ more) ≡ Takes (length w) (Ok x)) }
+        × ((p : ℕ) (more : List Bool) → (path_decoder t).reads p (w ++ more) ≡ Done (length w) (Ok x)) }
 {}
 
 /// The words of limited unary are the paths of a tree, whose leaves are `None` and the numbers below

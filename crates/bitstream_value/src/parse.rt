@@ -1,7 +1,7 @@
 //! Types whose values are read from bits.
 ghost use Rattle.std.specs.Prelude.{Bool, false, Result};
 ghost use Rattle.bitstream_count.specs.declared.error.Error.{Error};
-ghost use Rattle.bitstream_count.specs.Entry.{ReadEntry};
+ghost use Rattle.bitstream_count.specs.Codec.{Decoder};
 ghost use Rattle.bitstream_number.specs.Word.{Order};
 ghost use Rattle.bitstream_value.specs.Grows.{OwnReads};
 
@@ -20,7 +20,7 @@ pub trait FromBitStream: Sized {
     ghost becomes: { Error → Self.Error → Type 0 };
 
     // The reads of a value, in either order of bits. They answer the errors of the type too.
-    ghost reads: { Order → ReadEntry (Result Self Self.Error) };
+    ghost reads: { Order → Decoder (Result Self Self.Error) };
 
     /// Reads a value.
     ///
@@ -49,7 +49,7 @@ pub trait FromBitStreamWith: Sized {
     ghost becomes: { Error → Self.Error → Type 0 };
 
     // The reads of a value, in either order of bits. They answer the errors of the type too.
-    ghost reads: { Order → Self.Context → ReadEntry (Result Self Self.Error) };
+    ghost reads: { Order → Self.Context → Decoder (Result Self Self.Error) };
 
     /// Reads a value.
     ///
@@ -77,7 +77,7 @@ pub trait FromBitStreamUsing: Sized {
     ghost becomes: { Error → Self.Error → Type 0 };
 
     // The reads of a value, in either order of bits. They answer the errors of the type too.
-    ghost reads: { Order → Self.Context → ReadEntry (Result Self Self.Error) };
+    ghost reads: { Order → Self.Context → Decoder (Result Self Self.Error) };
 
     /// Reads a value.
     ///

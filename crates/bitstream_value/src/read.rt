@@ -1,6 +1,6 @@
 //! Calls that read values of any type.
 ghost use Rattle.std.specs.Prelude.{IfOk};
-ghost use Rattle.bitstream_order.specs.Moving.Gather.{seen};
+ghost use Rattle.bitstream_order.specs.Moving.Gather.{result_map};
 ghost use Rattle.bitstream_stream.specs.Reading.Reads.{Reads};
 ghost use Rattle.bitstream_value.specs.Grows.{OwnReads};
 
@@ -84,7 +84,7 @@ pub trait BitReadExt: BitRead {
     /// As [`CheckablePrimitive::read`].
     fn read_checked<C: CheckablePrimitive>(&mut self, count: C::CountType) -> Result<C, Error>
         ensures reads { Reads Self.source (C.reads Self.source.order count)
-            self.old (seen C.counted result) self.new };
+            self.old (result_map C.counted result) self.new };
 
     /// Reads the word of a symbol of a prefix code, and returns the symbol.
     ///
@@ -92,7 +92,7 @@ pub trait BitReadExt: BitRead {
     ///
     /// As [`FromBits::from_bits`].
     fn read_huffman<T: FromBits>(&mut self, code: &T) -> Result<T::Symbol, Error>
-        ensures reads { Reads Self.source (T.entry code.now) self.old result self.new };
+        ensures reads { Reads Self.source (T.decoder code.now) self.old result self.new };
 
     /// Reads a value of a type that says how it is read.
     ///

@@ -1,6 +1,6 @@
 //! Errors that read and write nothing, and come after `Failed`.
 ghost use Rattle.std.specs.Prelude.{◌≡◌, false, Err, IsErr};
-ghost use Rattle.bitstream_count.specs.Entry.{refuses};
+ghost use Rattle.bitstream_count.specs.Codec.{fail};
 ghost use Rattle.bitstream_stream.specs.Reading.Reads.{Reads, is_run_too_long};
 ghost use Rattle.bitstream_stream.specs.Writing.Sink.{Writes};
 
@@ -12,7 +12,7 @@ use bitstream_stream::write::BitWrite;
 pub(crate) fn refuse_read<T, R: BitRead>(reader: &mut R, error: Error) -> Result<T, Error>
     requires { is_run_too_long {A = T} (Err error) ≡ false }
     // No bit is taken, and the error is answered, or `Failed` if the reader has failed.
-    ensures reads { Reads R.source (refuses error) reader.old result reader.new }
+    ensures reads { Reads R.source (fail error) reader.old result reader.new }
     // It never succeeds.
     ensures error { IsErr result }
 {

@@ -60,7 +60,7 @@ def number_answers(enum: m.EnumType, goals: str) -> list[str]:
 def read_answers(line: Line, goals: str, read: str, name: str, made: str) -> list[str]:
     """Returns the answers of a function that reads `name`, and returns what `made` makes of it."""
     steps = ("next_own_read _", "own_end _ _", "exit_own_read _")
-    first, end, stop = steps if line.error else ("Reads-chain-ok _ _", "Reads-gives _ _", "exit _ _")
+    first, end, stop = steps if line.error else ("Reads-and_then-ok _ _", "Reads-pure _ _", "exit _ _")
     return [
         f"{goals}.{read}.Goals as goal",
         "",

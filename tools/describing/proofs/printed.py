@@ -85,7 +85,7 @@ def law(f: Format) -> Answers:
     back = f"λ o value at from more fits. ({f.m}_goes o value fits).back at from more"
     size = f"λ o value at fits. ({f.m}_packs o value fits).size at"
     clauses = ("returns-clause-back", "c", back), ("returns-clause-size", "c", size)
-    return answer(f, f"{f.m}_goes_back", *clauses)
+    return answer(f, f"{f.m}_round_trip", *clauses)
 
 
 def traits(f: Format) -> Answers:

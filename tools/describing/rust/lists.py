@@ -40,7 +40,7 @@ def read_code(f: Format, line: Line, kind: m.List) -> list[str]:
         *["/// One that is refused is the last that is read."] * bool(line.error),
         f"fn read_{kind.name}<R: BitRead>(reader: &mut R, alloc: Global, count: u64) -> {result}",
         f"    ensures {{ {reads} {entry}",
-        "        reader.old (seen (λ found. found.items) result) reader.new }",
+        "        reader.old (result_map (λ found. found.items) result) reader.new }",
         "{",
         "    let mut found = Vec::new(alloc);",
         "    for _ in 0..count {",

@@ -24,7 +24,7 @@ def read_code(f: Format) -> list[str]:
         *own,
         f"    /// {'Else those' if f.own else 'Those'} of the reader: after each of them it has failed.",
         f"    pub fn read<R: BitRead>(reader: &mut R{memory(f)}) -> Result<{f.type}, {f.e}>",
-        f"        ensures {{ {outcome} ({f.m}_entry R.source.order) reader.old result reader.new }}",
+        f"        ensures {{ {outcome} ({f.m}_decoder R.source.order) reader.old result reader.new }}",
         *read_body(f, 0),
         *later_reads(f, outcome),
     ]
@@ -61,10 +61,10 @@ def later_reads(f: Format, outcome: str) -> list[str]:
 def parse_code(f: Format) -> list[str]:
     """Returns the function that reads a slice."""
     m, t, o = f.m, f.type, f.o
-    answer = f"(sure_answer (({m}_entry {o}).reads 0 (bits {o} packet.now)))"
-    reached = f"MayAllocate ({m}_entry {o}) 0 (bits {o} packet.now)"
+    answer = f"(sure_answer (({m}_decoder {o}).reads 0 (bits {o} packet.now)))"
+    reached = f"MayAllocate ({m}_decoder {o}) 0 (bits {o} packet.now)"
     told = or_refused(f, f"OwnAnswer {f.becomes_name} (λ answer. answer)\n            {answer} result", reached)
-    bits, few = f"write_run ({m}_writes {o} value) 0", "if the bytes end before the fields do"
+    bits, few = f"write_sequence ({m}_writes {o} value) 0", "if the bytes end before the fields do"
     errors = dict.fromkeys(reader_errors(f.description.kinds))
     more = [f"    /// `{of_reader(f, error)}` {when}." for error, when in errors]
     more += [f"    /// `{of_reader(f, 'OutOfMemory')}` if memory for an item of a list is refused."] * f.grows
@@ -84,7 +84,7 @@ def parse_code(f: Format) -> list[str]:
         f"        ensures back {{ (value : {t}) (more : List Bool) → Fits value",
         f"            → bits {o} packet.now ≡ {bits} ++ more{behind}→ {or_refused(f, 'result ≡ Ok value')} }}",
         "    {",
-        f"        {m}_goes_back();",
+        f"        {m}_round_trip();",
         f"        {t}::read(&mut BitReader::<_, {f.order}>::over(packet){', alloc' * f.grows})",
         "    }",
         "",

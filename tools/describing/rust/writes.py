@@ -57,7 +57,7 @@ def pack_code(f: Format) -> list[str]:
         size, length = str(f.bytes), "length buffer.old"
         few = f"has fewer than {size} bytes" if size != "1" else "is empty"
     holds = "Fits self.now" if f.fitting else f"AllAccepted ({m}_writes {o} self.now) 0"
-    misfit = [f"(error : Error) → run_length ({m}_writes {o} self.now) 0 ≡ Err error"]
+    misfit = [f"(error : Error) → sequence_length ({m}_writes {o} self.now) 0 ≡ Err error"]
     return [
         "    /// Writes the fields to the first bytes of a buffer, and returns what was written. The other bytes",
         "    /// stay as they were. No memory is asked for.",

@@ -52,8 +52,8 @@ def read_specs(f: Format, line: Line, enum: m.EnumType) -> list[str]:
     if isinstance(line.kind, m.Array):
         return array_specs(f, line, enum, line.kind.count)
     s = snake(enum.name)
-    head = f"abbrev pub {s}_read : Order → ReadEntry {answer_type(f, line, enum.name)}"
-    read = f"chain (unsigned_entry o {enum_bits(enum)} {enum.width}) (λ v. gives ({s}_of v))"
+    head = f"abbrev pub {s}_read : Order → Decoder {answer_type(f, line, enum.name)}"
+    read = f"and_then (unsigned_decoder o {enum_bits(enum)} {enum.width}) (λ v. pure ({s}_of v))"
     return ["-- the read of its number", head, f"{s}_read o = {read}", ""]
 
 
@@ -61,15 +61,15 @@ def array_specs(f: Format, line: Line, enum: m.EnumType, count: int) -> list[str
     """Returns the definitions of the cases of an array of numbers, and of their read."""
     s = snake(enum.name)
     each, answer = f"map {s}_of numbers", answer_type(f, line, f"(List {enum.name})")
-    read = f"items_entry (unsigned_entry o {enum_bits(enum)} {enum.width}) {count}"
+    read = f"items_decoder (unsigned_decoder o {enum_bits(enum)} {enum.width}) {count}"
     return [
         "-- what each number says",
         f"abbrev pub {s}_each : List ℕ → {answer}",
         f"{s}_each numbers = {f'all_ok ({each})' if line.error else each}",
         "",
         f"-- the read of {count} numbers",
-        f"abbrev pub {s}_read_each : Order → ReadEntry {answer}",
-        f"{s}_read_each o = chain ({read}) (λ v. gives ({s}_each v))",
+        f"abbrev pub {s}_read_each : Order → Decoder {answer}",
+        f"{s}_read_each o = and_then ({read}) (λ v. pure ({s}_each v))",
         "",
     ]
 
@@ -89,6 +89,6 @@ def mapped_specs(f: Format, line: Line, use: m.Use) -> list[str]:
     out += [f"{module}_answer (Ok value) = Ok value"]
     out += [f"{module}_answer (Err error) = Err ({module}_error error)"]
     out += ["", f"-- the reads of a `{part}`, with the errors of the type"]
-    out += [f"abbrev pub {module}_here : Order → ReadEntry (Result {part} {f.error})"]
-    here = f"chain ({module}_entry o) (λ answer. gives ({module}_answer answer))"
+    out += [f"abbrev pub {module}_here : Order → Decoder (Result {part} {f.error})"]
+    here = f"and_then ({module}_decoder o) (λ answer. pure ({module}_answer answer))"
     return [*out, f"{module}_here o = {here}", ""]

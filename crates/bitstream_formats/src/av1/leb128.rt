@@ -1,8 +1,8 @@
 //! Numbers in groups of 7 bits, the lowest group first, also with groups of zeros at their end
 //! (section 4.10.5).
 ghost use Rattle.std.specs.Prelude.{◌≡◌, ◌++◌, ◌*◌, ◌<◌, ◌≤◌, ◌^◌, ℕ, Bool, List, Ok, length};
-ghost use Rattle.bitstream_io.specs.Callers.{Order, ReadsOwn, Takes, write_run};
-ghost use Rattle.bitstream_formats.specs.Leb128.{becomes_av1, groups_entry, leb128_entry, leb128_writes, small};
+ghost use Rattle.bitstream_io.specs.Callers.{Order, ReadsOwn, Done, write_sequence};
+ghost use Rattle.bitstream_formats.specs.Leb128.{becomes_av1, groups_decoder, leb128_decoder, leb128_writes, small};
 
 use super::Av1Error;
 use bitstream_io::{BitRead, BitReadExt, Bits};
@@ -14,7 +14,7 @@ use bitstream_io::{BitRead, BitReadExt, Bits};
 /// `TooLarge` for 2^32 and more: the number is read then. `TooLarge` if a ninth byte were to follow: eight
 /// bytes are read then. Else those of the reader.
 pub fn read_leb128<R: BitRead>(reader: &mut R) -> Result<u32, Av1Error>
-    ensures { ReadsOwn R.source becomes_av1 (leb128_entry R.source.order) reader.old result reader.new }
+    ensures { ReadsOwn R.source becomes_av1 (leb128_decoder R.source.order) reader.old result reader.new }
 {
     read_groups(reader, 8, 1, 0)
 }
@@ -38,7 +38,7 @@ fn read_groups<R: BitRead>(
 ) -> Result<u32, Av1Error>
     requires room { place * 128 ^ room ≤ 2 ^ 56 }
     requires below { value < place }
-    ensures { ReadsOwn R.source becomes_av1 (groups_entry R.source.order room place value)
+    ensures { ReadsOwn R.source becomes_av1 (groups_decoder R.source.order room place value)
         reader.old result reader.new }
 {
     if room == 0 {
@@ -54,6 +54,6 @@ fn read_groups<R: BitRead>(
 /// A number is read back as it was written, in either order of bits, wherever it stands.
 pub fn leb128_numbers_go_back()
     ensures { (o : Order) (value at from : ℕ) (more : List Bool) → value < 2 ^ 32
-        → let word = write_run (leb128_writes o value) at in
-        (leb128_entry o).reads from (word ++ more) ≡ Takes (length word) (Ok (Ok value)) }
+        → let word = write_sequence (leb128_writes o value) at in
+        (leb128_decoder o).reads from (word ++ more) ≡ Done (length word) (Ok (Ok value)) }
 {}

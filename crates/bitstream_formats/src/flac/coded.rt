@@ -1,7 +1,7 @@
 //! Numbers that are coded as UTF-8 codes characters, in up to 36 bits (section 9.1.5).
 ghost use Rattle.std.specs.Prelude.{◌≡◌, ◌++◌, ◌+◌, ◌*◌, ◌<◌, ◌≤◌, ◌^◌, ℕ, Bool, List, Ok, length};
-ghost use Rattle.bitstream_io.specs.Callers.{Order, ReadsOwn, Takes, write_run};
-ghost use Rattle.bitstream_formats.specs.Coded.{becomes_flac, coded_entry, coded_writes, least_of, rest_entry, shortest};
+ghost use Rattle.bitstream_io.specs.Callers.{Order, ReadsOwn, Done, write_sequence};
+ghost use Rattle.bitstream_formats.specs.Coded.{becomes_flac, coded_decoder, coded_writes, least_of, rest_decoder, shortest};
 
 use super::error::FlacError;
 use bitstream_io::{BitRead, BitReadExt, Bits};
@@ -15,7 +15,7 @@ use bitstream_io::{BitRead, BitReadExt, Bits};
 /// answers `EndOfInput` if no 0 comes. `LongCoded` for a number that fewer bytes code. Those of the
 /// reader. What shows the error is read.
 pub fn read_coded<R: BitRead>(reader: &mut R) -> Result<u64, FlacError>
-    ensures { ReadsOwn R.source becomes_flac (coded_entry R.source.order) reader.old result reader.new }
+    ensures { ReadsOwn R.source becomes_flac (coded_decoder R.source.order) reader.old result reader.new }
 {
     let ones = reader.read_unary::<Bits<0>>()?;
     if ones == 0 {
@@ -63,7 +63,7 @@ fn read_rest<R: BitRead>(
     number: u64,
 ) -> Result<u64, FlacError>
     requires { (number + 1) * 64 ^ bytes ≤ 2 ^ 42 }
-    ensures { ReadsOwn R.source becomes_flac (rest_entry R.source.order least bytes number)
+    ensures { ReadsOwn R.source becomes_flac (rest_decoder R.source.order least bytes number)
         reader.old result reader.new }
 {
     if bytes == 0 {
@@ -77,6 +77,6 @@ fn read_rest<R: BitRead>(
 /// A coded number is read back as it was written, in either order of bits, wherever it stands.
 pub fn coded_numbers_go_back()
     ensures { (o : Order) (number at from : ℕ) (more : List Bool) → number < 2 ^ 36
-        → let word = write_run (coded_writes o number) at in
-        (coded_entry o).reads from (word ++ more) ≡ Takes (length word) (Ok (Ok number)) }
+        → let word = write_sequence (coded_writes o number) at in
+        (coded_decoder o).reads from (word ++ more) ≡ Done (length word) (Ok (Ok number)) }
 {}

@@ -40,6 +40,6 @@ pub fn remove_emulation(alloc: Global, unit: &[u8]) -> Result<Vec<u8>, AllocErro
 
 /// The removal gives bytes back as they were before a 3 was put between two zeros and each byte of at most
 /// 3 behind them.
-pub fn emulation_goes_back()
+pub fn emulation_round_trip()
     ensures { (bytes : List ℕ) → without_emulation 0 (with_emulation 0 bytes) ≡ bytes }
 {}

@@ -1,6 +1,6 @@
 //! A read call as a value.
 ghost use Rattle.bitstream_stream.specs.Reading.Reads.{ReadOutcome};
-ghost use Rattle.bitstream_io.specs.ReadScript.{read_entry, asks_memory};
+ghost use Rattle.bitstream_io.specs.ReadScript.{read_decoder, asks_memory};
 
 use crate::script::answers::Answer;
 use crate::script::byte_list::ByteList;
@@ -66,7 +66,7 @@ impl ReadCall {
     /// As the call of [`BitRead`] has them.
     pub(crate) fn make<R: BitRead>(&self, alloc: Global, reader: &mut R) -> Result<Answer, Error>
         ensures reads { ReadOutcome R.source (asks_memory self.now)
-            (read_entry R.source.order self.now) reader.old result reader.new }
+            (read_decoder R.source.order self.now) reader.old result reader.new }
     {
         match self {
             ReadCall::Bit => reader.read_bit().map(Answer::Bit),

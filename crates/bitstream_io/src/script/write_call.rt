@@ -1,6 +1,6 @@
 //! A write call as a value.
 ghost use Rattle.bitstream_stream.specs.Writing.Sink.{Writes};
-ghost use Rattle.bitstream_io.specs.Script.{write_entry};
+ghost use Rattle.bitstream_io.specs.Script.{write_encoder};
 
 use crate::script::byte_list::ByteList;
 use bitstream_count::error::Error;
@@ -59,7 +59,7 @@ impl WriteCall {
     ///
     /// As the call of [`BitWrite`] has them.
     pub(crate) fn make<W: BitWrite>(&self, writer: &mut W) -> Result<(), Error>
-        ensures writes { Writes W.sink (write_entry W.sink.order self.now)
+        ensures writes { Writes W.sink (write_encoder W.sink.order self.now)
             writer.old result writer.new }
     {
         match self {

@@ -1,7 +1,7 @@
 //! A list of write calls on any sink.
 ghost use Rattle.std.specs.Prelude.{◌≡◌, length, None};
 ghost use Rattle.bitstream_number.specs.Word.{Order};
-ghost use Rattle.bitstream_io.specs.Script.{write_entries, WritesRun, Counts};
+ghost use Rattle.bitstream_io.specs.Script.{write_encoders, WritesSequence, Counts};
 
 use crate::script::write_call::WriteCall;
 use bitstream_count::error::Error;
@@ -16,11 +16,11 @@ use bitstream_stream::write::BitWrite;
 /// the refusal, and each call behind it answers `Failed`.
 pub fn write_calls<W: BitWrite>(writer: &mut W, calls: &[WriteCall], answers: &mut [Option<Error>])
     requires { length answers.old ≡ length calls.now }
-    // The write run of the calls is appended, up to the first refused request.
-    ensures appends { WritesRun W.sink (write_entries W.sink.limit W.sink.order calls.now)
+    // The write sequence of the calls is appended, up to the first refused request.
+    ensures appends { WritesSequence W.sink (write_encoders W.sink.limit W.sink.order calls.now)
         writer.old answers.new writer.new }
     // In either order of bits the answers and the number of bits are the same, if the limit holds the sum.
-    ensures counts { (o : Order) → Counts W.sink (write_entries None o calls.now)
+    ensures counts { (o : Order) → Counts W.sink (write_encoders None o calls.now)
         writer.old answers.new writer.new }
 {
     for (i, call) in calls.iter().enumerate() {

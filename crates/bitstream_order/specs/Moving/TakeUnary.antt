@@ -40,7 +40,7 @@ pub record RefusesUnary (may : Refusal → Type 0) (o : Order) (stop : Bool) (x 
   pub takes : TakesBetween o x old (replicate count (not stop)) [] mid
   pub refused : FetchRefused may error mid 1 new
 
--- A unary read with the bits x in front: its word was taken, and the bits behind it are left; or the run was too long;
+-- A unary read with the bits x in prefix: its word was taken, and the bits behind it are left; or the run was too long;
 -- or a byte was refused.
 abbrev pub TakesUnary : (Refusal → Type 0) → Order → Bool → List Bool → PortState → Result (Option TakenUnary) Error
     → PortState → Type 0

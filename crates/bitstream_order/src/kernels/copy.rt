@@ -43,7 +43,7 @@ pub(crate) fn copy(to: &mut [u8], from: &[u8])
 /// there are. The rest of the buffer is unspecified: it may be overwritten, because a copy of constant
 /// length is faster.
 #[inline(always)]
-pub(crate) fn copy_front(to: &mut [u8], from: &[u8], count: usize) -> bool
+pub(crate) fn copy_prefix(to: &mut [u8], from: &[u8], count: usize) -> bool
     requires { count ≤ length to.old }
     // The buffer keeps its length.
     ensures len { length to.new ≡ length to.old }

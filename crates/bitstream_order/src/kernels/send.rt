@@ -3,7 +3,7 @@ ghost use Rattle.std.specs.Prelude.{◌≡◌, ℕ, ◌+◌, ◌^◌, ◌<◌, �
 ghost use Rattle.bitstream_order.specs.Refusal.{MayRefuseWrite};
 ghost use Rattle.bitstream_number.specs.Word.{word};
 ghost use Rattle.bitstream_order.specs.Port.{target_state, requests_count};
-ghost use Rattle.bitstream_order.specs.Moving.Send.{SendsFront};
+ghost use Rattle.bitstream_order.specs.Moving.Send.{SendsPrefix};
 
 use crate::order::Endianness;
 use crate::port::Port;
@@ -18,7 +18,7 @@ use bitstream_number::number::{Numeric, Primitive, UnsignedInteger};
 ///
 /// As [`Port::send`]. None of these bits is counted as sent then.
 #[inline(always)]
-pub fn send_front<T: Target, E: Endianness, U: UnsignedInteger>(
+pub fn send_prefix<T: Target, E: Endianness, U: UnsignedInteger>(
     port: &mut Port<T>,
     queue: u8,
     queued: u32,
@@ -30,7 +30,7 @@ pub fn send_front<T: Target, E: Endianness, U: UnsignedInteger>(
     requires full { 8 ≤ queued + n }
     requires room { n ≤ U.BITS_SIZE }
     // The queue and as many first bits of the word as answered are sent, or the request is refused.
-    ensures sends { SendsFront (MayRefuseWrite T.stream) E.order
+    ensures sends { SendsPrefix (MayRefuseWrite T.stream) E.order
         (word E.order queued queue) (word E.order n (U.value value))
         (target_state T.stream port.old) result (target_state T.stream port.new) }
     // If it succeeds, the answer is at most n.

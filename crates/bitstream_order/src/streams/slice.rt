@@ -4,13 +4,13 @@ ghost use Rattle.std.specs.Int.{FitsUnsigned, w64};
 ghost use Rattle.std.specs.Option.{SomeIff};
 ghost use Rattle.bitstream_order.specs.Streaming.Tail.{IsTail};
 
-use crate::kernels::copy::{copy, copy_front};
+use crate::kernels::copy::{copy, copy_prefix};
 use crate::streams::seek::SeekSource;
 use crate::streams::source::Source;
 use std::io;
 use std::io::{ErrorKind, SeekFrom};
 
-/// Bytes in memory, which are read from their front. A read is refused exactly if fewer bytes are
+/// Bytes in memory, which are read from their prefix. A read is refused exactly if fewer bytes are
 /// left than it asks for: with `UnexpectedEof`, and without taking any. So the bytes alone decide
 /// what a reader over it answers. (Of a `&[u8]` that is read as a stream std does not tell this.)
 ///
@@ -93,9 +93,9 @@ impl<'a> Slice<'a> {
         ensures all { slice_bytes self.new ≡ slice_bytes self.old }
     {
         let all = self.all;
-        let front = place.min(all.len() as u64);
-        self.bytes = &all[front as usize..];
-        self.past = place - front;
+        let prefix = place.min(all.len() as u64);
+        self.bytes = &all[prefix as usize..];
+        self.past = place - prefix;
     }
 }
 
@@ -110,8 +110,8 @@ impl<'a> Source for Slice<'a> {
         if bytes.len() < buf.len() {
             return Err(io::Error::from(ErrorKind::UnexpectedEof));
         }
-        let (front, back) = bytes.split_at(buf.len());
-        copy(buf, front);
+        let (prefix, back) = bytes.split_at(buf.len());
+        copy(buf, prefix);
         self.bytes = back;
         Ok(())
     }
@@ -119,12 +119,12 @@ impl<'a> Source for Slice<'a> {
     /// Copies as many bytes as the buffer holds, if there are so many, and takes the first `count`. If
     /// that number is known as the program is compiled, it copies only these.
     #[inline(always)]
-    fn read_front(&mut self, buf: &mut [u8], count: usize, constant: bool) -> io::Result<()> {
+    fn read_prefix(&mut self, buf: &mut [u8], count: usize, constant: bool) -> io::Result<()> {
         if constant {
             return self.read_exact(&mut buf[..count]);
         }
         let bytes = self.bytes;
-        if !copy_front(buf, bytes, count) {
+        if !copy_prefix(buf, bytes, count) {
             return Err(io::Error::from(ErrorKind::UnexpectedEof));
         }
         let (_, rest) = bytes.split_at(count);

@@ -7,7 +7,7 @@ use crate::streams::target::Target;
 use std::io;
 use std::io::ErrorKind;
 
-/// Bytes in memory, which are written from their front. Bytes that are not written yet stay as they
+/// Bytes in memory, which are written from their prefix. Bytes that are not written yet stay as they
 /// were. A request is refused exactly if fewer bytes are free than it has: as `WriteZero`, and without
 /// writing any. So a program packs into a buffer of
 /// its own, with no allocator, and its writer fails for want of room alone. (Of a `&mut [u8]` that is
@@ -41,7 +41,7 @@ pub struct SliceMut<'a> {
 impl<'a> SliceMut<'a> {
     ghost use Rattle.bitstream_order.specs.Streaming.SliceMut.{slice_bytes, slice_capacity, slice_name, slice_was, written_bytes};
 
-    /// Returns a target that writes to these bytes, from their front.
+    /// Returns a target that writes to these bytes, from their prefix.
     pub fn new(bytes: &'a mut [u8]) -> SliceMut<'a>
         // No byte is written yet.
         ensures written { written_bytes result ≡ [] }

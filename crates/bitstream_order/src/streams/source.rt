@@ -42,7 +42,7 @@ pub trait Source {
     ///
     /// As [`read_exact`](Source::read_exact).
     #[inline(always)]
-    fn read_front(&mut self, buf: &mut [u8], count: usize, _constant: bool) -> io::Result<()>
+    fn read_prefix(&mut self, buf: &mut [u8], count: usize, _constant: bool) -> io::Result<()>
         requires { count ≤ length buf.old }
         // If it succeeds, the buffer's front has taken the next `count` bytes, if the source tells
         // what is left.
@@ -84,7 +84,7 @@ impl<'a, S: Source> Source for Lent<'a, S> {
     }
 
     #[inline(always)]
-    fn read_front(&mut self, buf: &mut [u8], count: usize, constant: bool) -> io::Result<()> {
-        Source::read_front(&mut *self.at, buf, count, constant)
+    fn read_prefix(&mut self, buf: &mut [u8], count: usize, constant: bool) -> io::Result<()> {
+        Source::read_prefix(&mut *self.at, buf, count, constant)
     }
 }

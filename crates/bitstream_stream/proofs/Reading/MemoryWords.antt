@@ -24,12 +24,12 @@ windowed : (o : Order) (bytes : List ℕ) (bit n w : ℕ) → bit + n ≤ 8 * le
     → take (8 * length (take 8 bytes)) (word o 64 w) ≡ bits o (take 8 bytes)
     → take n (rest_bits o bytes bit) ≡ word o n (piece o 64 w bit n)
 windowed o bytes bit n w there few window =
-    let front = bits o (take 8 bytes) in
-    let size : length front ≡ 8 * length (take 8 bytes) = length-bits o (take 8 bytes) in
-    let parts : bits o bytes ≡ front ++ bits o (drop 8 bytes) =
+    let prefix = bits o (take 8 bytes) in
+    let size : length prefix ≡ 8 * length (take 8 bytes) = length-bits o (take 8 bytes) in
+    let parts : bits o bytes ≡ prefix ++ bits o (drop 8 bytes) =
     ap (bits o) (sym (take-append-drop 8 bytes)) ∙ bits-append o (take 8 bytes) (drop 8 bytes) in
     let whole : take (bit + n) (bits o bytes) ≡ take (bit + n) (word o 64 w) =
-    ap (take (bit + n)) parts ∙ take-append-le (bit + n) front (bits o (drop 8 bytes)) (omega (arith, size))
+    ap (take (bit + n)) parts ∙ take-append-le (bit + n) prefix (bits o (drop 8 bytes)) (omega (arith, size))
     ∙ ap (take (bit + n)) (sym window)
     ∙ take_less (bit + n) (8 * length (take 8 bytes)) (word o 64 w)
     (omega (arith, ap (λ l. length l) window, size)) in

@@ -6,7 +6,7 @@ use Rattle.std.specs.Io.KnownBytes.{Consumes}
 use Rattle.bitstream_order.specs.Reference.{Reference, by_name}
 use Rattle.bitstream_count.specs.declared.error.Error.{Error}
 use Rattle.bitstream_count.specs.declared.error.Error.TheVariants.{RunTooLong, OutOfMemory, EndOfInput}
-use Rattle.bitstream_count.specs.Entry.{ReadEntry, Front, TooFew, Takes}
+use Rattle.bitstream_count.specs.Codec.{Decoder, Prefix, Incomplete, Done}
 use Rattle.bitstream_number.specs.Word.{Order, bits}
 use Rattle.bitstream_order.specs.Fault.{read_refusal_of}
 use Rattle.bitstream_order.specs.Refusal.{Refusal, IsTrueEnd}
@@ -57,22 +57,22 @@ is_run_too_long (Err RunTooLong) = true
 is_run_too_long answer = false
 
 -- the reader had failed: it answers so, and nothing changes
-pub record HadFailed {A : Type 0} (entry : ReadEntry A) (old : ReaderState) (result : Result A Error)
+pub record HadFailed {A : Type 0} (decoder : Decoder A) (old : ReaderState) (result : Result A Error)
     (new : ReaderState) : Type 0 where
   pub failed : old.failed ≡ true
-  pub answer : result ≡ entry.on_failed
+  pub answer : result ≡ decoder.on_failed
   pub same : new ≡ old
 
--- The call takes its front, a word, and gives the front's answer. The word alone decides it, whatever bits
--- follow, and no proper beginning of the word has a front. The old queue and the bits of the bytes fetched are
+-- The call takes its prefix, a word, and gives the prefix's answer. The word alone decides it, whatever bits
+-- follow, and no proper beginning of the word has a prefix. The old queue and the bits of the bytes fetched are
 -- the word and then the new queue.
-pub record ReadDone {A : Type 0} (o : Order) (entry : ReadEntry A) (old : ReaderState) (result : Result A Error)
+pub record ReadDone {A : Type 0} (o : Order) (decoder : Decoder A) (old : ReaderState) (result : Result A Error)
     (new : ReaderState) : Type 0 where
   pub fine : old.failed ≡ false
   pub word : List Bool
-  pub decides : (more : List Bool) → entry.reads old.taken (word ++ more) ≡ Takes (length word) result
-  pub needs : (front : List Bool) (b : Bool) (back : List Bool) → word ≡ front ++ b ∷ back → entry.reads old.taken front
-      ≡ TooFew
+  pub decides : (more : List Bool) → decoder.reads old.taken (word ++ more) ≡ Done (length word) result
+  pub needs : (prefix : List Bool) (b : Bool) (back : List Bool) → word ≡ prefix ++ b ∷ back → decoder.reads old.taken prefix
+      ≡ Incomplete
   pub gone : List ℕ
   pub loses : Consumes old.bytes new.bytes gone
   pub rest : List Bool
@@ -99,33 +99,33 @@ pub record Took (o : Order) (old : ReaderState) (word : List Bool) (new : Reader
 -- A request was refused, as the stream may refuse, and the reader has failed. The queue was too short for the
 -- call, and so it was with the bytes fetched before; at a true end so were all bits left. The stream lost these
 -- bytes, and is as the refusal left it. The reader does not move back.
-pub record ReadRefused {A : Type 0} (o : Order) (may : Refusal → Type 0) (entry : ReadEntry A)
+pub record ReadRefused {A : Type 0} (o : Order) (may : Refusal → Type 0) (decoder : Decoder A)
     (old : ReaderState) (result : Result A Error) (new : ReaderState) : Type 0 where
   pub fine : old.failed ≡ false
   pub refusal : Refusal
   pub allowed : may refusal
   pub answer : result ≡ Err (read_refusal_of refusal.kind)
-  pub short : entry.reads old.taken old.queue ≡ TooFew
+  pub short : decoder.reads old.taken old.queue ≡ Incomplete
   pub gone : List ℕ
   pub loses : Consumes old.bytes refusal.before gone
   pub after : new.bytes ≡ refusal.after
   pub fetched : new.fetched ≡ old.fetched + length gone
   pub least : old.taken ≤ new.taken
-  pub few : entry.reads old.taken (old.queue ++ bits o gone) ≡ TooFew
-  pub ended : IsTrueEnd refusal → (xs : List ℕ) → old.bytes ≡ Some xs → entry.reads old.taken (old.queue ++ bits o xs)
-      ≡ TooFew
+  pub few : decoder.reads old.taken (old.queue ++ bits o gone) ≡ Incomplete
+  pub ended : IsTrueEnd refusal → (xs : List ℕ) → old.bytes ≡ Some xs → decoder.reads old.taken (old.queue ++ bits o xs)
+      ≡ Incomplete
   pub refusals : new.refusals ≡ refusal ∷ old.refusals
   pub references : new.references ≡ old.references
   pub failed : new.failed ≡ true
 
 -- Memory that the call asked for itself was refused, and the reader has failed. The bits that were taken
 -- until then were too few for the call, so a call for no bits is never refused memory.
-pub record MemoryRefused {A : Type 0} (o : Order) (entry : ReadEntry A) (old : ReaderState)
+pub record MemoryRefused {A : Type 0} (o : Order) (decoder : Decoder A) (old : ReaderState)
     (result : Result A Error) (new : ReaderState) : Type 0 where
   pub fine : old.failed ≡ false
   pub answer : result ≡ Err OutOfMemory
   pub word : List Bool
-  pub few : entry.reads old.taken word ≡ TooFew
+  pub few : decoder.reads old.taken word ≡ Incomplete
   pub gone : List ℕ
   pub loses : Consumes old.bytes new.bytes gone
   pub rest : List Bool
@@ -137,22 +137,22 @@ pub record MemoryRefused {A : Type 0} (o : Order) (entry : ReadEntry A) (old : R
   pub failed : new.failed ≡ true
 
 -- one read, by what the call means; `grows` says whether the call asks for memory of its own
-pub data ReadOutcome {R A : Type 0} (K : BitSource R) (grows : Bool) (entry : ReadEntry A) (old : R)
+pub data ReadOutcome {R A : Type 0} (K : BitSource R) (grows : Bool) (decoder : Decoder A) (old : R)
     (result : Result A Error) (new : R) : Type 0 where
-  had_failed : HadFailed entry (K.state old) result (K.state new) → ReadOutcome K grows entry old result new
-  was_done : ReadDone K.order entry (K.state old) result (K.state new) → ReadOutcome K grows entry old result new
-  was_refused : ReadRefused K.order K.may entry (K.state old) result (K.state new)
-      → ReadOutcome K grows entry old result new
-  memory_refused : grows ≡ true → MemoryRefused K.order entry (K.state old) result (K.state new)
-      → ReadOutcome K grows entry old result new
+  had_failed : HadFailed decoder (K.state old) result (K.state new) → ReadOutcome K grows decoder old result new
+  was_done : ReadDone K.order decoder (K.state old) result (K.state new) → ReadOutcome K grows decoder old result new
+  was_refused : ReadRefused K.order K.may decoder (K.state old) result (K.state new)
+      → ReadOutcome K grows decoder old result new
+  memory_refused : grows ≡ true → MemoryRefused K.order decoder (K.state old) result (K.state new)
+      → ReadOutcome K grows decoder old result new
 
 -- one read
-abbrev pub Reads : {R A : Type 0} → BitSource R → ReadEntry A → R → Result A Error → R → Type 0
-Reads K entry old result new = ReadOutcome K false entry old result new
+abbrev pub Reads : {R A : Type 0} → BitSource R → Decoder A → R → Result A Error → R → Type 0
+Reads K decoder old result new = ReadOutcome K false decoder old result new
 
 -- one read that asks for memory of its own
-abbrev pub ReadsGrowing : {R A : Type 0} → BitSource R → ReadEntry A → R → Result A Error → R → Type 0
-ReadsGrowing K entry old result new = ReadOutcome K true entry old result new
+abbrev pub ReadsGrowing : {R A : Type 0} → BitSource R → Decoder A → R → Result A Error → R → Type 0
+ReadsGrowing K decoder old result new = ReadOutcome K true decoder old result new
 
 -- the same reader, which has failed and has an empty queue
 abbrev pub failed_reader : ReaderState → ReaderState
@@ -191,13 +191,13 @@ ConstAnswer gives err (Ok false) result = result ≡ Err err
 ConstAnswer gives err (Err x) result = IsErrAnd result (gives x)
 
 -- a call that answers `err` if a word is not what it should be, and turns any other error into its own type
-pub record ReadsConst {R E : Type 0} (K : BitSource R) (gives : Error → E → Type 0) (entry : ReadEntry Bool)
+pub record ReadsConst {R E : Type 0} (K : BitSource R) (gives : Error → E → Type 0) (decoder : Decoder Bool)
     (err : E) (old : R) (result : Result (Unit {0}) E) (new : R) : Type 0 where
   pub plain : Result Bool Error
-  pub reads : Reads K entry old plain new
+  pub reads : Reads K decoder old plain new
   pub answer : ConstAnswer gives err plain result
 
--- what a call answers if all bits left are known: its front's answer, or the end
-abbrev pub sure_answer : {A : Type 0} → Front A → Result A Error
-sure_answer TooFew = Err EndOfInput
-sure_answer (Takes n answer) = answer
+-- what a call answers if all bits left are known: its prefix's answer, or the end
+abbrev pub sure_answer : {A : Type 0} → Prefix A → Result A Error
+sure_answer Incomplete = Err EndOfInput
+sure_answer (Done n answer) = answer

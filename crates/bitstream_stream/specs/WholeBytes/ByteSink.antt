@@ -46,15 +46,15 @@ pub record ByteWriteRefused {S : Type 0} (K : ByteSink S) (old : S) (bytes : Lis
   pub refusal : Refusal
   pub allowed : K.may refusal
   pub answer : error ≡ refusal_of refusal.kind
-  pub front : List ℕ
+  pub prefix : List ℕ
   pub back : List ℕ
-  pub parts : bytes ≡ front ++ back
+  pub parts : bytes ≡ prefix ++ back
   pub some : 0 < length back
   pub asked : refusal.wanted ≤ length back
   pub capacity : refusal.capacity ≡ capacity_of (K.references old)
-  pub before : Appends (K.contents old) refusal.before front
+  pub before : Appends (K.contents old) refusal.before prefix
   pub after : K.contents new ≡ refusal.after
-  pub sent : K.len new ≡ K.len old + length front
+  pub sent : K.len new ≡ K.len old + length prefix
   pub refusals : K.refusals new ≡ refusal ∷ K.refusals old
   pub references : K.references new ≡ K.references old
 

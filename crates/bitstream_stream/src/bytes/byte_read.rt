@@ -1,7 +1,7 @@
 //! The calls of a reader of bytes.
 ghost use Rattle.std.specs.Prelude.{◌≡◌, length};
 ghost use Rattle.bitstream_order.specs.Parts.{value_bytes};
-ghost use Rattle.bitstream_order.specs.Moving.Gather.{seen};
+ghost use Rattle.bitstream_order.specs.Moving.Gather.{result_map};
 ghost use Rattle.bitstream_stream.specs.WholeBytes.ByteReads.{ByteSource, ByteReads, ByteReadsGrowing, given_bytes, skipped_bytes, lent_byte_source};
 
 use crate::piece::{GROWTH, grow};
@@ -35,12 +35,12 @@ pub trait ByteRead {
     /// Reads a value from its bytes, in the reader's byte order.
     fn read<V: Primitive>(&mut self) -> Result<V, Error>
         ensures reads { ByteReads source (given_bytes V.BYTES) self.old
-            (seen (value_bytes source.order V.be_bytes V.le_bytes) result) self.new };
+            (result_map (value_bytes source.order V.be_bytes V.le_bytes) result) self.new };
 
     /// Reads a value from its bytes, in the byte order F.
     fn read_as<F: Endianness, V: Primitive>(&mut self) -> Result<V, Error>
         ensures reads { ByteReads source (given_bytes V.BYTES) self.old
-            (seen (value_bytes F.order V.be_bytes V.le_bytes) result) self.new };
+            (result_map (value_bytes F.order V.be_bytes V.le_bytes) result) self.new };
 
     /// Skips the given number of bytes, whatever they are.
     fn skip(&mut self, bytes: u32) -> Result<(), Error>
@@ -50,7 +50,7 @@ pub trait ByteRead {
     /// of the buffer are not specified.
     fn read_bytes(&mut self, buf: &mut [u8]) -> Result<(), Error>
         ensures reads { ByteReads source (given_bytes (length buf.old)) self.old
-            (seen (λ _. buf.new) result) self.new }
+            (result_map (λ _. buf.new) result) self.new }
     {
         for i in 0..buf.len() {
             let byte: [u8; 1] = self.read()?;
@@ -63,7 +63,7 @@ pub trait ByteRead {
     #[inline(always)]
     fn read_to_bytes<V: Primitive>(&mut self) -> Result<V::Bytes, Error>
         ensures reads { ByteReads source (given_bytes V.BYTES) self.old
-            (seen V.Bytes.items result) self.new }
+            (result_map V.Bytes.items result) self.new }
     {
         let mut bytes = V::buffer();
         self.read_bytes(V::as_bytes_mut(&mut bytes))?;
@@ -79,7 +79,7 @@ pub trait ByteRead {
     /// `OutOfMemory` if memory for the bytes is refused.
     fn read_to_vec<A: Allocator>(&mut self, alloc: A, bytes: usize) -> Result<Vec<u8, A>, Error>
         ensures reads { ByteReadsGrowing source (given_bytes bytes) self.old
-            (seen (λ read. read.items) result) self.new }
+            (result_map (λ read. read.items) result) self.new }
     {
         let mut buf = Vec::new(alloc);
         let mut at = 0;

@@ -2,10 +2,10 @@
 ghost use Rattle.std.specs.Prelude.{◌≡◌, ℕ, ◌+◌, ◌*◌, ◌/◌, ◌^◌, ◌<◌, ◌≤◌, ◌⊎◌, ◌==◌, IsTrue, false, true, length, Ok, OnOk};
 ghost use Rattle.bitstream_number.specs.Word.{count_width};
 ghost use Rattle.bitstream_order.specs.Parts.{value_bytes};
-ghost use Rattle.bitstream_order.specs.Moving.Gather.{seen};
+ghost use Rattle.bitstream_order.specs.Moving.Gather.{result_map};
 ghost use Rattle.bitstream_order.specs.Port.{fetched_count};
 ghost use Rattle.bitstream_stream.specs.Reading.Reads.{Reads, ReadsConst};
-ghost use Rattle.bitstream_stream.specs.Reading.ReadTable.{bit_entry, unsigned_entry, signed_entry, const_entry, unary_entry, count_entry, align_entry, bytes_entry, skip_entry, is_full};
+ghost use Rattle.bitstream_stream.specs.Reading.ReadTable.{bit_decoder, unsigned_decoder, signed_decoder, const_decoder, unary_decoder, count_decoder, align_decoder, bytes_decoder, skip_decoder, is_full};
 
 use crate::piece::PIECE;
 use crate::read::BitRead;
@@ -111,7 +111,7 @@ impl<R: Source, E: Endianness> BitReader<R, E> {
         requires room { bits ≤ U.BITS_SIZE }
         // Takes just `bits` bits and answers their number, or answers an error.
         ensures reads { Reads ⟦<Self as BitRead>⟧.source
-            (unsigned_entry E.order U.BITS_SIZE bits) self.old (seen U.value result) self.new }
+            (unsigned_decoder E.order U.BITS_SIZE bits) self.old (result_map U.value result) self.new }
         // At most one request is made, and none if the queue is enough.
         ensures asks { AsksForWord bits self.old self.new }
     {
@@ -142,7 +142,7 @@ impl<R: Source, E: Endianness> BitReader<R, E> {
         requires room { bits ≤ U.BITS_SIZE }
         // Takes just `bits` bits and answers their number, or answers an error.
         ensures reads { Reads ⟦<Self as BitRead>⟧.source
-            (unsigned_entry E.order U.BITS_SIZE bits) self.old (seen U.value result) self.new }
+            (unsigned_decoder E.order U.BITS_SIZE bits) self.old (result_map U.value result) self.new }
         // At most one request is made, and none if the queue is enough.
         ensures asks { AsksForWord bits self.old self.new }
     {
@@ -163,7 +163,7 @@ impl<R: Source, E: Endianness> BitReader<R, E> {
     fn read_word<U: UnsignedInteger>(&mut self, bits: u32, constant: bool) -> Result<U, Error>
         // Takes just `bits` bits and answers their number, or answers an error.
         ensures reads { Reads ⟦<Self as BitRead>⟧.source
-            (unsigned_entry E.order U.BITS_SIZE bits) self.old (seen U.value result) self.new }
+            (unsigned_decoder E.order U.BITS_SIZE bits) self.old (result_map U.value result) self.new }
         // At most one request is made, and none if the queue is enough.
         ensures asks { AsksForWord bits self.old self.new }
     {
@@ -182,7 +182,7 @@ impl<R: Source, E: Endianness> BitReader<R, E> {
     fn read_signed_word<S: SignedInteger>(&mut self, bits: u32, constant: bool) -> Result<S, Error>
         // Takes just `bits` bits and answers their two's complement, or answers an error.
         ensures reads { Reads ⟦<Self as BitRead>⟧.source
-            (signed_entry E.order S.BITS_SIZE bits) self.old (seen S.integer result) self.new }
+            (signed_decoder E.order S.BITS_SIZE bits) self.old (result_map S.integer result) self.new }
         // At most one request is made, and none if the queue is enough.
         ensures asks { AsksForWord bits self.old self.new }
     {
@@ -204,8 +204,8 @@ impl<R: Source, E: Endianness> BitReader<R, E> {
         requires none { self.old.queued ≡ 0 }
         requires some { 1 ≤ length buf.old }
         // Takes just as many bytes as the buffer has into it, or answers an error.
-        ensures reads { Reads ⟦<Self as BitRead>⟧.source (bytes_entry E.order (length buf.old))
-            self.old (seen (λ _. buf.new) result) self.new }
+        ensures reads { Reads ⟦<Self as BitRead>⟧.source (bytes_decoder E.order (length buf.old))
+            self.old (result_map (λ _. buf.new) result) self.new }
         // Exactly one request is made, whether it is refused or not.
         ensures requests { requests_made self.new ≡ requests_made self.old + 1 }
     {
@@ -228,8 +228,8 @@ impl<R: Source, E: Endianness> BitReader<R, E> {
         requires queued { 1 ≤ self.old.queued }
         requires some { 1 ≤ length buf.old }
         // Takes just as many bytes as the buffer has into it, or answers an error.
-        ensures reads { Reads ⟦<Self as BitRead>⟧.source (bytes_entry E.order (length buf.old))
-            self.old (seen (λ _. buf.new) result) self.new }
+        ensures reads { Reads ⟦<Self as BitRead>⟧.source (bytes_decoder E.order (length buf.old))
+            self.old (result_map (λ _. buf.new) result) self.new }
         // If it succeeds, the reader has not failed.
         ensures fine { OnOk result (self.new.failed ≡ false) }
         // If it succeeds, as many bits are queued as before.
@@ -240,9 +240,9 @@ impl<R: Source, E: Endianness> BitReader<R, E> {
         let queue = E::first(self.queue, self.queued);
         match self.port.fetch(buf) {
             Ok(()) => {
-                // The queued bits go to the front, and as many last bits are left over.
+                // The queued bits go to the prefix, and as many last bits are left over.
                 let left = shift::<E>(queue, self.queued, buf);
-                // The queue of a reader stands at the front of its byte.
+                // The queue of a reader stands at the prefix of its byte.
                 self.queue = E::to_front(left, self.queued);
                 self.taken.add_bytes(buf.len());
                 Ok(())
@@ -265,8 +265,8 @@ impl<R: Source, E: Endianness> BitReader<R, E> {
         requires queued { 1 ≤ self.old.queued }
         requires some { 1 ≤ most }
         // Takes just as many bytes as the buffer has into it, or answers an error.
-        ensures reads { Reads ⟦<Self as BitRead>⟧.source (bytes_entry E.order (length buf.old))
-            self.old (seen (λ _. buf.new) result) self.new }
+        ensures reads { Reads ⟦<Self as BitRead>⟧.source (bytes_decoder E.order (length buf.old))
+            self.old (result_map (λ _. buf.new) result) self.new }
         // If it succeeds, it made one request if no bit was queued, else one for each piece of up
         // to `most` bytes. For no bytes it made none.
         ensures asks { AsksForBytes most (length buf.old) self.old result self.new }
@@ -287,8 +287,8 @@ impl<R: Source, E: Endianness> BitReader<R, E> {
     fn fill(&mut self, buf: &mut [u8], most: usize) -> Result<(), Error>
         requires { 1 ≤ most }
         // Takes just as many bytes as the buffer has into it, or answers an error.
-        ensures reads { Reads ⟦<Self as BitRead>⟧.source (bytes_entry E.order (length buf.old))
-            self.old (seen (λ _. buf.new) result) self.new }
+        ensures reads { Reads ⟦<Self as BitRead>⟧.source (bytes_decoder E.order (length buf.old))
+            self.old (result_map (λ _. buf.new) result) self.new }
         // If it succeeds, it made one request if no bit was queued, else one for each piece of up
         // to `most` bytes. For no bytes it made none.
         ensures asks { AsksForBytes most (length buf.old) self.old result self.new }
@@ -320,7 +320,7 @@ impl<R: Source, E: Endianness> BitReader<R, E> {
 
     /// Skips the given number of bytes, in pieces.
     fn skip_bytes(&mut self, bytes: usize) -> Result<(), Error>
-        ensures { Reads ⟦<Self as BitRead>⟧.source (skip_entry (8 * bytes)) self.old result self.new }
+        ensures { Reads ⟦<Self as BitRead>⟧.source (skip_decoder (8 * bytes)) self.old result self.new }
     {
         if self.failed {
             return Err(Error::Failed);
@@ -346,8 +346,8 @@ impl<R: Source, E: Endianness> BitRead for BitReader<R, E> {
     fn read_unsigned_counted<C: Count, U: UnsignedInteger>(&mut self, bits: C) -> Result<U, Error>
         // Takes just `bits` bits and answers their number, or answers an error.
         ensures reads { Reads ⟦<Self as BitRead>⟧.source
-            (unsigned_entry E.order U.BITS_SIZE (C.number bits))
-            self.old (seen U.value result) self.new }
+            (unsigned_decoder E.order U.BITS_SIZE (C.number bits))
+            self.old (result_map U.value result) self.new }
         // At most one request is made, and none if the queue is enough.
         ensures asks { AsksForWord (C.number bits) self.old self.new }
     {
@@ -358,8 +358,8 @@ impl<R: Source, E: Endianness> BitRead for BitReader<R, E> {
     fn read_signed_counted<C: SignedCount, S: SignedInteger>(&mut self, bits: C) -> Result<S, Error>
         // Takes just `bits` bits and answers their two's complement, or answers an error.
         ensures reads { Reads ⟦<Self as BitRead>⟧.source
-            (signed_entry E.order S.BITS_SIZE (C.number bits))
-            self.old (seen S.integer result) self.new }
+            (signed_decoder E.order S.BITS_SIZE (C.number bits))
+            self.old (result_map S.integer result) self.new }
         // At most one request is made, and none if the queue is enough.
         ensures asks { AsksForWord (C.number bits) self.old self.new }
     {
@@ -369,7 +369,7 @@ impl<R: Source, E: Endianness> BitRead for BitReader<R, E> {
     #[inline(always)]
     fn read_bit(&mut self) -> Result<bool, Error>
         // Takes just one bit and answers it, or answers an error.
-        ensures reads { Reads ⟦<Self as BitRead>⟧.source bit_entry self.old result self.new }
+        ensures reads { Reads ⟦<Self as BitRead>⟧.source bit_decoder self.old result self.new }
         // At most one request is made, and none if the queue is enough.
         ensures asks { AsksForWord 1 self.old self.new }
     {
@@ -381,8 +381,8 @@ impl<R: Source, E: Endianness> BitRead for BitReader<R, E> {
     fn read_unsigned_var<U: UnsignedInteger>(&mut self, bits: u32) -> Result<U, Error>
         // Takes just `bits` bits and answers their number, or answers an error.
         ensures reads { Reads ⟦<Self as BitRead>⟧.source
-            (unsigned_entry E.order U.BITS_SIZE bits)
-            self.old (seen U.value result) self.new }
+            (unsigned_decoder E.order U.BITS_SIZE bits)
+            self.old (result_map U.value result) self.new }
         // At most one request is made, and none if the queue is enough.
         ensures asks { AsksForWord bits self.old self.new }
     {
@@ -393,7 +393,7 @@ impl<R: Source, E: Endianness> BitRead for BitReader<R, E> {
     fn read_unsigned<B: Width, U: UnsignedInteger>(&mut self) -> Result<U, Error>
         // Takes just `B::BITS` bits and answers their number, or answers an error.
         ensures reads { Reads ⟦<Self as BitRead>⟧.source
-            (unsigned_entry E.order U.BITS_SIZE B.BITS) self.old (seen U.value result) self.new }
+            (unsigned_decoder E.order U.BITS_SIZE B.BITS) self.old (result_map U.value result) self.new }
         // At most one request is made, and none if the queue is enough.
         ensures asks { AsksForWord B.BITS self.old self.new }
     {
@@ -404,7 +404,7 @@ impl<R: Source, E: Endianness> BitRead for BitReader<R, E> {
     fn read_signed_var<S: SignedInteger>(&mut self, bits: u32) -> Result<S, Error>
         // Takes just `bits` bits and answers their two's complement, or answers an error.
         ensures reads { Reads ⟦<Self as BitRead>⟧.source
-            (signed_entry E.order S.BITS_SIZE bits) self.old (seen S.integer result) self.new }
+            (signed_decoder E.order S.BITS_SIZE bits) self.old (result_map S.integer result) self.new }
         // At most one request is made, and none if the queue is enough.
         ensures asks { AsksForWord bits self.old self.new }
     {
@@ -415,7 +415,7 @@ impl<R: Source, E: Endianness> BitRead for BitReader<R, E> {
     fn read_signed<B: Width, S: SignedInteger>(&mut self) -> Result<S, Error>
         // Takes just `B::BITS` bits and answers their two's complement, or answers an error.
         ensures reads { Reads ⟦<Self as BitRead>⟧.source
-            (signed_entry E.order S.BITS_SIZE B.BITS) self.old (seen S.integer result) self.new }
+            (signed_decoder E.order S.BITS_SIZE B.BITS) self.old (result_map S.integer result) self.new }
         // At most one request is made, and none if the queue is enough.
         ensures asks { AsksForWord B.BITS self.old self.new }
     {
@@ -428,7 +428,7 @@ impl<R: Source, E: Endianness> BitRead for BitReader<R, E> {
         // Takes just `B::BITS` bits, and answers `err` unless their number is `V::BITS`. Or answers
         // an error of the read, as an F.
         ensures reads { ReadsConst ⟦<Self as BitRead>⟧.source F.from_gives
-            (const_entry E.order B.BITS V.BITS) err self.old result self.new }
+            (const_decoder E.order B.BITS V.BITS) err self.old result self.new }
         // At most one request is made, and none if the queue is enough.
         ensures asks { AsksForWord B.BITS self.old self.new }
     {
@@ -441,7 +441,7 @@ impl<R: Source, E: Endianness> BitRead for BitReader<R, E> {
         requires { S.BITS < 2 }
         // Takes just the bits up to and with the stop bit, and counts those before it, or answers
         // an error.
-        ensures reads { Reads ⟦<Self as BitRead>⟧.source (unary_entry (S.BITS == 1))
+        ensures reads { Reads ⟦<Self as BitRead>⟧.source (unary_decoder (S.BITS == 1))
             self.old result self.new }
         // If it succeeds, it took one turn more than it fetched bytes.
         ensures turns { TurnsByBytes self.old result self.new }
@@ -484,7 +484,7 @@ impl<R: Source, E: Endianness> BitRead for BitReader<R, E> {
         requires full { IsTrue (is_full 32 C.MAX) }
         // Takes just the bits that hold `C::MAX` and answers their count, or answers an error.
         ensures reads { Reads ⟦<Self as BitRead>⟧.source
-            (count_entry E.order C.MAX) self.old (seen C.number result) self.new }
+            (count_decoder E.order C.MAX) self.old (result_map C.number result) self.new }
         // At most one request is made, and none if the queue is enough.
         ensures asks { AsksForWord (count_width C.MAX) self.old self.new }
     {
@@ -499,8 +499,8 @@ impl<R: Source, E: Endianness> BitRead for BitReader<R, E> {
     #[inline(always)]
     fn read_to<V: Primitive>(&mut self) -> Result<V, Error>
         // Takes just `V::BYTES` bytes and answers their value in the order E, or answers an error.
-        ensures reads { Reads ⟦<Self as BitRead>⟧.source (bytes_entry E.order V.BYTES) self.old
-            (seen (value_bytes E.order V.be_bytes V.le_bytes) result) self.new }
+        ensures reads { Reads ⟦<Self as BitRead>⟧.source (bytes_decoder E.order V.BYTES) self.old
+            (result_map (value_bytes E.order V.be_bytes V.le_bytes) result) self.new }
         // If it succeeds, it made one request if no bit was queued, else one for each piece of up
         // to 8 bytes. For no bytes it made none.
         ensures asks { AsksForBytes 8 V.BYTES self.old result self.new }
@@ -511,8 +511,8 @@ impl<R: Source, E: Endianness> BitRead for BitReader<R, E> {
     #[inline(always)]
     fn read_as_to<F: Endianness, V: Primitive>(&mut self) -> Result<V, Error>
         // Takes just `V::BYTES` bytes and answers their value in the order F, or answers an error.
-        ensures reads { Reads ⟦<Self as BitRead>⟧.source (bytes_entry E.order V.BYTES) self.old
-            (seen (value_bytes F.order V.be_bytes V.le_bytes) result) self.new }
+        ensures reads { Reads ⟦<Self as BitRead>⟧.source (bytes_decoder E.order V.BYTES) self.old
+            (result_map (value_bytes F.order V.be_bytes V.le_bytes) result) self.new }
         // If it succeeds, it made one request if no bit was queued, else one for each piece of up
         // to 8 bytes. For no bytes it made none.
         ensures asks { AsksForBytes 8 V.BYTES self.old result self.new }
@@ -525,8 +525,8 @@ impl<R: Source, E: Endianness> BitRead for BitReader<R, E> {
     #[inline(always)]
     fn read_bytes(&mut self, buf: &mut [u8]) -> Result<(), Error>
         // Takes just as many bytes as the buffer has into it, or answers an error.
-        ensures reads { Reads ⟦<Self as BitRead>⟧.source (bytes_entry E.order (length buf.old))
-            self.old (seen (λ _. buf.new) result) self.new }
+        ensures reads { Reads ⟦<Self as BitRead>⟧.source (bytes_decoder E.order (length buf.old))
+            self.old (result_map (λ _. buf.new) result) self.new }
         // If it succeeds, it made one request if no bit was queued, else one for each piece of up
         // to 1024 bytes. For no bytes it made none.
         ensures asks { AsksForBytes 1024 (length buf.old) self.old result self.new }
@@ -556,7 +556,7 @@ impl<R: Source, E: Endianness> BitRead for BitReader<R, E> {
 
     fn byte_align(&mut self)
         // Takes the bits up to the next whole byte. A reader that has failed stays as it is.
-        ensures reads { Reads ⟦<Self as BitRead>⟧.source align_entry
+        ensures reads { Reads ⟦<Self as BitRead>⟧.source align_decoder
             self.old (Ok tt) self.new }
         // No request is made.
         ensures requests { requests_made self.new ≡ requests_made self.old }

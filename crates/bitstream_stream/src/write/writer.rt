@@ -9,7 +9,7 @@ use crate::write::run::run_without_stop;
 use bitstream_count::count::{Count, SignedCount};
 use bitstream_count::error::Error;
 use bitstream_number::number::{Numeric, Primitive, SignedInteger, UnsignedInteger, Width};
-use bitstream_order::kernels::send::send_front;
+use bitstream_order::kernels::send::send_prefix;
 use bitstream_order::kernels::shift::shift;
 use bitstream_order::kernels::sign::complement;
 use bitstream_order::order::Endianness;
@@ -117,7 +117,7 @@ impl<W: Target, E: Endianness> BitWriter<W, E> {
             self.queued += n;
             return Ok(());
         }
-        match send_front::<W, E, U>(&mut self.port, self.queue, self.queued, value, n) {
+        match send_prefix::<W, E, U>(&mut self.port, self.queue, self.queued, value, n) {
             Ok(gone) => {
                 // The bits that filled no byte are the new queue.
                 self.queue = E::cut(value, n, gone, n - gone);
@@ -159,7 +159,7 @@ impl<W: Target, E: Endianness> BitWriter<W, E> {
         // Exactly one request is made, whether it is refused or not.
         ensures requests { requests_made self.new ≡ requests_made self.old + 1 }
     {
-        // The queued bits go to the front, and as many last bits are left over.
+        // The queued bits go to the prefix, and as many last bits are left over.
         let left = shift::<E>(self.queue, self.queued, bytes);
         match self.port.send(bytes) {
             Ok(()) => {
@@ -244,7 +244,7 @@ impl<W: Target, E: Endianness> BitWrite for BitWriter<W, E> {
     ghost use Rattle.bitstream_order.specs.Parts.{value_bytes};
     ghost use Rattle.bitstream_stream.specs.Writing.Writer.{writer_sink, AsksForBytes, AsksForWord};
     ghost use Rattle.bitstream_stream.specs.Writing.Sink.{Writes};
-    ghost use Rattle.bitstream_stream.specs.Writing.WriteTable.{unsigned, signed, plain, unary_word, bit as one_bit, count as count_entry, buffer};
+    ghost use Rattle.bitstream_stream.specs.Writing.WriteTable.{unsigned, signed, plain, unary_word, bit as one_bit, count as count_decoder, buffer};
 
     ghost sink = { writer_sink W.stream E.order };
 
@@ -378,7 +378,7 @@ impl<W: Target, E: Endianness> BitWrite for BitWriter<W, E> {
     fn write_count<C: Count>(&mut self, count: C) -> Result<(), Error>
         // Appends just the count, in the bits that hold `C::MAX`, or answers an error.
         ensures writes { Writes ⟦<Self as BitWrite>⟧.sink
-            (count_entry E.order C.MAX (C.number count)) self.old result self.new }
+            (count_decoder E.order C.MAX (C.number count)) self.old result self.new }
         // At most one request is made, and none if no byte is filled.
         ensures asks { AsksForWord (count_width C.MAX) self.old self.new }
     {

@@ -1,10 +1,10 @@
 use Rattle.std.proofs.Common.{refl}
-use Rattle.bitstream_io.specs.Tree.{IsPath, bit_by_bit, path_entry}
+use Rattle.bitstream_io.specs.Tree.{IsPath, bit_by_bit, path_decoder}
 use Rattle.bitstream_io.specs.Word.{Order}
-use Rattle.bitstream_io.proofs.BackLemmas.{GoesBack}
+use Rattle.bitstream_io.proofs.BackLemmas.{RoundTrip}
 use Rattle.bitstream_io.proofs.CallerLemmas.{last-back}
 use Rattle.bitstream_io.proofs.CallsBack.{calls_go_back, path-read}
-use Rattle.bitstream_callers.specs.Sensor.{Fits, measurement_entry, measurement_writes, state_tree, state_word}
+use Rattle.bitstream_callers.specs.Sensor.{Fits, measurement_decoder, measurement_writes, state_tree, state_word}
 use Rattle.bitstream_callers.specs.declared.sensor.Measurement.{Measurement}
 use Rattle.bitstream_callers.specs.declared.sensor.State.{State}
 use Rattle.bitstream_callers.specs.declared.sensor.State.TheVariants.{Idle, Forward, Backward, Braking}
@@ -17,9 +17,9 @@ path Backward = refl
 path Braking = refl
 
 goes : (o : Order) (measurement : Measurement) → Fits measurement
-    → GoesBack (measurement_entry o) (measurement_writes o measurement) measurement
+    → RoundTrip (measurement_decoder o) (measurement_writes o measurement) measurement
 goes o measurement fits =
-    let state = last-back (path_entry state_tree) (λ (s : State). record measurement { state = s })
+    let state = last-back (path_decoder state_tree) (λ (s : State). record measurement { state = s })
     (bit_by_bit (state_word measurement.state)) measurement.state
     (path-read state_tree (state_word measurement.state) measurement.state (path measurement.state)) in
     search (calls_go_back, state, fits) depth 16

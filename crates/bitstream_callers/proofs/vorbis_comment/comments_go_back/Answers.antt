@@ -6,9 +6,9 @@ use Rattle.std.proofs.lemmas.List.Elements.{All-weaker}
 use Rattle.bitstream_io.specs.ByteGrows.{byte_parts}
 use Rattle.bitstream_io.specs.ByteReads.{vec_bytes}
 use Rattle.bitstream_io.specs.ByteSteps.{number_bytes}
-use Rattle.bitstream_io.specs.ByteTypes.{byte_chain, byte_gives}
+use Rattle.bitstream_io.specs.ByteTypes.{byte_and_then, byte_pure}
 use Rattle.bitstream_io.specs.Word.{Low, bytes}
-use Rattle.bitstream_io.proofs.ByteBackLemmas.{BytesBack, given-back, nothing-back, chain-back, made-back, number-back, byte_part-back, byte_parts-back}
+use Rattle.bitstream_io.proofs.ByteBackLemmas.{BytesBack, given-back, nothing-back, and_then-back, made-back, number-back, byte_part-back, byte_parts-back}
 use Rattle.bitstream_callers.specs.VorbisComment.{IsText, text_bytes, text_reads, texts_reads}
 use Rattle.bitstream_callers.specs.VorbisTexts.{Comment}
 use Rattle.bitstream_callers.specs.declared.vorbis_comment.CommentError.{CommentError}
@@ -25,10 +25,10 @@ text_back : (text : List ℕ) → IsText text → BytesBack text_reads (text_byt
 unfolding checked
 text_back text is =
     let right : checked text ≡ Ok text = rw is.0 refl in
-    let behind : BytesBack (byte_chain (vec_bytes (length text)) (λ t. byte_gives (checked t))) text (Ok text) =
-    subst (BytesBack (byte_chain (vec_bytes (length text)) (λ t. byte_gives (checked t))) text) right
+    let behind : BytesBack (byte_and_then (vec_bytes (length text)) (λ t. byte_pure (checked t))) text (Ok text) =
+    subst (BytesBack (byte_and_then (vec_bytes (length text)) (λ t. byte_pure (checked t))) text) right
     (made-back (vec_bytes (length text)) checked text text (given-back (length text) text refl)) in
-    chain-back (number_bytes Low 4) (λ size. byte_chain (vec_bytes size) (λ t. byte_gives (checked t)))
+    and_then-back (number_bytes Low 4) (λ size. byte_and_then (vec_bytes size) (λ t. byte_pure (checked t)))
     (bytes Low 4 (length text)) text (length text) (Ok text) (length_back (length text) is.1) behind
 
 texts_back : (vendor : List ℕ) (comments : List (List ℕ)) → All IsText comments
@@ -37,7 +37,7 @@ texts_back : (vendor : List ℕ) (comments : List (List ℕ)) → All IsText com
 texts_back vendor comments all =
     let parts = byte_parts-back text_reads text_bytes comments
     (All-weaker IsText (λ x. BytesBack text_reads (text_bytes x) (Ok x)) text_back comments all) in
-    let make = λ (texts : List (List ℕ)). byte_gives {A = Result Comment CommentError}
+    let make = λ (texts : List (List ℕ)). byte_pure {A = Result Comment CommentError}
     (Ok (record { vendor = vendor; comments = texts })) in
     let whole = byte_part-back (byte_parts text_reads (length comments)) make (flat_map text_bytes comments) [] comments
     (Ok (record { vendor = vendor; comments = comments })) parts
@@ -47,9 +47,9 @@ texts_back vendor comments all =
 
 pub returns : goal.returns
 returns c = λ comment more is.
-    byte_part-back text_reads (λ vendor. byte_chain (number_bytes Low 4) (texts_reads vendor))
+    byte_part-back text_reads (λ vendor. byte_and_then (number_bytes Low 4) (texts_reads vendor))
     (text_bytes comment.vendor) (bytes Low 4 (length comment.comments) ++ flat_map text_bytes comment.comments)
     comment.vendor (Ok comment) (text_back comment.vendor is.vendor)
-    (chain-back (number_bytes Low 4) (texts_reads comment.vendor) (bytes Low 4 (length comment.comments))
+    (and_then-back (number_bytes Low 4) (texts_reads comment.vendor) (bytes Low 4 (length comment.comments))
     (flat_map text_bytes comment.comments) (length comment.comments) (Ok comment)
     (length_back (length comment.comments) is.count) (texts_back comment.vendor comment.comments is.comments)) more

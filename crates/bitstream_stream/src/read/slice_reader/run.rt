@@ -4,7 +4,7 @@ ghost use Rattle.bitstream_count.specs.Unary.{lead};
 ghost use Rattle.bitstream_number.specs.Word.{bits, word};
 ghost use Rattle.bitstream_stream.specs.Reading.Memory.{rest_bits};
 ghost use Rattle.bitstream_stream.specs.Reading.Reads.{Reads};
-ghost use Rattle.bitstream_stream.specs.Reading.ReadTable.{unary_entry};
+ghost use Rattle.bitstream_stream.specs.Reading.ReadTable.{unary_decoder};
 
 use super::SliceReader;
 use super::window::eight;
@@ -92,7 +92,7 @@ impl<'a, E: Endianness> SliceReader<'a, E> {
     #[inline(never)]
     pub(super) fn read_run(&mut self, stop: bool) -> Result<u32, Error>
         // Takes just the bits of the call and returns what they say, or returns an error.
-        ensures reads { Reads (memory_source E.order) (unary_entry stop) self.old result self.new }
+        ensures reads { Reads (memory_source E.order) (unary_decoder stop) self.old result self.new }
         // If too few bits are left, the reader stays where it was.
         ensures stays { StaysAtEnd E.order self.old result self.new }
     {

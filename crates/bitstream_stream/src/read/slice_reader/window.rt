@@ -11,9 +11,9 @@ pub(super) fn eight<E: Endianness>(bytes: &[u8]) -> u64
     ensures { take (8 * length (take 8 bytes.now)) (word E.order 64 result)
         ≡ bits E.order (take 8 bytes.now) }
 {
-    let mut front = [0u8; 8];
-    front.copy_from_slice(&bytes[..8]);
-    E::of_bytes::<u64>(front)
+    let mut prefix = [0u8; 8];
+    prefix.copy_from_slice(&bytes[..8]);
+    E::of_bytes::<u64>(prefix)
 }
 
 /// Returns fewer than eight bytes as a number, with zeros behind them.
@@ -23,9 +23,9 @@ fn padded<E: Endianness>(bytes: &[u8]) -> u64
     ensures { take (8 * length (take 8 bytes.now)) (word E.order 64 result)
         ≡ bits E.order (take 8 bytes.now) }
 {
-    let mut front = [0u8; 8];
-    front[..bytes.len()].copy_from_slice(bytes);
-    E::of_bytes::<u64>(front)
+    let mut prefix = [0u8; 8];
+    prefix[..bytes.len()].copy_from_slice(bytes);
+    E::of_bytes::<u64>(prefix)
 }
 
 /// Returns the first bytes, up to eight, as a number.
@@ -48,9 +48,9 @@ pub(super) fn first<const N: usize, E: Endianness>(bytes: &[u8]) -> u64
     requires there { N ≤ length bytes.now }
     ensures { take (8 * N) (word E.order 64 result) ≡ bits E.order (take N bytes.now) }
 {
-    let mut front = [0u8; 8];
-    front[..N].copy_from_slice(&bytes[..N]);
-    E::of_bytes::<u64>(front)
+    let mut prefix = [0u8; 8];
+    prefix[..N].copy_from_slice(&bytes[..N]);
+    E::of_bytes::<u64>(prefix)
 }
 
 /// Returns the first bytes as a number, with zeros behind them: of a number of bytes that is mostly

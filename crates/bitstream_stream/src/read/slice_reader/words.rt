@@ -1,8 +1,8 @@
 //! Numbers of bytes in memory: a window of eight bytes serves up to 56 bits.
 ghost use Rattle.std.specs.Prelude.{◌≡◌, ◌+◌, ◌*◌, ◌<◌, ◌≤◌, false, length};
-ghost use Rattle.bitstream_order.specs.Moving.Gather.{seen};
+ghost use Rattle.bitstream_order.specs.Moving.Gather.{result_map};
 ghost use Rattle.bitstream_stream.specs.Reading.Reads.{Reads};
-ghost use Rattle.bitstream_stream.specs.Reading.ReadTable.{unsigned_entry, signed_entry};
+ghost use Rattle.bitstream_stream.specs.Reading.ReadTable.{unsigned_decoder, signed_decoder};
 
 use super::SliceReader;
 use super::window::{fetch, first, load};
@@ -67,8 +67,8 @@ impl<'a, E: Endianness> SliceReader<'a, E> {
         requires fine { self.old.failed ≡ false }
         requires room { bits ≤ U.BITS_SIZE }
         // Takes just the bits of the call and returns what they say, or returns an error.
-        ensures reads { Reads (memory_source E.order) (unsigned_entry E.order U.BITS_SIZE bits)
-            self.old (seen U.value result) self.new }
+        ensures reads { Reads (memory_source E.order) (unsigned_decoder E.order U.BITS_SIZE bits)
+            self.old (result_map U.value result) self.new }
         // If too few bits are left, the reader stays where it was.
         ensures stays { StaysAtEnd E.order self.old result self.new }
     {
@@ -87,8 +87,8 @@ impl<'a, E: Endianness> SliceReader<'a, E> {
         constant: bool,
     ) -> Result<U, Error>
         // Takes just the bits of the call and returns what they say, or returns an error.
-        ensures reads { Reads (memory_source E.order) (unsigned_entry E.order U.BITS_SIZE bits)
-            self.old (seen U.value result) self.new }
+        ensures reads { Reads (memory_source E.order) (unsigned_decoder E.order U.BITS_SIZE bits)
+            self.old (result_map U.value result) self.new }
         // If too few bits are left, the reader stays where it was.
         ensures stays { StaysAtEnd E.order self.old result self.new }
     {
@@ -117,7 +117,7 @@ impl<'a, E: Endianness> SliceReader<'a, E> {
     #[inline(always)]
     pub(super) fn read_one(&mut self) -> Result<u64, Error>
         // Takes just the bits of the call and returns what they say, or returns an error.
-        ensures reads { Reads (memory_source E.order) (unsigned_entry E.order 64 1) self.old result self.new }
+        ensures reads { Reads (memory_source E.order) (unsigned_decoder E.order 64 1) self.old result self.new }
         // If too few bits are left, the reader stays where it was.
         ensures stays { StaysAtEnd E.order self.old result self.new }
     {
@@ -141,8 +141,8 @@ impl<'a, E: Endianness> SliceReader<'a, E> {
         constant: bool,
     ) -> Result<S, Error>
         // Takes just the bits of the call and returns what they say, or returns an error.
-        ensures reads { Reads (memory_source E.order) (signed_entry E.order S.BITS_SIZE bits)
-            self.old (seen S.integer result) self.new }
+        ensures reads { Reads (memory_source E.order) (signed_decoder E.order S.BITS_SIZE bits)
+            self.old (result_map S.integer result) self.new }
         // If too few bits are left, the reader stays where it was.
         ensures stays { StaysAtEnd E.order self.old result self.new }
     {

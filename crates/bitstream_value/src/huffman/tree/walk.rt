@@ -2,7 +2,7 @@
 ghost use Rattle.std.specs.Prelude.{◌≡◌, ◌+◌, ◌<◌, ◌≤◌, ◌↔◌, length, nat_le, if◌then◌else◌, IsTrue};
 ghost use Rattle.bitstream_value.specs.HuffmanTree.{nodes_of, tree_of};
 ghost use Rattle.bitstream_value.specs.Nodes.{FindsFirst, HasSymbol};
-ghost use Rattle.bitstream_value.specs.Tree.{path_entry, symbol_word};
+ghost use Rattle.bitstream_value.specs.Tree.{path_decoder, symbol_word};
 
 use crate::huffman::tree::{HuffmanTree, Node};
 use crate::huffman::{FromBits, NextBit, PutBit, ToBits};
@@ -12,7 +12,7 @@ use std::alloc::Allocator;
 impl<S: Copy + Eq, A: Allocator> FromBits for HuffmanTree<S, A> {
     type Symbol = S;
 
-    ghost entry = { λ code. path_entry (tree_of code) };
+    ghost decoder = { λ code. path_decoder (tree_of code) };
 
     fn from_bits<N: NextBit>(&self, next: &mut N) -> Result<S, Error> {
         let mut root = self.nodes.len() - 1;

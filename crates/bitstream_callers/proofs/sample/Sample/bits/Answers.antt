@@ -1,6 +1,6 @@
 use Rattle.std.proofs.Common.{◌∙◌, refl}
 use Rattle.bitstream_io.specs.Word.{High}
-use Rattle.bitstream_io.proofs.RunLemmas.{counted}
+use Rattle.bitstream_io.proofs.SequenceLemmas.{counted}
 use Rattle.bitstream_callers.specs.Sample.{sample_writes}
 use Rattle.bitstream_callers.proofs.SampleLemmas.{sample_fits}
 use Rattle.bitstream_callers.proofs.TelemetryLemmas.{counted_accepted}
