@@ -235,7 +235,7 @@ impl<R: Source, E: Endianness> BitReader<R, E> {
         let queue = E::first(self.queue, self.queued);
         match self.port.fetch(buf) {
             Ok(()) => {
-                // The queued bits go first, and as many last bits are left over.
+                // The queued bits go first, and the last bits, of the same number, are left over.
                 let left = shift::<E>(queue, self.queued, buf);
                 // The queue of a reader is the first bits of its byte.
                 self.queue = E::to_front(left, self.queued);

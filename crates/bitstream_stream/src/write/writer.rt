@@ -460,7 +460,7 @@ impl<W: Target, E: Endianness> BitWrite for BitWriter<W, E> {
         if self.failed {
             return Err(Error::Failed);
         }
-        // As many groups as fit in U are gathered into one word.
+        // The groups that fit in U are gathered into one word.
         let most = most_gathered::<F, U>();
         let mut word = U::ZERO;
         let mut bits = 0;
