@@ -19,7 +19,7 @@ sample_writes o sample = unsigned o 16 12 sample ∷ []
 abbrev pub samples_writes : Order → List ℕ → List Encoder
 samples_writes o samples = flat_map (sample_writes o) samples
 
--- at most `count` samples were read, and nothing else
+-- only samples were read, at most `count` of them
 pub record ReadSome {R : Type 0} (K : BitSource R) (count : ℕ) (old new : R) : Type 0 where
   pub taken : ℕ
   pub within : taken ≤ count
