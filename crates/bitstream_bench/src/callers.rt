@@ -25,7 +25,7 @@ use bitstream_io::{
 use std::alloc::Global;
 use std::io::ErrorKind;
 use std::process::Abort;
-use test_streams::{Drip, Refuse};
+use test_streams::{Refuse, Short};
 
 /// The fields of a block, in their order.
 fn fields(info: &StreamInfo) -> [u64; 8] {
@@ -72,9 +72,9 @@ const READ: [usize; 9] = [0, 2, 4, 7, 10, 13, 14, 18, 34];
 const WRITTEN: [usize; 9] = [0, 2, 4, 7, 10, 12, 13, 18, 34];
 
 /// A stream with short reads and writes, which refuses after `served` requests.
-fn stream<S>(inner: S, served: usize) -> Refuse<Drip<S>> {
+fn stream<S>(inner: S, served: usize) -> Refuse<Short<S>> {
     Refuse {
-        inner: Drip { inner, drips: true },
+        inner: Short { inner, short: true },
         left: u32::try_from(served).ok(),
         once: false,
         kind: ErrorKind::ConnectionReset,

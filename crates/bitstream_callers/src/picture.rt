@@ -169,7 +169,7 @@ impl ToBitStream for Picture {
 
 /// A picture whose numbers fit their bits is read back as it was written, in either order of bits,
 /// at any place. The read takes only the bits that were written.
-pub fn pictures_go_back()
+pub fn pictures_round_trip()
     ensures { (o : Order) (picture : Picture) (at from : ℕ) (more : List Bool) → IsPicture picture
         → let word = write_sequence (picture_writes o picture) at in
         (picture_reads o).reads from (word ++ more) ≡ Done (length word) (Ok (Ok picture)) }

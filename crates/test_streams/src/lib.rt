@@ -3,13 +3,13 @@
 #![tactic(auto)]
 
 mod count;
-mod drip;
 mod endless;
 mod memory;
 mod refuse;
+mod short;
 
 pub use count::Count;
-pub use drip::Drip;
 pub use endless::Endless;
 pub use memory::RefuseMemory;
 pub use refuse::Refuse;
+pub use short::Short;
