@@ -6,7 +6,7 @@
 //! - [`block_header`]: the header of a block of a FLAC file
 //! - [`flac_comment`]: a FLAC file's comment, read from bits, with its texts as strings
 //! - [`header`]: the header before a packet's bytes
-//! - [`packet_header`]: a type that says how it is read and written: the header of a packet of whole
+//! - [`packet_header`]: a type with reads and writes of its own: the header of a packet of whole
 //!   bytes
 //! - [`padded_port`]: a type that is read and written as whole bytes, with padding after it
 //! - [`parameter_set`]: a type that owns memory: a parameter set with a counted list of parts
