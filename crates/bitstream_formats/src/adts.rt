@@ -13,7 +13,7 @@ pub enum AdtsError {
     /// The header was not read, or the bytes end before the frame does.
     #[error(transparent)]
     Header(#[from] AdtsHeaderError),
-    /// The length of the frame is less than that of its header.
+    /// The length of the frame is less than the length of its header.
     #[error("the frame is shorter than its header")]
     FrameTooShort,
 }
@@ -48,8 +48,9 @@ impl<'a> Frames<'a> {
     ///
     /// # Errors
     ///
-    /// Those of [`AdtsError`]: `FrameTooShort` for a frame that is shorter than its header, with the checksum and
-    /// what comes before it. The elements that were read before are appended.
+    /// The errors of [`AdtsError`]: `FrameTooShort` for a frame that is shorter than its header,
+    /// with the checksum and the elements before it. The elements that were read before are
+    /// appended.
     pub fn next_frame(
         &mut self,
         elements: &mut Vec<Element>,

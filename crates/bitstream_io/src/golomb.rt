@@ -46,7 +46,7 @@ pub fn read_ue<R: BitRead>(reader: &mut R) -> Result<u32, Error>
 ///
 /// # Errors
 ///
-/// Those of [`read_ue`].
+/// The errors of [`read_ue`].
 pub fn read_se<R: BitRead>(reader: &mut R) -> Result<i32, Error>
     ensures { Reads R.source (se_decoder R.source.order) reader.old result reader.new }
 {

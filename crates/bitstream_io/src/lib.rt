@@ -2,7 +2,7 @@
 //!
 //! Ported from `bitstream-io` 4.10.0 by Brian Langenberger; MIT OR Apache-2.0, see `LICENSE`.
 //!
-//! The items stand in modules by subject. Most stand here too:
+//! The items are in modules by subject. Most are here too:
 //!
 //! - [`compat`]: the calls of today by their older names
 //! - [`golomb`]: exponential Golomb numbers

@@ -19,7 +19,8 @@ pub fn words_hold_numbers()
     // Two numbers below 2^n are the same if their words at n bits are.
     ensures same { (o : Order) (n u v : ℕ) → u < 2 ^ n → v < 2 ^ n
         → word o n u ≡ word o n v → u ≡ v }
-    // A signed number that fits in n bits, where n is not 0, comes back from its two's complement.
+    // A signed number that fits in n bits, where n is not 0, round-trips through its two's
+    // complement.
     ensures signed { (o : Order) (n : ℕ) (x : ℤ) → 0 < n → FitsSignedBits n x
         → signed_number o (signed_word o n x) ≡ x }
 {}
@@ -42,9 +43,9 @@ pub fn bytes_are_words()
 /// Every signed number has a place of its own in the order 0, -1, 1, -2, 2, .. (zigzag), and every
 /// place is taken.
 pub fn zigzags_go_back()
-    // A signed number is the one that stands at its place.
+    // `zag` undoes `zig`.
     ensures signed { (x : ℤ) → zag (zig x) ≡ x }
-    // A place is that of the signed number that stands there.
+    // `zig` undoes `zag`.
     ensures unsigned { (n : ℕ) → zig (zag n) ≡ n }
 {}
 
@@ -88,7 +89,7 @@ pub fn signed_shifts_round_down<S: SignedInteger>(value: S, by: u32) -> S
     value >> by
 }
 
-/// An unsigned value comes back from its bytes, in either byte order.
+/// An unsigned value round-trips through its bytes, in either byte order.
 pub fn unsigned_bytes_go_back<U: UnsignedInteger>(value: U) -> (U, U)
     // The value made of its big-endian bytes is the same number.
     ensures high { U.value result.0 ≡ U.value value }
@@ -103,7 +104,7 @@ pub fn unsigned_bytes_go_back<U: UnsignedInteger>(value: U) -> (U, U)
     (high, low)
 }
 
-/// A signed value comes back from its bytes, in either byte order.
+/// A signed value round-trips through its bytes, in either byte order.
 pub fn signed_bytes_go_back<S: SignedInteger>(value: S) -> (S, S)
     // The value made of its big-endian bytes is the same number.
     ensures high { S.integer result.0 ≡ S.integer value }
@@ -118,7 +119,7 @@ pub fn signed_bytes_go_back<S: SignedInteger>(value: S) -> (S, S)
     (high, low)
 }
 
-/// Bytes come back from the value that is made of them, in either byte order.
+/// Bytes round-trip through the value that they encode, in either byte order.
 pub fn values_go_back<V: Primitive>(high: V::Bytes, low: V::Bytes) -> (V::Bytes, V::Bytes)
     // The big-endian bytes of the value made of them are the same bytes.
     ensures high { V.Bytes.items result.0 ≡ V.Bytes.items high }
