@@ -27,7 +27,7 @@ pub record ByteSource (R : Type 0) : Type 1 where
   -- the refusals that its stream may make
   pub may : Refusal → Type 0
 
--- a call that reads bytes: what it finds at the prefix of the bytes to read, and whether it may allocate once it has
+-- a call that reads bytes: what it finds at the start of the bytes to read, and whether it may allocate once it has
 -- taken just these bytes
 pub record ByteDecoder (A : Type 0) : Type 0 where
   pub reads : List ℕ → Prefix A
