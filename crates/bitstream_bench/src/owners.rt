@@ -123,7 +123,7 @@ fn a_parameter_set_is_read(rt: HostRuntime) {
     holds(&rt, is_read(set) & matches!(short, Err(Error::EndOfInput)));
 }
 
-/// The block of a picture, after the format's description: a prefix cover of 16 times 32 pixels.
+/// The block of a picture, after the format's description: a front cover of 16 times 32 pixels.
 const PICTURE: &[u8] =
     b"\0\0\0\x03\0\0\0\x09image/png\0\0\0\x05Cover\0\0\0\x10\0\0\0\x20\0\0\0\x18\0\0\0\0\0\0\0\x04\x89PNG";
 

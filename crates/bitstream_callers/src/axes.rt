@@ -10,7 +10,7 @@ use bitstream_io::{BE, BitRead, Error, SliceReader};
 pub struct Axes {
     /// To the right.
     pub x: u16,
-    /// To the prefix.
+    /// To the front.
     pub y: u16,
     /// Up.
     pub z: u16,

@@ -62,7 +62,7 @@ pub fn write_samples<W: BitWrite>(writer: &mut W, samples: &[u16]) -> Result<(),
 
 /// Samples that fit their bits are read back as they were written, in either order of bits, at any
 /// place.
-pub fn samples_go_back()
+pub fn samples_round_trip()
     ensures { (o : Order) (samples : List ℕ) (at from : ℕ) (more : List Bool)
         → All (λ sample. sample < 2 ^ 12) samples
         → let word = write_sequence (samples_writes o samples) at in

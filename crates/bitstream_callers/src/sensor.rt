@@ -86,7 +86,7 @@ impl Measurement {
             → bits High packet.now ≡ write_sequence (measurement_writes High measurement) 0 ++ more
             → result ≡ Ok measurement }
     {
-        measurements_go_back();
+        measurements_round_trip();
         Measurement::read(code, &mut BitReader::<_, BE>::over(packet))
     }
 
@@ -108,7 +108,7 @@ impl Measurement {
 }
 
 /// A measurement is read back as it was written, in either order of bits, at any place.
-pub fn measurements_go_back()
+pub fn measurements_round_trip()
     ensures { (o : Order) (measurement : Measurement) (at from : ℕ) (more : List Bool)
         → Fits measurement
         → let word = write_sequence (measurement_writes o measurement) at in

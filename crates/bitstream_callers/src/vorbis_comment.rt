@@ -116,7 +116,7 @@ impl FromByteStreamUsing for VorbisComment {
 
 /// A comment whose texts are UTF-8 and whose lengths fit their four bytes is read back from the
 /// bytes that the format has for it. The read takes only these bytes.
-pub fn comments_go_back()
+pub fn comments_round_trip()
     ensures { (comment : Comment) (more : List ℕ) → IsComment comment
         → comment_reads.reads (comment_bytes comment ++ more)
         ≡ Done (length (comment_bytes comment)) (Ok (Ok comment)) }

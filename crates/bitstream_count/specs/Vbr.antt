@@ -65,13 +65,13 @@ groups_at strict (suc room) o field bits =
     if nat_lt (length bits) field then Incomplete
     else if nat_lt first (2 ^ (field - 1)) then Done field (Ok first) else all
 
--- a front with its number below the limit, else `VariableWidthOverflow`
+-- a prefix with its number below the limit, else `VariableWidthOverflow`
 abbrev pub below : ℕ → Prefix ℕ → Prefix ℕ
 below limit Incomplete = Incomplete
 below limit (Done n (Ok v)) = Done n (if nat_lt v limit then Ok v else Err VariableWidthOverflow)
 below limit (Done n (Err e)) = Done n (Err e)
 
--- the front of a variable-width read: a number below the limit of a type of `width` bits, in at most the groups that
+-- the prefix of a variable-width read: a number below the limit of a type of `width` bits, in at most the groups that
 -- begin within the type
 abbrev pub read_vbr : Bool → Order → ℕ → ℕ → ℕ → List Bool → Prefix ℕ
 read_vbr strict o field width limit bits = below limit (groups_at strict (div_ceil width (field - 1)) o field bits)

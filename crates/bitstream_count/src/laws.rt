@@ -51,7 +51,7 @@ pub fn signed_counts_hash_as_their_numbers<const MAX: u32, H: Hasher>(
 }
 
 /// A count round-trips through its number.
-pub fn counts_go_back<const MAX: u32>(count: BitCount<MAX>) -> Result<BitCount<MAX>, u32>
+pub fn counts_round_trip<const MAX: u32>(count: BitCount<MAX>) -> Result<BitCount<MAX>, u32>
     ensures { result ≡ Ok count.entry }
 {
     BitCount::try_from(u32::from(count))
@@ -59,7 +59,7 @@ pub fn counts_go_back<const MAX: u32>(count: BitCount<MAX>) -> Result<BitCount<M
 
 /// A signed count round-trips through its number, and through the `BitCount` of the same number of
 /// bits.
-pub fn signed_counts_go_back<const MAX: u32>(
+pub fn signed_counts_round_trip<const MAX: u32>(
     count: SignedBitCount<MAX>,
 ) -> (
     Result<SignedBitCount<MAX>, u32>,
@@ -81,7 +81,7 @@ pub fn signed_counts_go_back<const MAX: u32>(
 }
 
 /// A fixed count round-trips through the `BitCount` of the same number of bits.
-pub fn fixed_counts_go_back<const BITS: u32>(
+pub fn fixed_counts_round_trip<const BITS: u32>(
     count: FixedBitCount<BITS>,
 ) -> Result<FixedBitCount<BITS>, BitCount<BITS>>
     ensures { IsOk result }
@@ -90,7 +90,7 @@ pub fn fixed_counts_go_back<const BITS: u32>(
 }
 
 /// A fixed signed count round-trips through the `SignedBitCount` of the same number of bits.
-pub fn fixed_signed_counts_go_back<const BITS: u32>(
+pub fn fixed_signed_counts_round_trip<const BITS: u32>(
     count: FixedSignedBitCount<BITS>,
 ) -> Result<FixedSignedBitCount<BITS>, SignedBitCount<BITS>>
     ensures { IsOk result }

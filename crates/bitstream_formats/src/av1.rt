@@ -8,7 +8,7 @@ use bitstream_io::{BE, BitRead, BitReadExt, Bits, Error, SliceReader};
 mod leb128;
 mod sequence;
 
-pub use leb128::{leb128_numbers_go_back, read_leb128};
+pub use leb128::{leb128_numbers_round_trip, read_leb128};
 use sequence::read_sequence;
 
 /// The reasons that an OBU is not read.

@@ -42,7 +42,7 @@ pub fn bytes_are_words()
 
 /// Every signed number has a place of its own in the order 0, -1, 1, -2, 2, .. (zigzag), and every
 /// place is taken.
-pub fn zigzags_go_back()
+pub fn zigzags_round_trip()
     // `zag` undoes `zig`.
     ensures signed { (x : ℤ) → zag (zig x) ≡ x }
     // `zig` undoes `zag`.
@@ -90,7 +90,7 @@ pub fn signed_shifts_round_down<S: SignedInteger>(value: S, by: u32) -> S
 }
 
 /// An unsigned value round-trips through its bytes, in either byte order.
-pub fn unsigned_bytes_go_back<U: UnsignedInteger>(value: U) -> (U, U)
+pub fn unsigned_bytes_round_trip<U: UnsignedInteger>(value: U) -> (U, U)
     // The value made of its big-endian bytes is the same number.
     ensures high { U.value result.0 ≡ U.value value }
     // The value made of its little-endian bytes is the same number.
@@ -105,7 +105,7 @@ pub fn unsigned_bytes_go_back<U: UnsignedInteger>(value: U) -> (U, U)
 }
 
 /// A signed value round-trips through its bytes, in either byte order.
-pub fn signed_bytes_go_back<S: SignedInteger>(value: S) -> (S, S)
+pub fn signed_bytes_round_trip<S: SignedInteger>(value: S) -> (S, S)
     // The value made of its big-endian bytes is the same number.
     ensures high { S.integer result.0 ≡ S.integer value }
     // The value made of its little-endian bytes is the same number.
@@ -120,7 +120,7 @@ pub fn signed_bytes_go_back<S: SignedInteger>(value: S) -> (S, S)
 }
 
 /// Bytes round-trip through the value that they encode, in either byte order.
-pub fn values_go_back<V: Primitive>(high: V::Bytes, low: V::Bytes) -> (V::Bytes, V::Bytes)
+pub fn values_round_trip<V: Primitive>(high: V::Bytes, low: V::Bytes) -> (V::Bytes, V::Bytes)
     // The big-endian bytes of the value made of them are the same bytes.
     ensures high { V.Bytes.items result.0 ≡ V.Bytes.items high }
     // The little-endian bytes of the value made of them are the same bytes.

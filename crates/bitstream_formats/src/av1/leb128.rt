@@ -53,7 +53,7 @@ fn read_groups<R: BitRead>(
 }
 
 /// A number is read back as it was written, in either order of bits, at any place.
-pub fn leb128_numbers_go_back()
+pub fn leb128_numbers_round_trip()
     ensures { (o : Order) (value at from : ℕ) (more : List Bool) → value < 2 ^ 32
         → let word = write_sequence (leb128_writes o value) at in
         (leb128_decoder o).reads from (word ++ more) ≡ Done (length word) (Ok (Ok value)) }

@@ -75,7 +75,7 @@ fn read_rest<R: BitRead>(
 }
 
 /// A coded number is read back as it was written, in either order of bits, at any place.
-pub fn coded_numbers_go_back()
+pub fn coded_numbers_round_trip()
     ensures { (o : Order) (number at from : ℕ) (more : List Bool) → number < 2 ^ 36
         → let word = write_sequence (coded_writes o number) at in
         (coded_decoder o).reads from (word ++ more) ≡ Done (length word) (Ok (Ok number)) }

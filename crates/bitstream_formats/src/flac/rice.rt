@@ -35,7 +35,7 @@ fn joined(high: u32, low: u64, parameter: u32) -> i64
 
 /// A Rice number is read back as it was written, in either order of bits, at any place, if its high
 /// part is below 2^32.
-pub fn rice_numbers_go_back()
+pub fn rice_numbers_round_trip()
     ensures { (o : Order) (k : ℕ) (x : ℤ) (at from : ℕ) (more : List Bool) → k < 32
         → zig x / 2 ^ k < 2 ^ 32
         → let word = write_sequence (rice_writes o k x) at in

@@ -99,7 +99,7 @@ pub fn written_calls_are_read()
 
 /// If the stream refuses only where its bytes end, as a `Slice` does, matching reads that do not
 /// allocate return each value that was written, if the bits left begin with its call's words.
-pub fn written_calls_come_back<R: BitRead>()
+pub fn written_calls_round_trip<R: BitRead>()
     ensures { (written : List WriteCall) (len : ℕ) (old new : R)
         (answers : List (Option (Result Answer Error)))
         → let kept = accepted_calls R.source.order written len in

@@ -40,7 +40,7 @@ pub struct SliceMut<'a> {
 impl<'a> SliceMut<'a> {
     ghost use Rattle.bitstream_order.specs.Streaming.SliceMut.{slice_bytes, slice_capacity, slice_name, slice_was, written_bytes};
 
-    /// Returns a target that writes to these bytes, from their prefix.
+    /// Returns a target that writes to these bytes, from their first byte on.
     pub fn new(bytes: &'a mut [u8]) -> SliceMut<'a>
         // No byte is written yet.
         ensures written { written_bytes result ≡ [] }
