@@ -31,8 +31,7 @@ pub enum Reason {
     ConstantDiffers,
     /// A variable-width word or a unary run passes its limit.
     LimitPassed,
-    /// Bits of a padding or an alignment are not all 0. Only packed bytes that are repacked are
-    /// asked for that.
+    /// Bits of a padding or an alignment are not all 0. Only repacking checks that.
     PaddingNotZero,
     /// A byte follows the last field. Only packed bytes that are repacked may not have one.
     BytesLeftOver,

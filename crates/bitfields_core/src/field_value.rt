@@ -105,7 +105,7 @@ pub fn value_kind(field: Field) -> ValueKind
 ///
 /// # Errors
 ///
-/// If memory is refused, which only bytes ask for.
+/// If memory is refused. Only bytes allocate.
 pub fn value_in(
     alloc: Global,
     field: Field,

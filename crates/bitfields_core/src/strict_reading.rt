@@ -1,4 +1,4 @@
-//! Packed fields, read so that no other bits would say the same.
+//! Packed fields, read strictly: only the bits that packing writes are accepted.
 
 ghost use Rattle.std.specs.Prelude.{◌≡◌, ◌≤◌, IfOk, None, length};
 ghost use Rattle.bitstream_io.specs.Alignment.{to_boundary};

@@ -48,7 +48,7 @@ fn lends_the_stream_of_a_reader(rt: HostRuntime) {
     same(&rt, reader.into_reader().len(), 0);
 }
 
-/// Returns true if a reader that took 12 bits, and one that met the end, seek to the start.
+/// Checks that a reader that took 12 bits, and one that met the end, seek to the start.
 fn round_trip<R: SeekSource>(reader: &mut BitReader<R, BE>, bits: u32) -> [bool; 7] {
     [
         gives(reader.read_unsigned_var(bits), 0xb1e_u16),

@@ -253,7 +253,7 @@ fn reads_samples(alloc: Global, packed: &[u8], wanted: &[u16]) -> bool {
     matches!(parse_samples(alloc, packed, 2), Ok(samples) if samples.as_slice() == wanted)
 }
 
-/// A body that always wants memory meets the contracts of these callers.
+/// A body that always reports refused memory meets the contracts of these callers.
 #[test]
 fn serves_while_memory_is_left(rt: HostRuntime) {
     let packed = [0xab, 0xcd, 0xef];
@@ -287,7 +287,7 @@ fn tells_that_a_buffer_is_too_short(rt: HostRuntime) {
     holds(&rt, lacks_room(&mut [0; 5]));
 }
 
-/// Returns true if a block's header counts its length as 32 bits, also by a counter.
+/// Returns true if a block's header has 32 bits, even by a counter.
 fn has_32_bits(header: &BlockHeader) -> bool {
     let mut counter = BitsWritten::<u8>::new();
     gives(header.bits::<u8>(), 32)

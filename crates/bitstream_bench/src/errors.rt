@@ -74,7 +74,7 @@ const ROWS: [(Error, &str, ErrorKind); 15] = [
     (Error::Failed, "failed before", ErrorKind::Other),
 ];
 
-/// Returns true if an error has this text, and this kind, also as an `io::Error`.
+/// Returns true if an error has this text and this kind, and the same kind as an `io::Error`.
 fn says(alloc: Global, error: Error, text: &str, kind: ErrorKind) -> bool {
     let own = error.kind() == kind;
     let said = matches!(format!(in alloc; "{error}"), Ok(said) if said.as_str() == text);

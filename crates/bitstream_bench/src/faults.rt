@@ -13,7 +13,7 @@ fn refused<T: Drop>(answer: Result<T, Error>, wanted: ErrorKind) -> bool {
     matches!(answer, Err(Error::Stream(kind)) if kind == wanted)
 }
 
-/// Returns true if a writer whose second byte is refused has failed, also for values of no bits,
+/// Returns true if a writer whose second byte is refused has failed, even for values of 0 bits,
 /// while an array of no items makes no call.
 fn fails_to_write<W: BitWrite>(writer: &mut W) -> bool {
     writer.write::<Bits<8>, u8>(1).is_ok()
@@ -81,7 +81,7 @@ fn r14_hostile(rt: HostRuntime) {
     holds(&rt, whole.read_to_vec(rt.alloc(), 0).is_ok());
 }
 
-/// A call that is made of several reads keeps those that were done: a group of 8 bits, 4096 bytes.
+/// A call of several reads keeps the reads that were done: a group of 8 bits, 4096 bytes.
 #[test]
 fn keeps_the_reads_before_a_failure(rt: HostRuntime) {
     let mut groups = SliceReader::<BE>::over(&[0x80]);

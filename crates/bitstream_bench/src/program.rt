@@ -227,7 +227,7 @@ fn writes(alloc: Global, command: &str, layout: &str, input: &str, output: &str)
     }
 }
 
-/// Returns true if each command moves a large input.
+/// Checks that each command moves a large input.
 fn moves(alloc: Global, large: &Large) -> [bool; 4] {
     let Large(field, next, fields, decimals, size) = large;
     let layout = repeated(alloc, field, next, fields.saturating_sub(1));
@@ -251,7 +251,7 @@ fn move_each(rt: &impl Abort, alloc: Global, rows: &[Large]) {
     }
 }
 
-/// A body that wants memory only at a size meets the contracts.
+/// A body that reports refused memory from some size on meets the contracts.
 #[test]
 fn moves_large_inputs(rt: HostRuntime) {
     move_each(&rt, rt.alloc(), &LARGE);

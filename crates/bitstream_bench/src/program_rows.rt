@@ -255,7 +255,7 @@ pub(crate) const BYTES: [Row; 28] = [
     Row("pack be b2", b"1 2\n3", b"", "0: value left over", 3),
 ];
 
-/// Constants: no line says their number, and other bits are a fault.
+/// Constants: no line spells their number, and other bits are a fault.
 pub(crate) const CONSTANTS: [Row; 23] = [
     Row("unpack be u2,c3=5", &[0xb1], b"", "2: constant differs", 4),
     Row("unpack be u2,c3=6", &[0xb1], b"2\n", "", 0),

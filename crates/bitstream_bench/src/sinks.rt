@@ -46,7 +46,7 @@ fn roomy_takes<A: Allocator + Drop>(alloc: A) -> bool {
     }
 }
 
-/// Returns true if a recorder, one with a capacity, and a growing vector take many bytes in this
+/// Checks that a recorder, one with a capacity, and a growing vector take many bytes in this
 /// memory.
 fn take<A: Allocator + Copy + Drop>(alloc: A) -> [bool; 3] {
     let mut recorder: BitRecorder<u32, BE, A> = BitRecorder::new(alloc);
@@ -92,7 +92,7 @@ fn failed_candidates_are_not_given(rt: HostRuntime) {
     holds(&rt, plays);
 }
 
-/// Returns true if a recorder of 31 bytes reports its length, and one of 32 reports that its
+/// Checks that a recorder of 31 bytes reports its length, and one of 32 reports that its
 /// counter's type does not hold it, and takes more.
 fn passes<A: Allocator>(recorder: &mut BitRecorder<u8, BE, A>) -> [bool; 5] {
     [

@@ -80,7 +80,7 @@ const PIECES: [(Form, u32, usize, u64); 4] = [
     (Form::Vector, 3, 9000, 1 + 4 + 4 + 1),
 ];
 
-/// Asserts that each goes in so, in either order.
+/// Asserts that each of these is read back, in either order.
 fn each_goes_in(rt: &impl Abort, alloc: Global, rows: &[(Form, u32, usize, u64)]) {
     for (form, place, len, requests) in rows {
         let bytes = pattern(alloc, *len);

@@ -1,5 +1,5 @@
-//! Small callers of `bitstream_io`: parsers and packers, types that say themselves how they are read
-//! and written, and formats that `./format` printed from the descriptions in `formats/`. The guide in
+//! Small callers of `bitstream_io`: parsers and packers, types with reads and writes of their own,
+//! and formats that `./format` printed from the descriptions in `formats/`. The guide in
 //! `docs/GUIDE` shows most of them.
 //!
 //! - [`appending`]: a header that is appended to a sink, and its length
@@ -13,7 +13,7 @@
 //! - [`picture`]: types that own memory, read and written: the picture of a FLAC file
 //! - [`plain`]: parsers without contracts
 //! - [`primary_header`]: the primary header of a CCSDS space packet
-//! - [`reading`]: a sensor's reading, in a width that its context says
+//! - [`reading`]: a sensor's reading, in a width from its context
 //! - [`sample`]: a measurement of a vehicle's telemetry at one time
 //! - [`samples`]: samples of 12 bits, in a vector
 //! - [`sensor`]: a measurement: a unary number, numbers of variable width, and a prefix code

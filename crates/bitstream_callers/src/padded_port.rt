@@ -7,7 +7,7 @@ use bitstream_io::{
     ToByteStreamUsing, ToByteStreamWith,
 };
 
-/// A port, which is read and written with the number of bytes of padding that its context says.
+/// A port, which is read and written with a number of bytes of padding from its context.
 #[derive(Clone, Copy, Debug, PartialEq)]
 pub struct PaddedPort {
     /// The number of the port.

@@ -20,7 +20,7 @@ pub enum Av1Error {
     /// The first bit of an OBU is not 0.
     #[error("the forbidden bit is set")]
     Forbidden,
-    /// An OBU does not say its size.
+    /// An OBU has no size.
     #[error("an OBU has no size field")]
     NoSize,
     /// The size is 2^32 or more, or has more than eight bytes.

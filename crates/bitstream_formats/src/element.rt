@@ -1,4 +1,4 @@
-//! Elements of a format, as they are read one by one.
+//! Elements of a format, which are read one by one.
 ghost use Rattle.std.specs.Prelude.{◌<◌, ◌^◌, IfOk};
 
 use bitstream_io::{BitRead, BitReadExt, Endianness, Error, SliceReader};

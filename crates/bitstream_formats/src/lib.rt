@@ -12,7 +12,7 @@
 //! - [`at`]: the places of errors
 //! - [`av1`]: AV1: the headers of OBUs, and sequence headers
 //! - [`deflate`]: DEFLATE, and the files of gzip
-//! - [`element`]: elements of a format, as they are read one by one
+//! - [`element`]: elements of a format, which are read one by one
 //! - [`flac`]: FLAC: the metadata of a file, and its samples
 //! - [`h264`]: H.264: the units of a byte stream, and its parameter sets
 //! - [`ogg`]: Ogg: pages and packets, and the first byte of a packet of Opus

@@ -118,8 +118,8 @@ pub data ReadsSequence {R : Type 0} (K : BitSource R) (calls : List ReadCall) (b
       → answers ≡ sequence_answers first ++ Some (Err OutOfMemory) ∷ failed_answers K.order behind
       → ReadsSequence K calls bits old answers new
 
--- the results of calls if all bits left are known: those of their read sequence, then the end of input, and
--- then the same as on a failed reader
+-- the results of calls if all bits left are known: first the results of their read sequence, then the end of
+-- input, and then the same as on a failed reader
 abbrev pub sure_answers : Order → List ReadCall → List (Result Answer Error × ℕ) → List (Option (Result Answer Error))
 sure_answers o [] run = []
 sure_answers o (call ∷ calls) [] = Some (Err EndOfInput) ∷ failed_answers o calls

@@ -8,7 +8,7 @@ ghost use Rattle.bitstream_number.specs.Word.{Order, High, Low, word, number, bi
 
 use crate::number::{Numeric, Primitive, SignedInteger, UnsignedInteger};
 
-/// The word of a number at n bits has n bits, and gives the number back, modulo 2^n.
+/// The word of a number at n bits has n bits, and encodes the number modulo 2^n.
 pub fn words_hold_numbers()
     // The word of a number at n bits has n bits.
     ensures length { (o : Order) (n v : ℕ) → length (word o n v) ≡ n }
@@ -25,7 +25,7 @@ pub fn words_hold_numbers()
         → signed_number o (signed_word o n x) ≡ x }
 {}
 
-/// The number of two words, one after the other, is made of the two words' numbers.
+/// The number of two words, one after the other, is computed from the numbers of the two words.
 pub fn words_split()
     // Big-endian: the first word is the high part of the number of both.
     ensures high { (first second : List Bool) → number High (first ++ second)
@@ -40,8 +40,8 @@ pub fn bytes_are_words()
     ensures { (o : Order) (n v : ℕ) → bits o (bytes o n v) ≡ word o (8 * n) v }
 {}
 
-/// Every signed number has a place of its own in the order 0, -1, 1, -2, 2, .. (zigzag), and every
-/// place is taken.
+/// Every signed number has a place of its own in the zigzag order 0, -1, 1, -2, 2 and so on, and
+/// every place is taken.
 pub fn zigzags_round_trip()
     // `zag` undoes `zig`.
     ensures signed { (x : ℤ) → zag (zig x) ≡ x }

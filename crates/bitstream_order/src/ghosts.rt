@@ -135,7 +135,7 @@ impl GhostBytes {
         ensures { self.new.list ≡ by }
     {}
 
-    /// Does nothing at run time. The list becomes the bytes of the slice.
+    /// Does nothing at run time. The list is then the bytes of the slice.
     fn set_to(&mut self, _bytes: &[u8])
         ghost by: { List ℕ }
         requires { by ≡ _bytes.now }

@@ -82,7 +82,7 @@ impl<S> Port<S> {
     ghost use Rattle.std.specs.Borrow.{Lends, sem};
     ghost use Rattle.bitstream_order.specs.contracts.port.Port.{the_row};
 
-    /// Returns a new port to a stream: nothing was asked of the stream yet.
+    /// Returns a new port to a stream, which has made no request yet.
     pub fn new(stream: S) -> Port<S>
         // The port holds this stream.
         ensures stream { port_stream result ≡ stream }
@@ -311,8 +311,8 @@ impl<S: SeekSource> Port<S> {
         }
     }
 
-    /// Asks for the position in bytes by one request: a seek by 0 bytes. The fetched bytes stay
-    /// counted as they are.
+    /// Asks for the position in bytes by one request: a seek by 0 bytes. The count of fetched bytes
+    /// is unchanged.
     ///
     /// # Errors
     ///

@@ -66,7 +66,7 @@ pub fn bytes_are_numbers()
         buffer o (bytes_in o n v) len ≡ unsigned o (8 * n) (8 * n) v len }
 {}
 
-/// Dropping a reader's queue is an alignment. A reader that has failed stays as it is.
+/// Dropping a reader's queue is an alignment. A reader that has failed is unchanged.
 pub fn dropped_queues_are_alignments<R: Source, E: Endianness>()
     ensures { (reader : BitReader R E) → Reads ⟦<BitReader<R, E> as BitRead>⟧.source align_decoder
         reader (Ok tt) (aligned_reader reader) }

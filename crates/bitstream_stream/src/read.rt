@@ -82,7 +82,7 @@ pub trait BitRead {
             × ((source.state self.now).taken % 8 ≡ 0)) };
 
     /// Skips the bits up to the next byte boundary. They are queued, so no request is made. A
-    /// reader that has failed stays as it is.
+    /// reader that has failed is unchanged.
     fn byte_align(&mut self)
         ensures reads { Reads source align_decoder self.old (Ok tt) self.new };
 
@@ -217,7 +217,7 @@ pub trait BitRead {
         Ok(())
     }
 
-    /// Reads the bytes of a V: `read_to_bytes::<[u8; 4]>()` gives an array of four.
+    /// Reads the bytes of a V: `read_to_bytes::<[u8; 4]>()` returns an array of four bytes.
     fn read_to_bytes<V: Primitive>(&mut self) -> Result<V::Bytes, Error>
         ensures reads { Reads source (bytes_decoder source.order V.BYTES)
             self.old (result_map V.Bytes.items result) self.new }
@@ -325,7 +325,7 @@ pub trait BitRead {
         self.read_groups::<F, U>(true)
     }
 
-    /// Reads an unsigned number of variable width, also if its last groups are 0.
+    /// Reads an unsigned number of variable width, even if its last groups are 0.
     ///
     /// # Errors
     ///
@@ -356,7 +356,7 @@ pub trait BitRead {
         Ok(unzigzag(place))
     }
 
-    /// Reads a signed number of variable width, also if its last groups are 0.
+    /// Reads a signed number of variable width, even if its last groups are 0.
     ///
     /// # Errors
     ///

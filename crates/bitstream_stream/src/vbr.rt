@@ -56,7 +56,7 @@ pub(crate) fn split_group<F: Width, U: UnsignedInteger>(value: U) -> Option<(U, 
 }
 
 /// Returns the number of bits above which gathered groups are sent. Groups of whole bytes are sent
-/// one by one, which leaves the queue as it is.
+/// one by one, which leaves the queue unchanged.
 #[inline(always)]
 pub(crate) fn most_gathered<F: Width, U: UnsignedInteger>() -> u32
     requires { F.BITS < U.BITS_SIZE }

@@ -16,7 +16,8 @@ use bitstream_count::error::Error;
 use bitstream_stream::read::BitRead;
 use bitstream_stream::write::BitWrite;
 
-/// All that a code needs of a reader. Every reader of bits is one, and fails as [`BitRead`] says.
+/// The calls that a code needs of a reader. Every reader of bits has them, with the errors of
+/// [`BitRead`].
 pub trait NextBit {
     // The meaning of the reader's states.
     ghost source: { BitSource Self };
@@ -35,7 +36,8 @@ impl<R: BitRead> NextBit for R {
     }
 }
 
-/// All that a code needs of a sink. Every sink of bits is one, and fails as [`BitWrite`] says.
+/// The calls that a code needs of a sink. Every sink of bits has them, with the errors of
+/// [`BitWrite`].
 pub trait PutBit {
     // The meaning of the sink's states.
     ghost sink: { Sink Self };

@@ -1,6 +1,6 @@
 //! Buffers of each length, at each place in a byte, in both orders.
 //!
-//! A formula over bytes gives the expected bytes, and not the library.
+//! The expected bytes come from a formula over bytes, and not from the library.
 use crate::row::Order;
 use bitstream_io::{BE, BitRead, BitReader, BitWrite, BitWriter, Endianness, LE};
 use std::alloc::{AllocError, Global};

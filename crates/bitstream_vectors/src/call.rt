@@ -205,7 +205,8 @@ fn word_at<'a>(words: &[&'a str], at: usize) -> &'a str {
     words.get(at).copied().unwrap_or("")
 }
 
-/// The number that a text spells. It is compiled once a type, and not with each call that it goes to.
+/// Parses the number that a text spells. It is compiled once for each type, and not with each call
+/// that uses it.
 #[inline(never)]
 pub fn number<T: FromStr<Err = ParseIntError>>(text: &str) -> Result<T, Objection> {
     match text.parse() {

@@ -263,7 +263,7 @@ const GROUPED: [(&str, (Grouped, Size)); 20] = [
     ("optional128", (Grouped::Optional, Size::Bits128)),
 ];
 
-/// The type that goes in groups and that a name spells.
+/// Returns the type of a number of variable width that a name spells.
 fn grouped_of(name: &str) -> Option<(Grouped, Size)> {
     named(&GROUPED, name)
 }

@@ -54,7 +54,7 @@ impl Difference {
 /// The reasons that a row does not hold.
 #[derive(Clone, Copy, Drop)]
 pub enum Objection {
-    /// Something is not as it says.
+    /// A fact of the row does not hold.
     Differs(Difference),
     /// Memory was refused.
     OutOfMemory,

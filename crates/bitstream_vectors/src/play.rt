@@ -36,11 +36,12 @@ pub enum Way {
     Plain,
     /// It does so, and is the library's own source of bytes in memory.
     Slice,
-    /// It gives or takes a byte a request.
+    /// It has short reads and writes of one byte.
     Short,
     /// It refuses requests from one on.
     Refused(Fault),
-    /// There is none: the library's reader of bytes in memory reads them, up to the call that wants more.
+    /// There is none: the library's reader of bytes in memory reads them, up to the call that needs
+    /// more bits.
     Cut(usize),
 }
 
@@ -187,7 +188,7 @@ fn make_calls<S: Stage>(
     Ok(())
 }
 
-/// Returns a stream that behaves as a way says.
+/// Returns the stream of a way.
 fn stream_of<S>(inner: S, way: Way) -> Count<Refuse<Short<S>>> {
     let short = matches!(way, Way::Short);
     let (left, kind) = match way {
@@ -242,7 +243,7 @@ fn read_bytes<E: Endianness + Drop>(
     })
 }
 
-/// Makes the read calls of a row on bytes in memory. The call `last` is the first that wants more
+/// Makes the read calls of a row on bytes in memory. The call `last` is the first that needs more
 /// bits. Returns the number of bits read.
 fn read_memory<E: Endianness>(
     alloc: Global,

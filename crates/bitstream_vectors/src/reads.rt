@@ -83,7 +83,7 @@ fn read_bool<R: BitRead>(reader: &mut R, bits: u32, want: &str) -> bool {
     is_truth(want, reader.read_var::<bool>(bits))
 }
 
-/// Reads digits up to the stop digit that S says.
+/// Reads digits up to the stop digit S.
 fn read_unary<S: Width, R: BitRead>(reader: &mut R, want: &str) -> bool
     requires { S.BITS < 2 }
 {
@@ -98,7 +98,7 @@ fn is_truth(want: &str, answer: Result<bool, Error>) -> bool {
     }
 }
 
-/// Reads a value that is spelled as it is.
+/// Reads a value that is spelled directly.
 fn read_value<I: Integer + FromStr<Err = ParseIntError> + PartialEq + Drop, R: BitRead>(
     reader: &mut R,
     bits: u32,

@@ -142,8 +142,8 @@ fn stands_at(
     }
 }
 
-/// The calls of a row, and then calls that ask for its place, and read its bits from there on, and its
-/// end.
+/// Returns the calls of a row, and then calls that ask for its place, and read its bits from there
+/// on, and its end.
 fn with_rest<'a>(alloc: Global, row: &Row<'a>, place: usize) -> Result<Vec<Call<'a>>, Objection> {
     let mut calls: Vec<Call<'a>> = row.calls.iter().copied().collect(alloc)?;
     calls.push(Call::asks_place(place as u64))?;

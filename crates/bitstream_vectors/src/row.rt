@@ -62,13 +62,13 @@ pub struct After {
     pub requests: Option<u64>,
     /// The greatest number of requests.
     pub most_requests: Option<u64>,
-    /// True if the calls alone handed on the bytes, with no last alignment.
+    /// True if the bytes were handed on by the calls, with no last alignment.
     pub unpadded: bool,
 }
 
 impl<'a> Row<'a> {
-    /// The row of a kind, an order, calls, bytes and, if it has more to say, what holds after the
-    /// calls.
+    /// Parses a row of a kind, an order, calls, bytes and, if it has them, facts about the state
+    /// after the calls.
     ///
     /// # Errors
     ///

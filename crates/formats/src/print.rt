@@ -1,4 +1,4 @@
-//! Units as they are printed.
+//! The printer of units.
 
 use crate::options::{Options, Style};
 use crate::unit::{Fault, Note, NoteValue, Unit};
@@ -256,7 +256,7 @@ fn begin_member<W: Write>(out: &mut W, number: usize, name: &Name) -> io::Result
     Ok(())
 }
 
-/// Prints what comes after the value of a name.
+/// Prints the text after the value of a name.
 fn end_member<W: Write>(out: &mut W, name: &Name) -> io::Result<()> {
     if name.several {
         write!(out, "]")?;

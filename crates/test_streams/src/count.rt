@@ -8,7 +8,7 @@ ghost use Rattle.std.specs.Io.Seek.{SeekMoves};
 use std::io;
 use std::io::{Read, Seek, SeekFrom, Write};
 
-/// Counts the requests made of a stream, and those that the stream refused.
+/// Counts the requests made of a stream, and the refused ones.
 #[derive(Drop)]
 pub struct Count<S> {
     /// The stream that it wraps.

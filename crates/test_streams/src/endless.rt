@@ -7,7 +7,7 @@ use std::io::Read;
 /// Returns the same byte forever.
 #[derive(Drop)]
 pub struct Endless {
-    /// The byte that it gives.
+    /// The byte that it returns.
     pub byte: u8,
 }
 

@@ -1,5 +1,5 @@
-//! Numbers in groups of 7 bits, the lowest group first, also with groups of zeros at their end
-//! (section 4.10.5).
+//! Numbers in groups of 7 bits, the lowest group first. They may end in groups of zeros (section
+//! 4.10.5).
 ghost use Rattle.std.specs.Prelude.{◌≡◌, ◌++◌, ◌*◌, ◌<◌, ◌≤◌, ◌^◌, ℕ, Bool, List, Ok, length};
 ghost use Rattle.bitstream_io.specs.Callers.{Order, ReadsOwn, Done, write_sequence};
 ghost use Rattle.bitstream_formats.specs.Leb128.{becomes_av1, groups_decoder, leb128_decoder, leb128_writes, small};

@@ -18,7 +18,7 @@ pub enum FlacError {
     /// No frame begins here.
     #[error("no frame begins here")]
     NoSync,
-    /// A bit that is to be 0 is 1.
+    /// A bit that must be 0 is 1.
     #[error("a reserved bit is set")]
     ReservedBit,
     /// The code of the block size is reserved.
@@ -72,7 +72,7 @@ pub enum FlacError {
     /// The frame has another sample rate than STREAMINFO.
     #[error("the frame has {0} samples a second, and STREAMINFO has {1}")]
     OtherSampleRate(u32, u32),
-    /// The file has another number of samples than its metadata says.
+    /// The number of samples differs from the metadata of the file.
     #[error("the number of samples is another than the metadata says")]
     SampleCount,
     /// The MD5 of the samples differs from STREAMINFO.

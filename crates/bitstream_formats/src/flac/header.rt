@@ -48,11 +48,11 @@ pub struct FrameHeader {
     pub variable: bool,
     /// The samples of each channel, at most 65536.
     pub block_size: u32,
-    /// Samples a second, or 0 if only STREAMINFO says it.
+    /// Samples a second, or 0 if only STREAMINFO has the number.
     pub sample_rate: u32,
     /// The coding of the channels.
     pub channels: Channels,
-    /// The bits of a sample, or 0 if only STREAMINFO says it.
+    /// The bits of a sample, or 0 if only STREAMINFO has the number.
     pub bits_per_sample: u8,
     /// The number of the frame, or of its first sample.
     pub number: u64,

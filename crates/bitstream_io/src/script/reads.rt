@@ -29,7 +29,7 @@ pub fn read_calls<R: BitRead>(
     requires { length answers.old ≡ length calls.now }
     // Each call is made, and is a read of its entry.
     ensures each { ReadsEach R.source calls.now reader.old answers.new reader.new }
-    // The results are those of the read sequence on the bits left.
+    // Each call returns the result of the read sequence on the bits left.
     ensures run { (bytes : List ℕ) → (R.source.state reader.old).bytes ≡ Some bytes
         → ReadsSequence R.source calls.now
         ((R.source.state reader.old).queue ++ bits_of R.source.order bytes)

@@ -59,7 +59,7 @@ pub trait ByteRead {
         Ok(())
     }
 
-    /// Reads the bytes of a V: `read_to_bytes::<[u8; 4]>()` gives an array of four.
+    /// Reads the bytes of a V: `read_to_bytes::<[u8; 4]>()` returns an array of four bytes.
     #[inline(always)]
     fn read_to_bytes<V: Primitive>(&mut self) -> Result<V::Bytes, Error>
         ensures reads { ByteReads source (given_bytes V.BYTES) self.old

@@ -155,7 +155,7 @@ impl<W: Target, E: Endianness> BitWriter<W, E> {
         ensures queued { OnOk result (queued_bits self.new ≡ queued_bits self.old) }
         ensures requests { requests_made self.new ≡ requests_made self.old + 1 }
     {
-        // The queued bits go first, and as many last bits are left over.
+        // The queued bits go first, and the last bits, of the same number, are left over.
         let left = shift::<E>(self.queue, self.queued, bytes);
         match self.port.send(bytes) {
             Ok(()) => {

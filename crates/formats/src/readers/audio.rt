@@ -317,7 +317,7 @@ fn note_block(
     }
 }
 
-/// Notes what STREAMINFO says.
+/// Notes the fields of STREAMINFO.
 fn note_stream_info(
     alloc: Global,
     unit: &mut Unit,

@@ -15,7 +15,7 @@ impl<'a, E: Endianness> SliceReader<'a, E> {
     ghost use Rattle.bitstream_stream.specs.Reading.MemorySource.{memory_source};
     ghost use Rattle.bitstream_stream.specs.Reading.MemoryTakes.{StaysAtEnd, TakesNumber};
 
-    /// Takes a number of at most 56 bits, which are there.
+    /// Takes a number of at most 56 bits. Its bits must be left.
     #[inline(always)]
     fn take_few(&mut self, bits: u32) -> u64
         requires few { bits ≤ 56 }
@@ -27,7 +27,7 @@ impl<'a, E: Endianness> SliceReader<'a, E> {
         value
     }
 
-    /// Takes a number of more than 56 bits, which are there.
+    /// Takes a number of more than 56 bits. Its bits must be left.
     #[inline(never)]
     fn take_many<U: UnsignedInteger>(&mut self, bits: u32) -> U
         requires many { 56 < bits }
@@ -47,7 +47,7 @@ impl<'a, E: Endianness> SliceReader<'a, E> {
         E::put(E::put(first, 56, second, 56), 112, last, more - 56)
     }
 
-    /// Takes a number, whose bits are there.
+    /// Takes a number. Its bits must be left.
     #[inline(always)]
     fn take_word<U: UnsignedInteger>(&mut self, bits: u32) -> U
         requires room { bits ≤ U.BITS_SIZE }

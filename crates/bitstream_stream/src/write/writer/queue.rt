@@ -48,7 +48,7 @@ impl<A: Allocator, E: Endianness> BitWriter<Growing<A>, E> {
     ghost use Rattle.bitstream_order.specs.Streaming.Growing.{growing_stream};
     ghost use Rattle.bitstream_stream.specs.Writing.Writer.{writer_state, new_writer_state};
 
-    /// Removes all bits and bytes, also of a writer that has failed: it is as a new one is then. The
+    /// Removes all bits and bytes, even if the writer has failed: it is then like a new one. The
     /// vector keeps its memory.
     pub fn clear(&mut self)
         ensures { writer_state growing_stream self.new ≡ new_writer_state (Some []) [] }
