@@ -14,7 +14,7 @@ use bitstream_io::{BitWrite, BitWriteExt, Error, ToBitStream};
 /// `Checked` for a field that does not fit its bits. Nothing is written then. Else the errors of
 /// the sink: the fields before the refused one stay written.
 pub fn append<W: BitWrite>(writer: &mut W, header: &BlockHeader) -> Result<u32, Error>
-    // If it succeeds, just the header's words were written.
+    // If it succeeds, only the header's words were written.
     ensures writes { IfOk result (λ bits. WritesAll W.sink
         (block_header_writes W.sink.order header.now) writer.old (Ok tt) writer.new) }
     // At the end of a byte, the result is the number of bytes written.

@@ -91,9 +91,9 @@ pub fn signed_shifts_round_down<S: SignedInteger>(value: S, by: u32) -> S
 
 /// An unsigned value round-trips through its bytes, in either byte order.
 pub fn unsigned_bytes_round_trip<U: UnsignedInteger>(value: U) -> (U, U)
-    // The value made of its big-endian bytes is the same number.
+    // The value of its big-endian bytes is the same number.
     ensures high { U.value result.0 ≡ U.value value }
-    // The value made of its little-endian bytes is the same number.
+    // The value of its little-endian bytes is the same number.
     ensures low { U.value result.1 ≡ U.value value }
 {
     let high = U::from_be_bytes(value.to_be_bytes());
@@ -106,9 +106,9 @@ pub fn unsigned_bytes_round_trip<U: UnsignedInteger>(value: U) -> (U, U)
 
 /// A signed value round-trips through its bytes, in either byte order.
 pub fn signed_bytes_round_trip<S: SignedInteger>(value: S) -> (S, S)
-    // The value made of its big-endian bytes is the same number.
+    // The value of its big-endian bytes is the same number.
     ensures high { S.integer result.0 ≡ S.integer value }
-    // The value made of its little-endian bytes is the same number.
+    // The value of its little-endian bytes is the same number.
     ensures low { S.integer result.1 ≡ S.integer value }
 {
     let high = S::from_be_bytes(value.to_be_bytes());

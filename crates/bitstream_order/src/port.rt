@@ -90,7 +90,6 @@ impl<S> Port<S> {
         ensures fetched { fetched_count result ≡ 0 }
         // No byte was sent yet.
         ensures sent { sent_count result ≡ 0 }
-        // No request was made yet.
         ensures requests { requests_count result ≡ 0 }
         // No request was refused yet.
         ensures refusals { port_refusals result ≡ [] }
@@ -106,7 +105,6 @@ impl<S> Port<S> {
 
     /// Lends the stream. What is done to it then is not counted.
     pub fn lend(&mut self) -> &mut S
-        // The port's stream is lent.
         ensures value { result.now ≡ port_stream self.old }
         // When the borrow ends, only the stream may have changed: it is as it was left.
         ensures* writes_back { sem 𝓛
@@ -193,7 +191,6 @@ impl<S: Source> Port<S> {
         ensures fetches { Fetches (MayRefuseRead S.stream)
             (source_state S.stream self.old) (take count buf.new) result
             (source_state S.stream self.new) }
-        // The buffer keeps its length.
         ensures len { length buf.new ≡ length buf.old }
     {
         let before = Snapshot::of(&self.stream);

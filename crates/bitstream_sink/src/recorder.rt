@@ -147,7 +147,7 @@ impl<N, E: Endianness, A: Allocator> BitRecorder<N, E, A> {
         // as one word, up to the first error.
         ensures writes { recorder_failed self.now ≡ false →
             WritesAll W.sink (playback_encoders W.sink.order self.now) target.old result target.new }
-        // If it succeeds and both have one order, just the recorded bits are appended.
+        // If it succeeds and both have one order, only the recorded bits are appended.
         ensures same_order { W.sink.order ≡ E.order → OnOk result
             (Appended W.sink target.old (recorded_bits E.order self.now) target.new) }
         // If the recorder has failed, `Failed` is returned and nothing is appended.

@@ -183,10 +183,10 @@ pub fn memory_ends<E: Endianness>()
 /// The bytes left of a reader of bytes in memory are the bytes after its place, and so are its bits
 /// left, if it has not failed.
 pub fn memory_tells_its_rest<E: Endianness>()
-    // The bytes left are those after the fetched ones.
+    // The bytes left are the bytes after the fetched ones.
     ensures bytes { (reader : SliceReader E) → ((memory_source E.order).state reader).bytes
         ≡ Some (drop ((memory_source E.order).state reader).fetched (memory_bytes reader)) }
-    // Unless the reader has failed, the bits left are those after the bits taken.
+    // Unless the reader has failed, the bits left are the bits after the bits taken.
     ensures bits { (reader : SliceReader E) → ((memory_source E.order).state reader).failed ≡ false
         → bits_left E.order ((memory_source E.order).state reader)
         ≡ Some (drop ((memory_source E.order).state reader).taken (bits_of E.order (memory_bytes reader))) }

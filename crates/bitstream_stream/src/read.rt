@@ -373,7 +373,7 @@ pub trait BitRead {
 
     /// Returns the reader by reference, for a function that takes a reader by value.
     fn by_ref(&mut self) -> &mut Self
-        // It reaches this reader, as it is.
+        // It reaches this reader, unchanged.
         ensures value { result.now ≡ self.old }
         // It is this very reference, so its calls change this reader.
         ensures same_reference { result.ghost_name ≡ self.entry.ghost_name }

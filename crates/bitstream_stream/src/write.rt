@@ -282,7 +282,7 @@ pub trait BitWrite {
         Self: Sized,
         // It is this very reference, so its calls change this sink.
         ensures same_reference { result.ghost_name ≡ self.entry.ghost_name }
-        // It reaches this sink, as it is.
+        // It reaches this sink, unchanged.
         ensures same_value { result.now ≡ self.old }
     {
         self

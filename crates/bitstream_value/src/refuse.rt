@@ -13,7 +13,6 @@ pub(crate) fn refuse_read<T, R: BitRead>(reader: &mut R, error: Error) -> Result
     requires { is_run_too_long {A = T} (Err error) ≡ false }
     // No bit is taken, and the error is returned, or `Failed` if the reader has failed.
     ensures reads { Reads R.source (fail error) reader.old result reader.new }
-    // It never succeeds.
     ensures error { IsErr result }
 {
     // A read of no bits returns an error only if the reader has failed.

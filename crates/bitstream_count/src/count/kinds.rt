@@ -17,7 +17,6 @@ pub trait Count: Sealed + Copy {
     /// Returns the number of bits.
     fn bits(self) -> u32
         ensures value { result ≡ number self }
-        // It is at most `MAX`.
         ensures bound { result ≤ MAX };
 
     /// Returns a count of `bits` bits, or `None` if that is above `MAX`.
@@ -39,7 +38,6 @@ pub trait SignedCount: Sealed + Copy {
         ensures value { result ≡ number self }
         // It is at least 1, since the sign bit is one of them.
         ensures some { 1 ≤ result }
-        // It is at most `MAX`.
         ensures bound { result ≤ MAX };
 
     /// Returns a count of `bits` bits, or `None` if that is 0 or above `MAX`.

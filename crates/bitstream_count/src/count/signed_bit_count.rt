@@ -121,11 +121,10 @@ impl<const MAX: u32> SignedBitCount<MAX> {
     /// Returns the range of the values of this number of bits: -2^(n-1) to 2^(n-1) - 1, or all of S
     /// if n is its size or more.
     pub fn range<S: SignedInteger>(&self) -> RangeInclusive<S>
-        // Of n bits it begins at -2^(n-1), or at S's least value if n is S's size or more.
+        // For n bits, the range begins at -2^(n-1), or at S's least value if n is S's size or more.
         ensures start { S.integer result.start ≡ pos 0 -ℤ pos (2 ^ (min self.now S.BITS_SIZE - 1)) }
         // It ends at 2^(n-1) - 1, or at S's greatest value then.
         ensures end { S.integer result.end ≡ pos (2 ^ (min self.now S.BITS_SIZE - 1) - 1) }
-        // No value was taken from it yet.
         ensures open { result.exhausted ≡ false }
     {
         let bits = self.count.min(S::BITS_SIZE).bits();

@@ -89,7 +89,7 @@ pub fn written_calls_are_read()
         → let kept = accepted_calls o calls len in
         sequence_answers (read_sequence (read_decoders o (matching_reads kept)) p
         (write_sequence (write_encoders None o calls) len ++ more)) ≡ answers_of kept }
-    // They take just the bits that were written.
+    // They take only the bits that were written.
     ensures place { (o : Order) (calls : List WriteCall) (len p : ℕ) (more : List Bool)
         → All IsCall calls → p % 8 ≡ len % 8
         → let words = write_sequence (write_encoders None o calls) len in
@@ -133,7 +133,7 @@ pub fn written_words_are_read()
     // Bytes are read back by a read of the same number of bytes.
     ensures bytes { (o : Order) (bytes : List ℕ) → All (λ b. b < 256) bytes
         → IsReadAs (buffer o bytes ∷ []) (bytes_decoder o (length bytes)) bytes }
-    // A skip of n bits takes just the n zeros that were written.
+    // A skip of n bits takes only the n zeros that were written.
     ensures skip { (n : ℕ) → IsReadAs (zeros n ∷ []) (skip_decoder n) tt }
     // A number of the type below the limit is read back from its groups by the strict read.
     ensures vbr { (o : Order) (field size limit v : ℕ) → 2 ≤ field → 0 < size → limit ≤ 2 ^ size

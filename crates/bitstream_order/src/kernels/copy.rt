@@ -45,7 +45,6 @@ pub(crate) fn copy(to: &mut [u8], from: &[u8])
 #[inline(always)]
 pub(crate) fn copy_prefix(to: &mut [u8], from: &[u8], count: usize) -> bool
     requires { count ≤ length to.old }
-    // The buffer keeps its length.
     ensures len { length to.new ≡ length to.old }
     ensures enough { IsTrue result ↔ (count ≤ length from.now) }
     // If it does, the buffer begins with the first `count` bytes.

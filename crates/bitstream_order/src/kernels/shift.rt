@@ -29,7 +29,6 @@ fn shift_values<E: Endianness, U: UnsignedInteger>(
     ensures within { result.0 ≤ length bytes.old }
     // Fewer bytes than U has are left unshifted.
     ensures most { length bytes.old < result.0 + U.BYTES }
-    // The number of bytes stays the same.
     ensures len { length bytes.new ≡ length bytes.old }
 {
     // The queue is the last bits of a value before the first one.
@@ -63,7 +62,6 @@ pub fn shift<E: Endianness>(queue: u8, queued: u32, bytes: &mut [u8]) -> u8
         (bits E.order bytes.new) result }
     // The bits left over are `queued` bits.
     ensures small { result < 2 ^ queued }
-    // The number of bytes stays the same.
     ensures len { length bytes.new ≡ length bytes.old }
 {
     let (at, left) = shift_values::<E, u64>(queue, queued, bytes);

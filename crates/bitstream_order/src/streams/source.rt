@@ -50,7 +50,6 @@ pub trait Source {
         // left are known.
         ensures bytes { OnOk result
             (Consumes (stream.remaining self.old) (stream.remaining self.new) (take count buf.new)) }
-        // The buffer keeps its length.
         ensures len { length buf.new ≡ length buf.old }
         // If it succeeds, its effect is the one that the source states for a request of this
         // length.

@@ -72,7 +72,6 @@ impl<R: Source, E: Endianness> BitReader<R, E> {
         // Nothing is taken or queued yet, and the bytes left are the stream's, if they are known.
         ensures state { ⟦<Self as BitRead>⟧.source.state result
             ≡ new_reader_state (R.stream.remaining reader) (R.stream.references reader) }
-        // No request was made yet.
         ensures requests { requests_made result ≡ 0 }
         ensures turns { turns_made result ≡ 0 }
     {
@@ -94,7 +93,6 @@ impl<R: Source, E: Endianness> BitReader<R, E> {
         // Nothing is taken or queued yet, and the bytes left are the stream's, if they are known.
         ensures state { ⟦<Self as BitRead>⟧.source.state result
             ≡ new_reader_state (R.stream.remaining reader) (R.stream.references reader) }
-        // No request was made yet.
         ensures requests { requests_made result ≡ 0 }
         ensures turns { turns_made result ≡ 0 }
     {
@@ -224,9 +222,7 @@ impl<R: Source, E: Endianness> BitReader<R, E> {
         // Fills the buffer with the next bytes and takes only them, or returns an error.
         ensures reads { Reads ⟦<Self as BitRead>⟧.source (bytes_decoder E.order (length buf.old))
             self.old (result_map (λ _. buf.new) result) self.new }
-        // If it succeeds, the reader has not failed.
         ensures fine { OnOk result (self.new.failed ≡ false) }
-        // If it succeeds, the number of queued bits is the same as before.
         ensures queued { OnOk result (queued_bits self.new ≡ queued_bits self.old) }
         ensures requests { requests_made self.new ≡ requests_made self.old + 1 }
     {
@@ -540,10 +536,9 @@ impl<R: Source, E: Endianness> BitRead for BitReader<R, E> {
     }
 
     fn byte_align(&mut self)
-        // Takes the bits up to the next whole byte. A reader that has failed stays as it is.
+        // Takes the bits up to the next whole byte. A reader that has failed is unchanged.
         ensures reads { Reads ⟦<Self as BitRead>⟧.source align_decoder
             self.old (Ok tt) self.new }
-        // No request is made.
         ensures requests { requests_made self.new ≡ requests_made self.old }
     {
         self.drop_queue();

@@ -68,7 +68,6 @@ impl<'a, E: Endianness> SliceReader<'a, E> {
     pub fn over(bytes: &'a [u8]) -> SliceReader<'a, E>
         // Nothing is taken or queued yet, and the bytes left are these.
         ensures state { (memory_source E.order).state result ≡ new_reader_state (Some bytes.now) [] }
-        // These are all its bytes.
         ensures bytes { memory_bytes result ≡ bytes.now }
     {
         SliceReader {
@@ -99,7 +98,7 @@ impl<'a, E: Endianness> SliceReader<'a, E> {
     /// Returns the number of bits left, or 2^64 - 1 if it is more. After a failure these are the bits of
     /// the slice after the [bits read](SliceReader::bits_read), although no call reads them.
     pub fn bits_left(&self) -> u64
-        // The bits of all bytes that were not taken, also after a failure.
+        // The bits of all bytes that were not taken, even after a failure.
         ensures all { result
             ≡ min (8 * length (memory_bytes self.now) - ((memory_source E.order).state self.now).taken) u64.MAX }
         // Unless the reader has failed, the result is at most the number of bits left.
@@ -116,7 +115,7 @@ impl<'a, E: Endianness> SliceReader<'a, E> {
 
     /// Returns true if no bit is left: all bits of the slice were read. A failure does not change that.
     pub fn is_at_end(&self) -> bool
-        // True if and only if all bits of all bytes were taken, also after a failure.
+        // True if and only if all bits of all bytes were taken, even after a failure.
         ensures all { IsTrue result
             ↔ (((memory_source E.order).state self.now).taken ≡ 8 * length (memory_bytes self.now)) }
         // Unless the reader has failed, true if and only if no bit is left.

@@ -89,7 +89,6 @@ impl<W: Target, E: Endianness> BitWriter<W, E> {
         // The writer has failed with an empty queue; nothing else has changed.
         ensures fails { writer_state W.stream self.new
             ≡ failed_writer (writer_state W.stream self.old) }
-        // No request is made.
         ensures requests { requests_made self.new ≡ requests_made self.old }
     {
         self.queue = 0;
@@ -103,7 +102,7 @@ impl<W: Target, E: Endianness> BitWriter<W, E> {
     fn push<U: UnsignedInteger>(&mut self, value: U, n: u32) -> Result<(), Error>
         requires sound { self.old.failed ≡ false }
         requires room { n ≤ U.BITS_SIZE }
-        // Writes just the n lowest bits of the value, or a request is refused and the writer fails.
+        // Writes only the n lowest bits of the value, or a request is refused and the writer fails.
         ensures pushes { Pushes (MayRefuseWrite W.stream) E.order (word E.order n (U.value value))
             (writer_state W.stream self.old) result (writer_state W.stream self.new) }
         ensures asks { AsksForWord n self.old self.new }
@@ -132,7 +131,7 @@ impl<W: Target, E: Endianness> BitWriter<W, E> {
         requires sound { self.old.failed ≡ false }
         requires none { self.old.queued ≡ 0 }
         requires some { 1 ≤ length bytes.now }
-        // Writes just these bytes, or a request is refused and the writer fails.
+        // Writes only these bytes, or a request is refused and the writer fails.
         ensures pushes { Pushes (MayRefuseWrite W.stream) E.order (bits E.order bytes.now)
             (writer_state W.stream self.old) result (writer_state W.stream self.new) }
         ensures requests { requests_made self.new ≡ requests_made self.old + 1 }
@@ -148,10 +147,9 @@ impl<W: Target, E: Endianness> BitWriter<W, E> {
         requires sound { self.old.failed ≡ false }
         requires queued { 1 ≤ self.old.queued }
         requires some { 1 ≤ length bytes.old }
-        // Writes just the bytes as they came, or a request is refused and the writer fails.
+        // Writes only the bytes as they came, or a request is refused and the writer fails.
         ensures pushes { Pushes (MayRefuseWrite W.stream) E.order (bits E.order bytes.old)
             (writer_state W.stream self.old) result (writer_state W.stream self.new) }
-        // If it succeeds, the number of queued bits is the same as before.
         ensures queued { OnOk result (queued_bits self.new ≡ queued_bits self.old) }
         ensures requests { requests_made self.new ≡ requests_made self.old + 1 }
     {
@@ -173,7 +171,7 @@ impl<W: Target, E: Endianness> BitWriter<W, E> {
         requires queued { 1 ≤ self.old.queued }
         requires some { 1 ≤ N }
         requires few { N ≤ 1024 }
-        // Writes just these bytes, or a request is refused and the writer fails.
+        // Writes only these bytes, or a request is refused and the writer fails.
         ensures pushes { Pushes (MayRefuseWrite W.stream) E.order (bits E.order bytes.now)
             (writer_state W.stream self.old) result (writer_state W.stream self.new) }
         // If it succeeds, it made one request if no bit was queued, else one for each piece of up
@@ -199,7 +197,7 @@ impl<W: Target, E: Endianness> BitWriter<W, E> {
         requires sound { self.old.failed ≡ false }
         requires some { 1 ≤ N }
         requires few { N ≤ 1024 }
-        // Writes just these bytes, or a request is refused and the writer fails.
+        // Writes only these bytes, or a request is refused and the writer fails.
         ensures pushes { Pushes (MayRefuseWrite W.stream) E.order (bits E.order bytes.now)
             (writer_state W.stream self.old) result (writer_state W.stream self.new) }
         // If it succeeds, it made one request if no bit was queued, else one for each piece of up

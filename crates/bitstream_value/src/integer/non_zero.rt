@@ -43,7 +43,6 @@ pub trait NonZeroInteger: Copy {
     #[inline(always)]
     fn base(self) -> Self::Base
         ensures value { Self.Base.value result ≡ number self }
-        // It is not 0.
         ensures some { 0 < Self.Base.value result };
 
     ghost some_law: { (x : Self) → 0 < number x };

@@ -22,7 +22,6 @@ fn read_number<U: UnsignedInteger, C: Count, R: BitRead>(
     // Takes only `bits` bits and returns their number, or returns an error.
     ensures reads { Reads R.source (unsigned_decoder R.source.order U.BITS_SIZE (C.number bits))
         reader.old (result_map U.value result) reader.new }
-    // A number that is returned is below 2^`bits`.
     ensures fits { IfOk result (λ number. U.value number < 2 ^ C.number bits) }
 {
     reader.read_unsigned_counted(bits)
@@ -34,7 +33,6 @@ fn read_number_fixed<B: Width, U: UnsignedInteger, R: BitRead>(reader: &mut R) -
     // Takes only `B::BITS` bits and returns their number, or returns an error.
     ensures reads { Reads R.source (unsigned_decoder R.source.order U.BITS_SIZE B.BITS)
         reader.old (result_map U.value result) reader.new }
-    // A number that is returned is below 2^`B::BITS`.
     ensures fits { IfOk result (λ number. U.value number < 2 ^ B.BITS) }
 {
     reader.read_unsigned::<B, U>()

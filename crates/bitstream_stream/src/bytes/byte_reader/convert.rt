@@ -24,7 +24,6 @@ impl<R: Source, E: Endianness> ByteReader<R, E> {
 
     /// Lends the stream. The reader does not count bytes taken from it meanwhile.
     pub fn reader(&mut self) -> &mut R
-        // The reader's stream is lent.
         ensures stream { result.now ≡ byte_reader_stream self.old }
         // When the borrow ends, only the stream may have changed: it is as it was left.
         ensures* writes_back { sem 𝓛 (Lends (the_row R.row E.row) R.row self.entry result
@@ -39,7 +38,6 @@ impl<R: Source, E: Endianness> ByteReader<R, E> {
         ensures state { ⟦<BitReader<R, E> as BitRead>⟧.source.state result
             ≡ new_reader_state (R.stream.remaining (byte_reader_stream self))
             (R.stream.references (byte_reader_stream self)) }
-        // No request was made yet.
         ensures requests { requests_made result ≡ 0 }
     {
         BitReader::new(self.into_reader())
@@ -57,7 +55,6 @@ impl<R: Source, E: Endianness> ByteReader<R, E> {
         ensures state { ⟦<BitReader<Lent<'a, R>, E> as BitRead>⟧.source.state result
             ≡ new_reader_state (R.stream.remaining (byte_reader_stream self.old))
             (by_name (reader_name result) ∷ R.stream.references (byte_reader_stream self.old)) }
-        // No request was made yet.
         ensures requests { requests_made result ≡ 0 }
         // When the new reader is dropped, only the stream may have changed: it is as it was left.
         ensures* writes_back { sem 𝓛 (follows (the_row R.row E.row) R.row self.entry.ghost_name

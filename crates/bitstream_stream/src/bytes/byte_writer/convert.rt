@@ -24,7 +24,6 @@ impl<W: Target, E: Endianness> ByteWriter<W, E> {
 
     /// Lends the stream. The writer does not count bytes added to it meanwhile.
     pub fn writer(&mut self) -> &mut W
-        // The writer's stream is lent.
         ensures stream { result.now ≡ byte_writer_stream self.old }
         // When the borrow ends, only the stream may have changed: it is as it was left.
         ensures* writes_back { sem 𝓛 (Lends (the_row W.row E.row) W.row self.entry result

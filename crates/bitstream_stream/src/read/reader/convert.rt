@@ -25,7 +25,6 @@ impl<R: Source, E: Endianness> BitReader<R, E> {
     /// The bits left of a byte that was begun are lost, since the stream has given the whole byte: read
     /// them first, or pass over them by [`byte_align`](BitRead::byte_align).
     pub fn into_reader(self) -> R
-        // It is the reader's stream.
         ensures stream { result ≡ reader_stream self }
         // The bytes left in the stream are the ones that the reader knew to be left.
         ensures bytes { R.stream.remaining result ≡ (⟦<Self as BitRead>⟧.source.state self).bytes }
@@ -40,7 +39,6 @@ impl<R: Source, E: Endianness> BitReader<R, E> {
         // bytes.
         ensures there { IsSome result ↔ (((⟦<Self as BitRead>⟧.source.state self.old).failed ≡ false)
             × ((⟦<Self as BitRead>⟧.source.state self.old).taken % 8 ≡ 0)) }
-        // The reader's stream is lent.
         ensures stream { IfSome result (λ stream. stream.now ≡ reader_stream self.old) }
         // When the borrow ends, only the stream may have changed: it is as it was left.
         ensures* writes_back { sem 𝓛 (LendsIf (the_row R.row E.row) R.row self.entry result
@@ -57,7 +55,6 @@ impl<R: Source, E: Endianness> BitReader<R, E> {
     /// and lends the stream, even if the reader has failed. The reader does not count bytes taken
     /// from the stream meanwhile.
     pub fn aligned_reader(&mut self) -> &mut R
-        // The reader's stream is lent.
         ensures stream { result.now ≡ reader_stream self.old }
         // When the borrow ends, the queued bits are taken, and the stream is as it was left.
         ensures* writes_back { sem 𝓛 (Lends (the_row R.row E.row) R.row self.entry result

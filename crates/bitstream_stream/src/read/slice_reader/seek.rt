@@ -66,9 +66,8 @@ impl<'a, E: Endianness> SliceReader<'a, E> {
     /// - `Failed` if the reader has failed. [`bits_read`](SliceReader::bits_read) still reports its
     ///   place.
     pub fn position_in_bits(&self) -> Result<u64, Error>
-        // If the reader has failed, `Failed` is returned.
         ensures failed { ((memory_source E.order).state self.now).failed ≡ true → result ≡ Err Failed }
-        // Else the number of bits taken is returned, if it is below 2^64.
+        // Unless the reader has failed, the number of bits taken is returned, if it is below 2^64.
         ensures place { ((memory_source E.order).state self.now).failed ≡ false
             → ((memory_source E.order).state self.now).taken < 2 ^ 64
             → result ≡ Ok ((memory_source E.order).state self.now).taken }

@@ -38,7 +38,6 @@ impl<W: Target, E: Endianness> BitWriter<W, E> {
         // bytes.
         ensures there { IsSome result ↔ (((⟦<Self as BitWrite>⟧.sink.failed self.old) ≡ false)
             × (⟦<Self as BitWrite>⟧.sink.len self.old % 8 ≡ 0)) }
-        // The writer's stream is lent.
         ensures stream { IfSome result (λ stream. stream.now ≡ writer_stream self.old) }
         // When the borrow ends, only the stream may have changed: it is as it was left.
         ensures* writes_back { sem 𝓛 (LendsIf (the_row W.row E.row) W.row self.entry result

@@ -21,7 +21,6 @@ impl<W: Target, E: Endianness> BitWriter<W, E> {
     /// Returns the number of bits that wait in the writer.
     pub fn queued(&self) -> u32
         ensures bits { result ≡ queued_bits self.now }
-        // It is below 8.
         ensures few { result < 8 }
     {
         self.queued
@@ -30,7 +29,6 @@ impl<W: Target, E: Endianness> BitWriter<W, E> {
     /// Returns the number of the bits that wait in the writer.
     pub fn queue(&self) -> u8
         ensures number { result ≡ queue_number self.now }
-        // It is below 2^n if n bits are queued.
         ensures small { result < 2 ^ queued_bits self.now }
     {
         self.queue
