@@ -47,7 +47,7 @@ pub(crate) fn copy_prefix(to: &mut [u8], from: &[u8], count: usize) -> bool
     requires { count ≤ length to.old }
     ensures len { length to.new ≡ length to.old }
     ensures enough { IsTrue result ↔ (count ≤ length from.now) }
-    // If it does, the buffer begins with the first `count` bytes.
+    // If there are enough, the buffer begins with the first `count` bytes.
     ensures copied { IsTrue result → take count to.new ≡ take count from.now }
 {
     // There are enough bytes for the whole buffer, whose length is mostly a constant.

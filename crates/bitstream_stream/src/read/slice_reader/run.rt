@@ -35,7 +35,7 @@ fn window_without<E: Endianness>(stop: bool) -> u64
 /// Returns the number of first bytes that have no bit equal to `stop`, counted eight at a time.
 fn bytes_without<E: Endianness>(bytes: &[u8], stop: bool) -> usize
     ensures within { result ≤ length bytes.now }
-    // Their bits come before the first one that is `stop`.
+    // The bits of these bytes come before the first bit that is `stop`.
     ensures run { lead stop (bits E.order bytes.now)
         ≡ 8 * result + lead stop (bits E.order (drop result bytes.now)) }
 {
