@@ -59,7 +59,7 @@ field_of (letter ∷ rest) = field_after letter rest
 abbrev pub segments : List ℕ → List (List ℕ)
 segments text = slice_split (λ b. b == 44) text
 
--- a list with one item more at its start; an error stays
+-- a list with one more item at its start; an error is kept
 abbrev pub one_more : {A E : Type 0} → A → Result (List A) E → Result (List A) E
 one_more x (Ok xs) = Ok (x ∷ xs)
 one_more x (Err e) = Err e

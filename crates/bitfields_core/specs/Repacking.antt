@@ -19,7 +19,7 @@ use Rattle.bitfields_core.specs.Fault.{fault, refusal_reason}
 use Rattle.bitfields_core.specs.Packing.{PackedBytes, PackingRefused}
 use Rattle.bitfields_core.specs.Unpacking.{FieldCalls, Unpacked, Unpacks, Stops, field_read, says_by, FieldsFault, ReadsFields}
 
--- ---- what packed bits say
+-- ---- the values of packed bits
 
 -- true if all bits are 0
 abbrev pub are_zeros : List Bool → Bool
@@ -52,7 +52,7 @@ with_alignment fields = fields ++ Align ∷ []
 abbrev pub without_field : ℕ → Fault → Fault
 without_field n f = if f.field == n + 1 then fault 0 f.reason else f
 
--- the same of what bits say
+-- the same for the result of bits
 abbrev pub without_last_field : ℕ → Unpacked → Unpacked
 without_last_field n (Unpacks vs at) = Unpacks vs at
 without_last_field n (Stops f) = Stops (without_field n f)
@@ -69,7 +69,7 @@ HasOneWord field = Unit {0}
 
 -- ---- from a reader
 
--- the same of values that were read, or the fault
+-- the values that were read, or the fault without the number of the last alignment
 abbrev pub unnamed_result : ℕ → Result (List FieldValue) Fault → Result (List FieldValue) Fault
 unnamed_result n (Ok vs) = Ok vs
 unnamed_result n (Err f) = Err (without_field n f)
@@ -83,7 +83,7 @@ pub record ReadsPacked {R : Type 0} (K : BitSource R) (fields : List Field) (old
 
 -- ---- from a stream
 
--- A stream lost whole bytes. These say the values, whatever follows them.
+-- A stream lost whole bytes. These decide the values, whatever follows them.
 pub record ReadPacked (o : Order) (fields : List Field) (old : Option (List ℕ)) (vs : List FieldValue)
     (new : Option (List ℕ)) : Type 0 where
   pub gone : List ℕ
@@ -117,8 +117,8 @@ pub record ReadToLast {R : Type 0} (I : InputStream R) (o : Order) (fields : Lis
   pub reads : ReadPacked o fields (I.remaining input) vs (I.remaining behind)
   pub ended : I.refuses behind 1 UnexpectedEof input_after
 
--- All bytes of the input were read and their values packed. If each value has one word, the bits of the packed bytes
--- are those that were read.
+-- All bytes of the input were read and their values packed. If each value has one word, the bits of the packed
+-- bytes are the bits that were read.
 pub record RepackedBytes {R W : Type 0} (I : InputStream R) (O : OutputStream W) (o : Order) (fields : List Field) (input : R) (output : W) (input_after : R)
     (output_after : W) : Type 0 where
   pub vs : List FieldValue
@@ -150,19 +150,19 @@ Repacks I O o fields input output (Ok done) input_after output_after =
 Repacks I O o fields input output (Err f) input_after output_after =
     RepackingFault I O o fields input output f input_after output_after
 
--- all bytes of a stream say values, and no byte is left over
+-- all bytes of a stream decode to values, and no byte is left over
 abbrev pub AreRepacked : Order → List Field → List ℕ → Type 0
 AreRepacked o fields xs = (vs : List FieldValue) × (unpack_aligned o fields (bits o xs) ≡ Unpacks vs (8 * length xs))
 
--- all bytes of a stream say the fault, or are more than those that say values
+-- all bytes of a stream decode to the fault, or more bytes follow the ones of the values
 abbrev pub AreNotRepacked : Order → List Field → List ℕ → Fault → Type 0
 AreNotRepacked o fields xs f =
     (unpack_aligned o fields (bits o xs) ≡ Stops f)
     ⊎ ((f ≡ fault 0 BytesLeftOver) × (vs : List FieldValue) × (n : ℕ) × (n < 8 * length xs)
     × (unpack_aligned o fields (bits o xs) ≡ Unpacks vs n))
 
--- The bytes of a stream are repacked exactly if they say values and none is left over, refused memory and the output's
--- refusals aside.
+-- The bytes of a stream are repacked exactly if they decode to values and none is left over, refused memory and
+-- the output's refusals aside.
 abbrev pub IsRepacked : Order → List Field → List ℕ → Result (Unit {0}) Fault → Type 0
 IsRepacked o fields xs (Ok done) = AreRepacked o fields xs
 IsRepacked o fields xs (Err f) = ((f.reason ≡ OutOfMemory) ⊎ (f.reason ≡ StreamFault)) ⊎ AreNotRepacked o fields xs f

@@ -275,14 +275,14 @@ UnpacksBytes I o fields old (Ok text) new = UnpackedBytes o fields (I.remaining 
 UnpacksBytes I o fields old (Err f) new =
     FieldsFault field_read (MayRefuseRead I) o fields (I.remaining old) f (I.remaining new)
 
--- all bytes of a stream say the values whose lines are printed
+-- all bytes of a stream decode to the values whose lines are printed
 pub record SaidBytes (o : Order) (fields : List Field) (xs text : List ℕ) : Type 0 where
   pub values : List FieldValue
   pub len : ℕ
   pub says : unpack_bits o 1 fields 0 (bits o xs) ≡ Unpacks values len
   pub prints : text ≡ printed_lines values
 
--- the lines or the fault that all bytes of a stream say, refused memory aside
+-- the lines or the fault of all bytes of a stream, refused memory aside
 abbrev pub IsSaid : Order → List Field → List ℕ → Result (List ℕ) Fault → Type 0
 IsSaid o fields xs (Ok text) = SaidBytes o fields xs text
 IsSaid o fields xs (Err f) = (f.reason ≡ OutOfMemory) ⊎ (unpack_bits o 1 fields 0 (bits o xs) ≡ Stops f)

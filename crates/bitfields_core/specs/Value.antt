@@ -124,7 +124,7 @@ abbrev pub Fit : List Field → List FieldValue → Type 0
 Fit [] vs = vs ≡ []
 Fit (field ∷ fields) vs = FitsField field vs × Fit fields (drop (value_count field) vs)
 
--- a value as it is printed
+-- the printed form of a value
 abbrev pub value_text : FieldValue → List ℕ
 value_text (Value.Unsigned v) = decimal v
 value_text (Value.Signed x) = signed_decimal x

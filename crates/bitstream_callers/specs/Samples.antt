@@ -7,7 +7,7 @@ use Rattle.bitstream_io.specs.Callers.{items_decoder, words, Decoder, Encoder, u
 abbrev pub samples_decoder : Order → ℕ → Decoder (List ℕ)
 samples_decoder o count = items_decoder (unsigned_decoder o 16 12) count
 
--- the samples that bits say
+-- the samples in bits
 abbrev pub samples_in : ℕ → List Bool → List ℕ
 samples_in count bits = map (number High) (words 12 count bits)
 

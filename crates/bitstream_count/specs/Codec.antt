@@ -71,7 +71,7 @@ prefix_then Incomplete f = Incomplete
 prefix_then (Done n (Ok a)) f = advance n (f n a)
 prefix_then (Done n (Err e)) f = Done n (Err e)
 
--- one result and then another, made from its value; an error stays
+-- one result and then another, made from its value; an error is kept
 abbrev pub result_then : {A B : Type 0} → Result A Error → (A → Result B Error) → Result B Error
 result_then (Ok a) f = f a
 result_then (Err e) f = Err e

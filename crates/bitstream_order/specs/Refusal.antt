@@ -25,11 +25,11 @@ refusal_told known references old wanted kind new = record {
   after = known new;
 }
 
--- the refusal of a request for a number of bytes, by what its source told
+-- the refusal of a request for a number of bytes, from what is known of its source
 abbrev pub refused_read : {R : Type 0} → InputStream R → R → ℕ → ErrorKind → R → Refusal
 refused_read I = refusal_told I.remaining I.references
 
--- the refusal of a request to send a number of bytes, by what its target told
+-- the refusal of a request to send a number of bytes, from what is known of its target
 abbrev pub refused_write : {W : Type 0} → OutputStream W → W → ℕ → ErrorKind → W → Refusal
 refused_write O = refusal_told O.contents O.references
 

@@ -17,7 +17,7 @@ written_bytes writer = growing_bytes (writer_stream writer)
 abbrev pub growing_state : {A E : Type 0} → BitWriter (Growing A) E → WriterState
 growing_state = writer_state growing_stream
 
--- such a writer as a sink
+-- this writer as a sink
 abbrev pub growing_sink : {A E : Type 0} → Order → Sink (BitWriter (Growing A) E)
 growing_sink = writer_sink growing_stream
 

@@ -38,7 +38,7 @@ abbrev pub ByteGrowsOwn : {R A E : Type 0} → ByteSource R → (Error → E →
 ByteGrowsOwn K becomes decoder old result new =
     OwnErrors becomes (λ answer. answer) (λ plain. ByteGrowingOutcome K decoder old plain new) result
 
--- a read of a type that says whether it asks for memory
+-- a read of a type that states whether it allocates
 abbrev pub ByteOwnReads : {R A E : Type 0} → Bool → ByteSource R → (Error → E → Type 0) → ByteDecoder (Result A E)
     → R → Result A E → R → Type 0
 ByteOwnReads false K becomes decoder old result new = ByteReadsOwn K becomes decoder old result new

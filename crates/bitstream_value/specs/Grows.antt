@@ -48,7 +48,7 @@ abbrev pub GrowsOwn : {R A E : Type 0} → BitSource R → (Error → E → Type
 GrowsOwn K becomes decoder old result new =
     OwnErrors becomes (λ answer. answer) (λ plain. GrowingOutcome K decoder old plain new) result
 
--- a read of a type that says whether it asks for memory
+-- a read of a type that states whether it allocates
 abbrev pub OwnReads : {R A E : Type 0} → Bool → BitSource R → (Error → E → Type 0) → Decoder (Result A E) → R
     → Result A E → R → Type 0
 OwnReads false K becomes decoder old result new = ReadsOwn K becomes decoder old result new

@@ -1,4 +1,4 @@
--- Calls whose errors are of a type of their own, into which the errors of a stream go.
+-- Calls with an error type of their own, to which the errors of a stream are mapped.
 use Rattle.std.specs.Prelude.{if◌then◌else◌, Bool, ◌≡◌, List, Result, Ok, Err}
 use Rattle.std.specs.Result.{IsErrAnd}
 use Rattle.bitstream_count.specs.declared.error.Error.{Error}
@@ -31,7 +31,7 @@ abbrev pub WritesOwn : {S E : Type 0} → Sink S → (Error → E → Type 0) �
 WritesOwn K becomes encoders answer old result new = OwnErrors becomes (λ _. answer)
     (λ plain. WritesAll K encoders old plain new) result
 
--- an error of the stream, as it is
+-- an error of the stream, unchanged
 abbrev pub same_error : Error → Error → Type 0
 same_error error own = own ≡ error
 

@@ -14,7 +14,7 @@ lent_input I = record {
   takes = λ before count after. I.takes before.at.now count after.at.now;
 }
 
--- the same of a target
+-- the same for a target
 abbrev pub lent_output : {S : Type 0} → OutputStream S → OutputStream (Lent S)
 lent_output O = record {
   contents = λ lent. O.contents lent.at.now;

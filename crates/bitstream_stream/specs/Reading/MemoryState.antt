@@ -1,5 +1,5 @@
--- The laws of the state of a reader of bytes in memory.
--- These are lemmas: the source of bits that is made of them has its laws in it.
+-- The laws of the state of a reader of bytes in memory. These are lemmas: the source of bits that uses them has
+-- its laws in it.
 use Rattle.std.proofs.Common.{◌≡◌, ℕ, ◌+◌, ◌*◌, ◌<◌, ◌≤◌, Bool, true, false, List, length, take, refl, arith, inl, inr, ◌⊎◌}
 use Rattle.std.proofs.lemmas.List.{length-take-le, length-drop}
 use Rattle.bitstream_number.specs.Word.{Order, bits}

@@ -58,6 +58,6 @@ zeros n = plain (replicate n false)
 abbrev pub vbr : Order → ℕ → ℕ → Encoder
 vbr o field v = plain (vbr_word o field v)
 
--- a signed number in such groups, by its place in the order 0, -1, 1, -2, 2, ..
+-- a signed number in groups, by its place in the zigzag order 0, -1, 1, -2, 2 and so on
 abbrev pub signed_vbr : Order → ℕ → ℤ → Encoder
 signed_vbr o field x = vbr o field (zig x)
