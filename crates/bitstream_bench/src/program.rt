@@ -11,7 +11,8 @@ use std::io::ErrorKind;
 use std::process::Abort;
 use test_streams::{Count, Refuse, Short};
 
-/// Which request of each stream is refused, if any: the first is 0. Each later one is served again.
+/// The request of each stream that is refused, if any, counted from 0. Each later one is served
+/// again.
 #[derive(Clone, Copy, Drop)]
 struct Refused {
     input: Option<u32>,

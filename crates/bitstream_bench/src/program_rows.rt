@@ -26,7 +26,8 @@ pub(crate) const UNPACKED: Row = Row(
 /// Values of four kinds, and the lines that spell them.
 const FOUR_VALUES: &[u8] = b"5\n4\n8\n-3\n";
 
-/// By the table of fields: 3 bits, 5 up to a whole byte, 4 and the stop bit, two groups of 4, one group.
+/// The sizes of the fields: 3 bits, 5 up to a whole byte, 4 and the stop bit, two groups of 4, one
+/// group.
 pub(crate) const SIZED: Row = Row("size be u3,a,n1,v4,s4", b"5\n4\n8\n-3\n", b"25\n", "", 0);
 
 pub(crate) const ROWS: [Row; 15] = [

@@ -17,10 +17,10 @@ use std::io::ErrorKind;
 /// the groups that it took. After any other error of a single call nothing has changed.
 #[derive(Debug, Drop, thiserror::Error)]
 pub enum Error {
-    /// More bits were to be read than the type has.
+    /// A read of more bits than the type has.
     #[error("excessive bits for type read")]
     ReadBits,
-    /// More bits were to be written than the type has, or a value has more bits than its count.
+    /// A write of more bits than the type has, or of a value with more bits than its count.
     #[error(transparent)]
     Checked(CheckedError),
     /// A signed value of 0 bits.

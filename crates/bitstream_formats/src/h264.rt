@@ -82,7 +82,7 @@ pub enum Unit {
     Sequence,
     /// A picture parameter set.
     Picture,
-    /// Another one. Only its header is read.
+    /// Another kind of unit. Only its header is read.
     Other,
 }
 

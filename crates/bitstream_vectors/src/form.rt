@@ -75,7 +75,7 @@ pub enum ByteOrder {
     Little,
 }
 
-/// From where a seek counts its bits.
+/// The place from which a seek counts its bits.
 #[derive(Clone, Copy, Drop)]
 pub enum Whence {
     Start,

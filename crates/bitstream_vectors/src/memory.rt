@@ -9,9 +9,9 @@ use std::io::{Cursor, Read, Seek, SeekFrom};
 /// Bytes in memory.
 #[derive(Drop)]
 pub enum Memory<'a> {
-    /// By std's cursor.
+    /// std's cursor.
     Cursor(Cursor<&'a [u8]>),
-    /// By the library's own source.
+    /// The library's own source.
     Slice(Slice<'a>),
 }
 

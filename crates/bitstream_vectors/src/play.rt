@@ -40,7 +40,7 @@ pub enum Way {
     Short,
     /// It refuses requests from one on.
     Refused(Fault),
-    /// There is none: the library's reader of bytes in memory reads them, up to the call that needs
+    /// No stream: the library's reader of bytes in memory reads them, up to the call that needs
     /// more bits.
     Cut(usize),
 }

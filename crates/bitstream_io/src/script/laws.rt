@@ -58,7 +58,7 @@ pub fn write_sequences_join()
         ++ write_refusals (write_encoders None o second) (len + length words) }
 {}
 
-/// To append bits and then more bits is to append all of them at once, on every sink.
+/// Appending bits and then more bits is the same as appending all of them at once, on every sink.
 pub fn appending_composes<W: BitWrite>()
     ensures { (old mid new : W) (first second : List Bool)
         → W.sink.appends old first mid → W.sink.appends mid second new
