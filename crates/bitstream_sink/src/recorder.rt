@@ -18,8 +18,8 @@ pub mod best;
 pub mod laws;
 
 /// Records the bits that are written to it, so that they can be played to another sink of bits, at
-/// any place in a byte. Whole bytes are in a vector, and the fewer than 8 bits after them in a byte
-/// of their own. Their number is returned as an N, but N does not limit the recording.
+/// any place in a byte. Whole bytes are in a vector. The bits after them, fewer than 8, are kept
+/// next to it. Their number is returned as an N, but N does not limit the recording.
 ///
 /// If the vector needs memory and gets none, the call returns `OutOfMemory` and the recorder has
 /// failed: it keeps its whole bytes, but each later call that writes or plays returns `Failed`,

@@ -241,9 +241,9 @@ fn refusals(row: &Row<'_>, fault: Fault) -> u64 {
     }
 }
 
-/// Objects if the number of requests is not the number of refused ones and of the ones before, or
-/// if other bytes moved than the bytes of the calls before and a part of the bytes of the refused
-/// call. (If calls seek, the bytes are not compared.)
+/// Objects if the number of requests is not the number of refused ones and of the ones before.
+/// Objects if other bytes moved than the bytes of the calls before and a part of the bytes of the
+/// refused call. (If calls seek, the bytes are not compared.)
 fn stops_at(row: &Row<'_>, steps: &[Moved], fault: Fault, moved: Moved) -> Result<(), Objection> {
     let refusals = refusals(row, fault);
     let requests = u64::from(fault.served).saturating_add(refusals);
