@@ -344,8 +344,8 @@ fn is_last(ended: &Ended, refusing: Refusing) -> Option<bool> {
 
 /// Returns true if a row ends as it should if a request is refused. If the call makes it, the last
 /// line of its faults is a stream fault, nothing more is asked, and only a beginning of the row's
-/// bytes is written. If it was the input's request, none at all is written. If not, the row ends as
-/// usual.
+/// bytes is written. If it was the input's request, none at all is written. If the call does not
+/// make it, the row ends as usual.
 fn ends_at(alloc: Global, row: &Row, refusing: Refusing) -> bool {
     let refused = refused_at(refusing, ErrorKind::ConnectionReset);
     let ended = play(alloc, row.0, row.1, false, refused);
