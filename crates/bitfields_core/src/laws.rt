@@ -153,11 +153,11 @@ pub fn unpacking_goes_by_fields()
 /// What repacking accepts of a layout whose values have one word each is exactly what packing writes
 /// for some input.
 pub fn repacked_bytes_are_packed()
-    ensures packed_bits { (o : Order) (fields : List Field) (bytes : List ℕ) (vs : List FieldValue)
+    ensures packed { (o : Order) (fields : List Field) (bytes : List ℕ) (vs : List FieldValue)
         → IsLayout fields → All HasOneWord fields
         → unpack_aligned o fields (bits o bytes) ≡ Unpacks vs (8 * length bytes)
         → (input : List ℕ) × (values 1 fields (lines input) ≡ Ok vs) × (bits o bytes ≡ packed_bits o fields vs 0) }
-    ensures unpack_aligned { (o : Order) (fields : List Field) (bytes input : List ℕ) (vs : List FieldValue)
+    ensures repacked { (o : Order) (fields : List Field) (bytes input : List ℕ) (vs : List FieldValue)
         → IsLayout fields → values 1 fields (lines input) ≡ Ok vs → bits o bytes ≡ packed_bits o fields vs 0
         → unpack_aligned o fields (bits o bytes) ≡ Unpacks vs (8 * length bytes) }
 {}

@@ -24,7 +24,7 @@ use bitstream_io::{
 use std::alloc::Global;
 use std::io::ErrorKind;
 use std::process::Abort;
-use test_streams::{Drip, Refuse};
+use test_streams::{Short, Refuse};
 
 /// The fields of a block, in their order.
 fn fields(info: &StreamInfo) -> [u64; 8] {
@@ -71,9 +71,9 @@ const READ: [usize; 9] = [0, 2, 4, 7, 10, 13, 14, 18, 34];
 const WRITTEN: [usize; 9] = [0, 2, 4, 7, 10, 12, 13, 18, 34];
 
 /// A stream that drips, and refuses behind the given number of requests.
-fn stream<S>(inner: S, served: usize) -> Refuse<Drip<S>> {
+fn stream<S>(inner: S, served: usize) -> Refuse<Short<S>> {
     Refuse {
-        inner: Drip { inner, drips: true },
+        inner: Short { inner, short: true },
         left: u32::try_from(served).ok(),
         once: false,
         kind: ErrorKind::ConnectionReset,

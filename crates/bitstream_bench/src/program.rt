@@ -9,7 +9,7 @@ use bitfields_core::{Fault, Reason, parse_layout, run};
 use std::alloc::{AllocError, Global};
 use std::io::ErrorKind;
 use std::process::Abort;
-use test_streams::{Count, Drip, Refuse};
+use test_streams::{Count, Short, Refuse};
 
 /// Which request of each stream is refused, if any: the first is 0. Each later one is served again.
 #[derive(Clone, Copy, Drop)]
@@ -76,13 +76,13 @@ fn stream<S>(inner: S, left: Option<u32>, kind: ErrorKind) -> Count<Refuse<S>> {
 }
 
 /// Runs a call over an input that gives its bytes at once, or drips.
-fn play(alloc: Global, words: &str, bytes: &[u8], drips: bool, refused: Refused) -> Ended {
+fn play(alloc: Global, words: &str, bytes: &[u8], short: bool, refused: Refused) -> Ended {
     let words = split(alloc, words);
-    let drip = Drip {
+    let short_stream = Short {
         inner: bytes,
-        drips,
+        short,
     };
-    let mut input = stream(drip, refused.input, refused.kind);
+    let mut input = stream(short_stream, refused.input, refused.kind);
     let mut output = stream(Vec::new(alloc), refused.output, refused.kind);
     let mut faults = stream(bytes_of(alloc, BEFORE), refused.faults, refused.kind);
     let status = run(alloc, &words, &mut input, &mut output, &mut faults);
@@ -118,10 +118,10 @@ fn ends(alloc: Global, ended: &Ended, status: u8, output: &[u8], fault: &str) ->
 /// if one request is refused.
 fn is_right(alloc: Global, row: &Row) -> bool {
     let at_once = play(alloc, row.0, row.1, false, NONE);
-    let dripping = play(alloc, row.0, row.1, true, NONE);
+    let short_reads = play(alloc, row.0, row.1, true, NONE);
     let (inputs, outputs, _) = at_once.requests;
     ends(alloc, &at_once, row.4, row.2, row.3)
-        & ends(alloc, &dripping, row.4, row.2, row.3)
+        & ends(alloc, &short_reads, row.4, row.2, row.3)
         & ends_at_each(alloc, row, inputs.max(outputs))
 }
 

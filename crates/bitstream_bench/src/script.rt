@@ -7,7 +7,7 @@ use bitstream_io::{
 use std::alloc::Global;
 use std::io::ErrorKind;
 use std::process::Abort;
-use test_streams::{Drip, Refuse};
+use test_streams::{Short, Refuse};
 
 /// A list of calls with a number in more bits than its type has, or fewer calls if memory is refused.
 fn calls_with_one_too_wide(alloc: Global) -> Vec<WriteCall> {
@@ -250,12 +250,12 @@ fn lists_of_reads_answer_each_call(rt: HostRuntime) {
     let bytes = [0x90, 0x90, 0x90, 0x81, 0, 0x81, 0, 0x81, 0];
     let mut reader = BitReader::<_, BE>::new(Slice::new(&bytes));
     let groups = are_answered(rt.alloc(), &mut reader, &GROUPS, &GROUPS_ANSWERS);
-    let mut reader = BitReader::<_, BE>::new(Drip {
+    let mut reader = BitReader::<_, BE>::new(Short {
         inner: D.as_slice(),
-        drips: true,
+        short: true,
     });
-    let dripped = are_answered(rt.alloc(), &mut reader, &PACKET, &PACKET_ANSWERS);
-    each_holds(&rt, &[past, groups, dripped]);
+    let short_reads = are_answered(rt.alloc(), &mut reader, &PACKET, &PACKET_ANSWERS);
+    each_holds(&rt, &[past, groups, short_reads]);
 }
 
 /// Whether the packet is answered so over a stream that refuses behind the given number of requests.

@@ -6,7 +6,7 @@ ghost use Rattle.std.specs.IoError.{error_kind};
 ghost use Rattle.std.specs.declared.io.traits.SeekFrom.TheVariants.{Current};
 ghost use Rattle.bitstream_order.specs.Fault.{read_refusal_of, refusal_of};
 ghost use Rattle.bitstream_order.specs.Refusal.{Refusal, MayRefuseRead, MayRefuseSeek, MayRefuseWrite, refused_read, refused_write};
-ghost use Rattle.bitstream_order.specs.Port.{source_state, target_state, fetched_count, port_stream, with_stream, Fetches, Sends, Seeks, Places};
+ghost use Rattle.bitstream_order.specs.Port.{source_state, target_state, fetched_count, sent_count, requests_count, port_refusals, port_stream, with_stream, Fetches, Sends, Seeks, Places};
 
 use crate::ghosts::{GhostCount, GhostRefusals};
 use crate::streams::seek::SeekSource;
@@ -85,15 +85,15 @@ impl<S> Port<S> {
     /// Returns a new port to a stream: nothing was asked of the stream yet.
     pub fn new(stream: S) -> Port<S>
         // The port holds this stream.
-        ensures stream { result.stream ≡ stream }
+        ensures stream { port_stream result ≡ stream }
         // No byte was fetched yet.
-        ensures fetched { result.fetched.count ≡ 0 }
+        ensures fetched { fetched_count result ≡ 0 }
         // No byte was sent yet.
-        ensures sent { result.sent.count ≡ 0 }
+        ensures sent { sent_count result ≡ 0 }
         // No request was made yet.
-        ensures requests { result.requests.count ≡ 0 }
+        ensures requests { requests_count result ≡ 0 }
         // No request was refused yet.
-        ensures refusals { result.refusals.list ≡ [] }
+        ensures refusals { port_refusals result ≡ [] }
     {
         Port {
             stream,
@@ -127,13 +127,13 @@ impl<S> Port<S> {
         // The stream stays as it is.
         ensures stream { port_stream self.new ≡ port_stream self.old }
         // No byte counts as fetched.
-        ensures fetched { self.new.fetched.count ≡ 0 }
+        ensures fetched { fetched_count self.new ≡ 0 }
         // No byte counts as sent.
-        ensures sent { self.new.sent.count ≡ 0 }
+        ensures sent { sent_count self.new ≡ 0 }
         // No request counts as made.
-        ensures requests { self.new.requests.count ≡ 0 }
+        ensures requests { requests_count self.new ≡ 0 }
         // No refusal is recorded any more.
-        ensures refusals { self.new.refusals.list ≡ [] }
+        ensures refusals { port_refusals self.new ≡ [] }
     {
         self.fetched = GhostCount::new();
         self.sent = GhostCount::new();

@@ -16,7 +16,7 @@ pub enum Difference {
     /// An answer, or how many bits were read, of the reader of bytes in memory.
     InMemory,
     /// An answer over a stream that gives or takes a byte a request.
-    Dripped,
+    Short,
     /// An answer, the requests or the bytes over a stream that refuses.
     Refused,
     /// The bytes, or how many were moved.
@@ -40,7 +40,7 @@ impl Difference {
             Difference::Answer => "differs in an answer",
             Difference::Sliced => "differs over a slice",
             Difference::InMemory => "differs on the reader of bytes in memory",
-            Difference::Dripped => "differs over a stream that drips",
+            Difference::Short => "differs over a stream with short reads",
             Difference::Refused => "differs over a stream that refuses",
             Difference::Bytes => "differs in its bytes",
             Difference::Place => "differs in its place",

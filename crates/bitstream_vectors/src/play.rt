@@ -14,7 +14,7 @@ use bitstream_io::{
 };
 use std::alloc::Global;
 use std::io::{ErrorKind, Read, Seek, SeekFrom};
-use test_streams::{Count, Drip, Refuse};
+use test_streams::{Count, Short, Refuse};
 
 /// A request that a stream refuses, as each later one.
 #[derive(Clone, Copy, Drop)]
@@ -37,7 +37,7 @@ pub enum Way {
     /// It does so, and is the library's own source of bytes in memory.
     Slice,
     /// It gives or takes a byte a request.
-    Dripped,
+    Short,
     /// It refuses requests from one on.
     Refused(Fault),
     /// There is none: the library's reader of bytes in memory reads them, up to the call that wants more.
@@ -91,7 +91,7 @@ impl Way {
         match self {
             Way::Plain => Difference::Answer,
             Way::Slice => Difference::Sliced,
-            Way::Dripped => Difference::Dripped,
+            Way::Short => Difference::Short,
             Way::Refused(_) => Difference::Refused,
             Way::Cut(_) => Difference::InMemory,
         }
@@ -186,15 +186,15 @@ fn make_calls<S: Stage>(
 }
 
 /// A stream that does what a way says.
-fn stream_of<S>(inner: S, way: Way) -> Count<Refuse<Drip<S>>> {
-    let drips = matches!(way, Way::Dripped);
+fn stream_of<S>(inner: S, way: Way) -> Count<Refuse<Short<S>>> {
+    let short = matches!(way, Way::Short);
     let (left, kind) = match way {
         Way::Refused(fault) => (Some(fault.served), fault.kind),
         _ => (None, ErrorKind::Other),
     };
     Count {
         inner: Refuse {
-            inner: Drip { inner, drips },
+            inner: Short { inner, short },
             left,
             once: false,
             kind,

@@ -79,7 +79,7 @@ fn play_stream(alloc: Global, row: &Row<'_>) -> Result<(), Objection> {
         }
         read_all(alloc, row)?;
     }
-    play_whole(alloc, row, Way::Dripped)?;
+    play_whole(alloc, row, Way::Short)?;
     refuse_each(alloc, row, &steps)
 }
 

@@ -3,13 +3,13 @@
 #![tactic(auto)]
 
 mod count;
-mod drip;
+mod short;
 mod endless;
 mod memory;
 mod refuse;
 
 pub use count::Count;
-pub use drip::Drip;
+pub use short::Short;
 pub use endless::Endless;
 pub use memory::RefuseMemory;
 pub use refuse::Refuse;

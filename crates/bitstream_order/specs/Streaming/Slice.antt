@@ -16,6 +16,10 @@ slice_remaining s = Some s.bytes.now
 abbrev pub slice_bytes : Slice → List ℕ
 slice_bytes s = s.all.now
 
+-- the bytes that are left
+abbrev pub slice_left : Slice → List ℕ
+slice_left s = s.bytes.now
+
 -- the place in bytes, which may lie past the end
 abbrev pub slice_place : Slice → ℕ
 slice_place s = (length s.all.now - length s.bytes.now) + s.past

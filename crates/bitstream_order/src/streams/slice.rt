@@ -40,12 +40,12 @@ pub struct Slice<'a> {
 }
 
 impl<'a> Slice<'a> {
-    ghost use Rattle.bitstream_order.specs.Streaming.Slice.{byte_meant, slice_bytes, slice_place, slice_remaining};
+    ghost use Rattle.bitstream_order.specs.Streaming.Slice.{byte_meant, slice_bytes, slice_left, slice_place, slice_remaining};
 
     /// Returns a source of these bytes, at their start.
     pub fn new(bytes: &'a [u8]) -> Slice<'a>
         // All these bytes are left.
-        ensures bytes { result.bytes.now ≡ bytes.now }
+        ensures bytes { slice_left result ≡ bytes.now }
         // They are all its bytes, from place 0 on.
         ensures all { slice_bytes result ≡ bytes.now }
         // It stands at place 0.

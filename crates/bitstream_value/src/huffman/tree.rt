@@ -87,12 +87,12 @@ impl<S: Copy + Eq, A: Allocator> HuffmanTree<S, A> {
 
 impl<S: Copy> Node<S> {
     ghost use Rattle.std.specs.Prelude.{◌≡◌};
-    ghost use Rattle.bitstream_value.specs.Nodes.{FitsShifted, shift_node as moved_node};
+    ghost use Rattle.bitstream_value.specs.Nodes.{FitsShifted, shift_node};
 
     /// Returns the node with its places moved by `by`.
-    fn shift_node(self, by: usize) -> Node<S>
+    fn moved(self, by: usize) -> Node<S>
         requires { FitsShifted by self }
-        ensures { result ≡ moved_node by self }
+        ensures { result ≡ shift_node by self }
     {
         match self {
             Node::Leaf(symbol) => Node::Leaf(symbol),

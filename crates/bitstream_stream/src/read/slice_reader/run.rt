@@ -7,7 +7,7 @@ ghost use Rattle.bitstream_stream.specs.Reading.Reads.{Reads};
 ghost use Rattle.bitstream_stream.specs.Reading.ReadTable.{unary_decoder};
 
 use super::SliceReader;
-use super::window::eight;
+use super::window::load_eight;
 use bitstream_count::error::Error;
 use bitstream_order::order::Endianness;
 
@@ -22,7 +22,7 @@ pub(super) fn run_in_window<E: Endianness>(bytes: &[u8], bit: u32, stop: bool) -
     // If `bit` and the answer make less than 64, so many bits come before the stop bit.
     ensures run { result + bit < 64 → result ≡ lead stop (rest_bits E.order bytes.now bit) }
 {
-    E::lead_behind(eight::<E>(bytes), bit, stop)
+    E::lead_behind(load_eight::<E>(bytes), bit, stop)
 }
 
 /// Returns the number of 64 bits of which none is `stop`.
@@ -42,7 +42,7 @@ fn bytes_without<E: Endianness>(bytes: &[u8], stop: bool) -> usize
 {
     let without = window_without::<E>(stop);
     let mut at = 0;
-    while bytes.len() - at >= 8 && eight::<E>(&bytes[at..]) == without {
+    while bytes.len() - at >= 8 && load_eight::<E>(&bytes[at..]) == without {
         at += 8;
     }
     at

@@ -5,7 +5,7 @@ ghost use Rattle.bitstream_stream.specs.Reading.Reads.{Reads};
 ghost use Rattle.bitstream_stream.specs.Reading.ReadTable.{unsigned_decoder, signed_decoder};
 
 use super::SliceReader;
-use super::window::{fetch, first, load};
+use super::window::{load, load_bits, load_first};
 use bitstream_count::error::Error;
 use bitstream_number::number::{Numeric, SignedInteger, UnsignedInteger};
 use bitstream_order::kernels::sign::signed_of;
@@ -103,7 +103,7 @@ impl<'a, E: Endianness> SliceReader<'a, E> {
         if bits > 56 {
             return self.read_slow(bits);
         }
-        match fetch::<E>(self.bytes, self.bit + bits, constant) {
+        match load_bits::<E>(self.bytes, self.bit + bits, constant) {
             Some(value) => {
                 let word = E::middle(value, self.bit, bits);
                 self.go_on(bits);
@@ -128,7 +128,7 @@ impl<'a, E: Endianness> SliceReader<'a, E> {
         if bytes.is_empty() {
             return Err(self.refuse());
         }
-        let bit = E::middle(first::<1, E>(bytes), self.bit, 1);
+        let bit = E::middle(load_first::<1, E>(bytes), self.bit, 1);
         self.go_on(1);
         Ok(bit)
     }

@@ -1,6 +1,6 @@
 use Rattle.std.proofs.Common.{arith}
 use Rattle.bitstream_stream.proofs.Reading.MemoryWindows.{padded_window}
-use Rattle.bitstream_stream.proofs.read.slice_reader.window.padded.Goals as goal
+use Rattle.bitstream_stream.proofs.read.slice_reader.window.load_padded.Goals as goal
 
 pub returns : goal.returns
 returns g c =

@@ -1,5 +1,5 @@
 use Rattle.bitstream_stream.proofs.Reading.MemoryWindows.{first_window}
-use Rattle.bitstream_stream.proofs.read.slice_reader.window.first.Goals as goal
+use Rattle.bitstream_stream.proofs.read.slice_reader.window.load_first.Goals as goal
 
 pub returns : goal.returns
 returns g c =

@@ -8,24 +8,24 @@ use std::io::{Read, Seek, SeekFrom, Write};
 
 /// Gives or takes one byte at each `read` or `write`, where it drips.
 #[derive(Drop)]
-pub struct Drip<S> {
+pub struct Short<S> {
     /// The stream that it stands before.
     pub inner: S,
     /// Whether it drips, and does not hand on requests as they are.
-    pub drips: bool,
+    pub short: bool,
 }
 
-impl<S: Read> Read for Drip<S> {
+impl<S: Read> Read for Short<S> {
     ghost remaining = { λ d. S.remaining d.inner };
 
     fn read(&mut self, buf: &mut [u8]) -> io::Result<usize>
         ensures bound { ReadsAtMost result buf.new }
         ensures bytes { ReadConsumes (S.remaining self.old.inner) (S.remaining self.new.inner)
             result buf.new }
-        ensures one { self.old.drips ≡ true → IfOk result (λ n. n ≤ 1) }
-        ensures same { self.new.drips ≡ self.old.drips }
+        ensures one { self.old.short ≡ true → IfOk result (λ n. n ≤ 1) }
+        ensures same { self.new.short ≡ self.old.short }
     {
-        if self.drips && !buf.is_empty() {
+        if self.short && !buf.is_empty() {
             self.inner.read(&mut buf[..1])
         } else {
             self.inner.read(buf)
@@ -33,17 +33,17 @@ impl<S: Read> Read for Drip<S> {
     }
 }
 
-impl<S: Write> Write for Drip<S> {
+impl<S: Write> Write for Short<S> {
     ghost contents = { λ d. S.contents d.inner };
 
     fn write(&mut self, buf: &[u8]) -> io::Result<usize>
         ensures bound { WritesAtMost result buf.now }
         ensures bytes { WriteAppends (S.contents self.old.inner) (S.contents self.new.inner)
             result buf.now }
-        ensures one { self.old.drips ≡ true → IfOk result (λ n. n ≤ 1) }
-        ensures same { self.new.drips ≡ self.old.drips }
+        ensures one { self.old.short ≡ true → IfOk result (λ n. n ≤ 1) }
+        ensures same { self.new.short ≡ self.old.short }
     {
-        if self.drips && !buf.is_empty() {
+        if self.short && !buf.is_empty() {
             self.inner.write(&buf[..1])
         } else {
             self.inner.write(buf)
@@ -55,7 +55,7 @@ impl<S: Write> Write for Drip<S> {
     }
 }
 
-impl<S: Seek> Seek for Drip<S> {
+impl<S: Seek> Seek for Short<S> {
     ghost stream_position = { λ d. S.stream_position d.inner };
 
     ghost stream_bytes = { λ d. S.stream_bytes d.inner };

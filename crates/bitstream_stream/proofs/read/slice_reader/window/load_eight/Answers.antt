@@ -1,6 +1,6 @@
 use Rattle.std.proofs.Common.{take, [], sym, append-nil, ◌∙◌}
 use Rattle.bitstream_stream.proofs.Reading.MemoryWindows.{prefix_window}
-use Rattle.bitstream_stream.proofs.read.slice_reader.window.eight.Goals as goal
+use Rattle.bitstream_stream.proofs.read.slice_reader.window.load_eight.Goals as goal
 
 pub returns : goal.returns
 returns g c =
