@@ -34,7 +34,7 @@ abbrev pub positive : Result ℕ Reason → Result ℤ Reason
 positive (Ok n) = Ok (pos n)
 positive (Err why) = Err why
 
--- the negative of a number that a text spells behind its sign, which 0 has not
+-- the negative of a number that a text spells after its sign; 0 has none
 abbrev pub negative : Result ℕ Reason → Result ℤ Reason
 negative (Ok zero) = Err ValueMisspelt
 negative (Ok (suc n)) = Ok (negsuc n)

@@ -48,7 +48,7 @@ exact_read o field = field_read o field
 abbrev pub with_alignment : List Field → List Field
 with_alignment fields = fields ++ Align ∷ []
 
--- a fault of the last alignment, which stands behind n fields, names no field
+-- a fault of the last alignment, which follows n fields, names no field
 abbrev pub without_field : ℕ → Fault → Fault
 without_field n f = if f.field == n + 1 then fault 0 f.reason else f
 
@@ -57,8 +57,8 @@ abbrev pub without_last_field : ℕ → Unpacked → Unpacked
 without_last_field n (Unpacks vs at) = Unpacks vs at
 without_last_field n (Stops f) = Stops (without_field n f)
 
--- what bits say for packed fields and a last alignment: the values and the place behind the alignment, or the first
--- fault
+-- the result of bits for packed fields and a last alignment: the values and the place after the alignment, or
+-- the first fault
 abbrev pub unpack_aligned : Order → List Field → List Bool → Unpacked
 unpack_aligned o fields bits = without_last_field (length fields) (says_by exact_read o 1 (with_alignment fields) 0 bits)
 
@@ -74,7 +74,7 @@ abbrev pub unnamed_result : ℕ → Result (List FieldValue) Fault → Result (L
 unnamed_result n (Ok vs) = Ok vs
 unnamed_result n (Err f) = Err (without_field n f)
 
--- the read calls of packed fields and of a last alignment, and the values that they answer
+-- the read calls of packed fields and of a last alignment, and the values that they return
 pub record ReadsPacked {R : Type 0} (K : BitSource R) (fields : List Field) (old : R)
     (result : Result (List FieldValue) Fault) (new : R) : Type 0 where
   pub answer : Result (List FieldValue) Fault
@@ -111,7 +111,7 @@ abbrev pub Ends : {R : Type 0} → InputStream R → R → Result (Unit {0}) Fau
 Ends I old (Ok done) new = I.refuses old 1 UnexpectedEof new
 Ends I old (Err f) new = IsNoEnd I old f new
 
--- the input ended behind the packed bytes: it refused one byte more as its end
+-- the input ended after the packed bytes: it refused one byte more as its end
 pub record ReadToLast {R : Type 0} (I : InputStream R) (o : Order) (fields : List Field) (input : R) (vs : List FieldValue) (input_after : R) : Type 0 where
   pub behind : R
   pub reads : ReadPacked o fields (I.remaining input) vs (I.remaining behind)
@@ -126,9 +126,10 @@ pub record RepackedBytes {R W : Type 0} (I : InputStream R) (O : OutputStream W)
   pub packs : PackedBytes o fields vs (O.contents output) (O.contents output_after)
   pub same : All HasOneWord fields → bits o packs.bytes ≡ bits o read.reads.gone
 
--- Why an input was not repacked. Its bits have a fault, or it refused a request, or memory was refused, at a field; or
--- its padding behind the last field is not zero. Or it has a byte more, or refused the request for that byte, but not
--- as its end. The output is as it was then. Else all of it was read, and the output refused a request.
+-- The reasons that an input was not repacked. Its bits have a fault, or it refused a request, or memory was
+-- refused, at a field; or its padding after the last field is not zero. Or it has a byte more, or refused the
+-- request for that byte, but not as its end. The output is unchanged then. Else all of it was read, and the
+-- output refused a request.
 pub data RepackingFault {R W : Type 0} (I : InputStream R) (O : OutputStream W) (o : Order) (fields : List Field)
     (input : R) (output : W) (f : Fault) (input_after : R) (output_after : W) : Type 0 where
   stopped_input : PackedFault (MayRefuseRead I) o fields (I.remaining input) f (I.remaining input_after)

@@ -78,7 +78,7 @@ abbrev pub value_list : Option FieldValue → List FieldValue
 value_list None = []
 value_list (Some v) = v ∷ []
 
--- the value of field number k in front of the others, or its fault
+-- the value of field number k before the others, or its fault
 abbrev pub value_and : ℕ → Result (Option FieldValue) Reason → Result (List FieldValue) Fault
     → Result (List FieldValue) Fault
 value_and k (Err why) others = Err (fault k why)
@@ -103,17 +103,17 @@ FitsKind kind vs = ⊥
 abbrev pub FitsField : Field → List FieldValue → Type 0
 FitsField field vs = FitsKind (value_kind field) vs
 
--- the unsigned number that stands first, else 0
+-- the unsigned number that comes first, else 0
 abbrev pub first_unsigned : List FieldValue → ℕ
 first_unsigned (Value.Unsigned v ∷ vs) = v
 first_unsigned vs = 0
 
--- the signed number that stands first, else 0
+-- the signed number that comes first, else 0
 abbrev pub first_signed : List FieldValue → ℤ
 first_signed (Value.Signed x ∷ vs) = x
 first_signed vs = pos 0
 
--- the bytes that stand first, else none
+-- the bytes that come first, else none
 abbrev pub first_bytes : List FieldValue → List ℕ
 first_bytes (Value.Bytes bytes ∷ vs) = bytes
 first_bytes vs = []

@@ -31,7 +31,7 @@ pub enum Field {
     Align,
 }
 
-/// How many bits each group of a number of variable width has.
+/// The number of bits of each group of a number of variable width.
 #[derive(Clone, Copy, Drop)]
 pub enum GroupSize {
     /// 4 bits.

@@ -64,8 +64,8 @@ pub fn pack_values<E: Endianness, W: Target>(
 ///
 /// # Errors
 ///
-/// The error of the first call that answers one. No call is made after it. A sink without a limit
-/// answers none, unless its stream refuses or it has failed.
+/// The error of the first call that returns one. No call is made after it. A sink without a limit
+/// returns none, unless its stream refuses or it has failed.
 pub fn pack_to<W: BitWrite>(
     layout: &Layout,
     values: &[FieldValue],
@@ -86,7 +86,7 @@ pub fn pack_to<W: BitWrite>(
 ///
 /// # Errors
 ///
-/// The error of the first call that answers one. No call is made after it.
+/// The error of the first call that returns one. No call is made after it.
 pub fn append_fields<W: BitWrite>(
     fields: &[Field],
     values: &[FieldValue],

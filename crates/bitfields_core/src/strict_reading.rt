@@ -20,8 +20,8 @@ use std::alloc::Global;
 ///
 /// # Errors
 ///
-/// As [`unpack_from`](crate::unpacking::unpack_from) has them, and `PaddingNotZero` at the first
-/// field `pN` or `a` whose bits are not all 0. Of the last alignment the fault names no field.
+/// The errors of [`unpack_from`](crate::unpacking::unpack_from), and `PaddingNotZero` at the first
+/// field `pN` or `a` whose bits are not all 0. For the last alignment the fault names no field.
 pub fn read_packed_from<R: BitRead>(
     alloc: Global,
     fields: &[Field],

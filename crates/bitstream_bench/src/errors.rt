@@ -7,7 +7,7 @@ use std::io;
 use std::io::ErrorKind;
 use std::process::Abort;
 
-/// Errors, their texts, and the kinds of the `io::Error`s that stand for them.
+/// Errors, their texts, and the kinds of the `io::Error`s to which they convert.
 const ROWS: [(Error, &str, ErrorKind); 15] = [
     (
         Error::ReadBits,
@@ -74,7 +74,7 @@ const ROWS: [(Error, &str, ErrorKind); 15] = [
     (Error::Failed, "failed before", ErrorKind::Other),
 ];
 
-/// Whether an error has this text, and this kind, also as an `io::Error`.
+/// Returns true if an error has this text, and this kind, also as an `io::Error`.
 fn says(alloc: Global, error: Error, text: &str, kind: ErrorKind) -> bool {
     let own = error.kind() == kind;
     let said = matches!(format!(in alloc; "{error}"), Ok(said) if said.as_str() == text);

@@ -1,6 +1,6 @@
-//! Worked rows of calls of the program: what stands on the input, and what becomes of it.
+//! Test vectors of calls of the program: the input, and the results.
 
-/// A call, what stands on its input, what it must write, the field and reason of its fault (none:
+/// A call, its input, the output that it must write, the field and reason of its fault (none:
 /// empty), and its status.
 #[derive(Drop)]
 pub(crate) struct Row(
@@ -519,7 +519,7 @@ pub(crate) const REPACKINGS: [Row; 34] = [
     Row("repack be u4", &[0x1f], b"", "0: padding not zero", 4),
     Row("repack le u4,a", &[0xf1], b"", "2: padding not zero", 4),
     Row("repack le u4", &[0x0f], &[0x0f], "", 0),
-    // A padding that is not zero comes before the byte left over, and behind bits that ended.
+    // A padding that is not zero comes before the byte left over, and after bits that ended.
     Row("repack be u7", &[0x01, 0x00], b"", "0: padding not zero", 4),
     Row("repack be p9", &[0x80], b"", "1: bits ended", 4),
     Row("repack be p130,u6", &[0x00; 17], &[0x00; 17], "", 0),

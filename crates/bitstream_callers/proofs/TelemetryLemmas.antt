@@ -75,7 +75,7 @@ pub counted_error : {S : Type 0} (K : Sink S) (most : ℕ) → K.limit ≡ Some 
 counted_error K most is never es s x t start sound few h =
     let all = few (K.len s) in
     let room : IsRoomy K (K.len s + length (write_sequence es (K.len s))) = λ m le past.
-        let over : most < m = subst (λ l. IsPastLimit l m) is past in absurd (omega (arith, le, over, all, start)) in
+    let over : most < m = subst (λ l. IsPastLimit l m) is past in absurd (omega (arith, le, over, all, start)) in
     ap (sequence_length es) (sym start) ∙ elim (error_within K es s x t sound room h) [
       | inl own ↦ own
       | inr fault ↦ absurd (never fault.0 fault.1)

@@ -9,7 +9,7 @@ use Rattle.bitstream_callers.specs.declared.reading.ReadingError.TheVariants.{Re
 abbrev pub becomes_reader : Error → ReadingError → Type 0
 becomes_reader error own = own ≡ Reader error
 
--- the value, in as many bits as the context says
+-- the value, in the number of bits that the context says
 abbrev pub value_reads : Order → ℕ → Decoder (Result Reading ReadingError)
 value_reads o bits = do
   value ← unsigned_decoder o 32 bits

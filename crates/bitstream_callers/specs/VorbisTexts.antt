@@ -1,4 +1,4 @@
--- What a Vorbis comment says, as the bytes of its texts.
+-- The contents of a Vorbis comment, as the bytes of its texts.
 use Rattle.std.specs.Prelude.{ℕ, List}
 
 -- the text that names the program that wrote the file, and the texts that say something of it

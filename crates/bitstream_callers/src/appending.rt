@@ -1,4 +1,4 @@
-//! A header that is written behind what a sink holds, and how long it is.
+//! A header that is appended to a sink, and its length.
 ghost use Rattle.std.specs.Prelude.{◌≡◌, ◌⊎◌, ◌+◌, ◌%◌, Ok, Err, IfErr, IfOk};
 ghost use Rattle.bitstream_io.specs.Callers.{WritesAll};
 ghost use Rattle.bitstream_callers.specs.BlockHeader.{block_header_writes};
@@ -11,13 +11,13 @@ use bitstream_io::{BitWrite, BitWriteExt, Error, ToBitStream};
 ///
 /// # Errors
 ///
-/// `Checked` for a field that does not fit its bits. Nothing is written then. Else those of the sink.
-/// The fields before the one that is refused stay written.
+/// `Checked` for a field that does not fit its bits. Nothing is written then. Else the errors of
+/// the sink: the fields before the refused one stay written.
 pub fn append<W: BitWrite>(writer: &mut W, header: &BlockHeader) -> Result<u32, Error>
     // If it succeeds, just the header's words were written.
     ensures writes { IfOk result (λ bits. WritesAll W.sink
         (block_header_writes W.sink.order header.now) writer.old (Ok tt) writer.new) }
-    // At the end of a byte, the answer is how many bits they are.
+    // At the end of a byte, the result is the number of bytes written.
     ensures counts { W.sink.len writer.old % 8 ≡ 0
         → IfOk result (λ bits. W.sink.len writer.new ≡ W.sink.len writer.old + bits) }
     // After an error the sink is as it was, or a write of the header had this error.

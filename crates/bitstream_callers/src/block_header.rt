@@ -33,6 +33,9 @@ pub struct BlockHeader {
 }
 
 impl BlockHeader {
+    /// The number of bits before each line of the description.
+    pub const PLACES: [u64; 3] = [0, 1, 8];
+
     /// Reads the fields in order.
     ///
     /// # Errors

@@ -53,6 +53,9 @@ impl From<Error> for FlacStartError {
 }
 
 impl FlacStart {
+    /// The number of bits before each line of the description.
+    pub const PLACES: [u64; 2] = [0, 32];
+
     /// Reads the fields in order.
     ///
     /// # Errors

@@ -35,6 +35,9 @@ pub struct Header {
 }
 
 impl Header {
+    /// The number of bits before each line of the description.
+    pub const PLACES: [u64; 4] = [0, 3, 4, 8];
+
     /// Reads the fields in order.
     ///
     /// # Errors

@@ -4,14 +4,14 @@ ghost use Rattle.bitstream_callers.specs.PacketHeader.{becomes_stream, packet_re
 
 use bitstream_io::{ByteRead, ByteWrite, Error, FromByteStream, ToByteStream};
 
-/// What stands before a packet's bytes, behind a byte that states version 1.
+/// The header before a packet's bytes, after a byte that states version 1.
 #[derive(Clone, Copy, Debug, PartialEq)]
 pub struct PacketHeader {
     /// The bytes that follow.
     pub length: u16,
 }
 
-/// Why a header is not read.
+/// The reasons that a header is not read.
 #[derive(Debug, Drop)]
 pub enum PacketError {
     /// An error of the reader.

@@ -31,7 +31,7 @@ impl FromBitStream for OperatingPoint {
     }
 }
 
-/// What a video says of itself before its frames.
+/// The parameters of a video, which come before its frames.
 #[derive(Drop)]
 pub struct ParameterSet {
     /// The profile, below 8.

@@ -62,6 +62,9 @@ impl From<Error> for PrimaryHeaderError {
 }
 
 impl PrimaryHeader {
+    /// The number of bits before each line of the description.
+    pub const PLACES: [u64; 7] = [0, 3, 4, 5, 16, 18, 32];
+
     /// Reads the fields in order.
     ///
     /// # Errors

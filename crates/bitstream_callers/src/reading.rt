@@ -7,14 +7,14 @@ use bitstream_io::{
     ToBitStreamUsing, ToBitStreamWith,
 };
 
-/// What a sensor measured. A bit stands before the value, and tells that there is one.
+/// The measurement of a sensor. A bit before the value is 1 if there is a value.
 #[derive(Clone, Copy, Debug, PartialEq)]
 pub struct Reading {
     /// The value.
     pub value: u32,
 }
 
-/// Why a reading is not read.
+/// The reasons that a reading is not read.
 #[derive(Debug, Drop)]
 pub enum ReadingError {
     /// An error of the reader.

@@ -114,6 +114,9 @@ fn write_csrc<W: BitWrite>(writer: &mut W, items: &[u32]) -> Result<(), Error>
 }
 
 impl RtpHeader {
+    /// The number of bits before each line of the description.
+    pub const PLACES: [u64; 10] = [0, 2, 3, 4, 8, 9, 16, 32, 64, 96];
+
     /// Reads the fields in order.
     ///
     /// # Errors

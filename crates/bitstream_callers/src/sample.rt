@@ -37,6 +37,9 @@ pub struct Sample {
 }
 
 impl Sample {
+    /// The number of bits before each line of the description.
+    pub const PLACES: [u64; 4] = [0, 20, 21, 30];
+
     /// Reads the fields in order.
     ///
     /// # Errors

@@ -9,7 +9,7 @@ use bitstream_io::{ByteRead, ByteReadExt, Error, FromByteStreamUsing, LE};
 use std::alloc::{AllocFailed, Global};
 use std::marker::Model;
 
-/// Why a comment is not read.
+/// The reasons that a comment is not read.
 #[derive(Debug, Drop)]
 pub enum CommentError {
     /// An error of the reader; `OutOfMemory` also if memory for the list of texts is refused.
@@ -34,7 +34,7 @@ impl<T: Drop> From<AllocFailed<T>> for CommentError {
     }
 }
 
-/// A text, behind its length in four bytes.
+/// A text, after its length in four bytes.
 #[derive(Drop)]
 pub struct Text {
     /// The text.
@@ -71,12 +71,12 @@ impl FromByteStreamUsing for Text {
     }
 }
 
-/// What is said of a file.
+/// The comment of a file.
 #[derive(Drop)]
 pub struct VorbisComment {
     /// The program that wrote the file.
     pub vendor: Text,
-    /// What is said, each as a name, `=` and a text.
+    /// The entries, each as a name, `=` and a text.
     pub comments: Vec<Text>,
 }
 
@@ -113,9 +113,9 @@ impl FromByteStreamUsing for VorbisComment {
     }
 }
 
-/// A comment whose texts are UTF-8 and whose lengths fit their four bytes is read back from the bytes
-/// that the format has for it. The read takes them, and no more.
-pub fn comments_go_back()
+/// A comment whose texts are UTF-8 and whose lengths fit their four bytes is read back from the
+/// bytes that the format has for it. The read takes only these bytes.
+pub fn comments_round_trip()
     ensures { (comment : Comment) (more : List ℕ) → IsComment comment
         → comment_reads.reads (comment_bytes comment ++ more)
         ≡ Done (length (comment_bytes comment)) (Ok (Ok comment)) }

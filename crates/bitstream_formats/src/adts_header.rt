@@ -79,6 +79,9 @@ impl From<Error> for AdtsHeaderError {
 }
 
 impl AdtsHeader {
+    /// The number of bits before each line of the description.
+    pub const PLACES: [u64; 15] = [0, 12, 13, 15, 16, 18, 22, 23, 26, 27, 28, 29, 30, 43, 54];
+
     /// Reads the fields in order.
     ///
     /// # Errors

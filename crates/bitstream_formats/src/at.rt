@@ -5,6 +5,6 @@
 pub struct At<E> {
     /// The place of the reader, in bits.
     pub bit: u64,
-    /// What is wrong.
+    /// The error.
     pub error: E,
 }

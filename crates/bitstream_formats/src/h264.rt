@@ -74,7 +74,7 @@ impl From<Error> for H264Error {
     }
 }
 
-/// What a unit is.
+/// The kind of a unit.
 #[derive(Clone, Copy, Debug, PartialEq, Eq)]
 pub enum Unit {
     /// A sequence parameter set.
@@ -96,7 +96,8 @@ pub enum Unit {
 ///
 /// # Errors
 ///
-/// Those of [`H264Error`]: `sets` are unchanged, and the elements that were read before are appended.
+/// The errors of [`H264Error`]: `sets` are unchanged, and the elements that were read before are
+/// appended.
 pub fn read_unit(
     alloc: Global,
     sets: &mut ParameterSets,

@@ -1,14 +1,14 @@
 //! Formats of audio, video, transport and compression, read over `bitstream_io`: from bytes in memory, and
 //! by `deflate` from any reader.
 //!
-//! What is wrong with some bytes is an error of the format's own, with the bit at which the reader
-//! stood ([`at::At`]). Nothing is asked of the bytes, and a length or a count that they say takes no
-//! memory which they do not fill.
+//! An error in some bytes is an error of the format's own, with the bit at which the reader was
+//! ([`at::At`]). There is no condition on the bytes, and a length or a count in them takes no
+//! memory that they do not fill.
 //!
 //! [`flac`] and [`deflate`] decode. The others read headers, element by element ([`element::Element`]).
 //!
 //! - [`adts`]: ADTS, the frames of AAC in a stream
-//! - [`adts_header`]: the header of such a frame, printed by `./format`
+//! - [`adts_header`]: the header of an ADTS frame, printed by `./format`
 //! - [`at`]: where an error was found
 //! - [`av1`]: AV1: the headers of OBUs, and sequence headers
 //! - [`deflate`]: DEFLATE, and the files of gzip

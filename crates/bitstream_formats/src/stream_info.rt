@@ -58,6 +58,9 @@ pub struct StreamInfo {
 }
 
 impl StreamInfo {
+    /// The number of bits before each line of the description.
+    pub const PLACES: [u64; 9] = [0, 16, 32, 56, 80, 100, 103, 108, 144];
+
     /// Reads the fields in order.
     ///
     /// # Errors

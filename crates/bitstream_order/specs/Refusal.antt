@@ -6,8 +6,8 @@ use Rattle.std.specs.declared.io.traits.SeekFrom.{SeekFrom}
 use Rattle.bitstream_order.specs.Reference.{Reference, capacity_of}
 use Rattle.bitstream_order.specs.Streams.{InputStream, OutputStream}
 
--- A refused request: its kind, the number of bytes asked for, and what the stream told: how many bytes it can hold, and
--- its bytes before the request and after it (those left to read, or those that it holds).
+-- A refused request: its kind, the number of bytes asked for, and what is known of the stream: its capacity,
+-- and its bytes before the request and after it (the bytes left to read, or the bytes that it holds).
 pub record Refusal : Type 0 where
   pub kind : ErrorKind
   pub wanted : ℕ
@@ -48,7 +48,7 @@ pub record LacksRoom (refusal : Refusal) : Type 0 where
   pub room : refusal.capacity ≡ Some most
   pub few : most < length held + refusal.wanted
 
--- a refusal that a stream may make, by what it tells of its bytes and says of its requests
+-- a refusal that a stream may make, from what is known of its bytes and of its requests
 pub record MayRefuse {S : Type 0} (known : S → Option (List ℕ)) (references : S → List Reference)
     (refuses : S → ℕ → ErrorKind → S → Type 0) (refusal : Refusal) : Type 0 where
   pub old : S

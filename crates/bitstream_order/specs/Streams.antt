@@ -1,11 +1,11 @@
--- What streams tell of themselves and of their requests.
+-- The properties of streams and of their requests.
 use Rattle.std.specs.Prelude.{ℕ, List, Option}
 use Rattle.std.specs.declared.io.ErrorKind.{ErrorKind}
 use Rattle.bitstream_order.specs.Reference.{Reference}
 
--- what a source tells
+-- the properties of a source
 pub record InputStream (R : Type 0) : Type 1 where
-  -- the bytes left, if it tells them
+  -- the bytes left, if they are known
   pub remaining : R → Option (List ℕ)
   -- the references through which it is reached
   pub references : R → List Reference
@@ -14,9 +14,9 @@ pub record InputStream (R : Type 0) : Type 1 where
   -- what a request that took a number of bytes did besides
   pub takes : R → ℕ → R → Type 0
 
--- what a target tells
+-- the properties of a target
 pub record OutputStream (W : Type 0) : Type 1 where
-  -- the bytes that it holds, if it tells them
+  -- the bytes that it holds, if they are known
   pub contents : W → Option (List ℕ)
   -- the references through which it is reached
   pub references : W → List Reference

@@ -1,4 +1,5 @@
-//! What only contracts see: a count, the refusals of a stream, and bytes as they were. They take no memory.
+//! Values that only contracts see: a count, the refusals of a stream, and bytes as they were. They
+//! take no memory.
 ghost use Rattle.std.specs.Prelude.{◌≡◌, ℕ, ◌+◌, ◌*◌, List, [], ◌∷◌};
 ghost use Rattle.std.specs.Borrow.{ftrue};
 ghost use Rattle.bitstream_order.specs.Refusal.{Refusal};

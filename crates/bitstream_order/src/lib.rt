@@ -1,5 +1,5 @@
-//! Orders of bits, streams with counts of their requests, and the kernels that move words. What callers
-//! need of it stands in `bitstream_io`.
+//! Orders of bits, streams with counts of their requests, and the kernels that move words. Callers
+//! find what they need in `bitstream_io`.
 //!
 //! - [`ghosts`]: what only contracts see: a count, and the refusals of a stream
 //! - [`kernels`]: what moves words: gathers them from a stream, sends, shifts, counts and copies them

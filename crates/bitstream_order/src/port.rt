@@ -106,7 +106,7 @@ impl<S> Port<S> {
 
     /// Lends the stream. What is done to it then is not counted.
     pub fn lend(&mut self) -> &mut S
-        // What is lent is the port's stream.
+        // The port's stream is lent.
         ensures value { result.now ≡ port_stream self.old }
         // When the borrow ends, only the stream may have changed: it is as it was left.
         ensures* writes_back { sem 𝓛
@@ -174,15 +174,20 @@ impl<S: Source> Port<S> {
         self.fetch_prefix(buf, count, true)
     }
 
-    /// Fills the first `count` bytes of the buffer, which has as many or more, by one request, for these
-    /// bytes alone. What stands behind them in the buffer is then not told. `constant` tells whether
-    /// `count` is known as the program is compiled, and changes only how the bytes are copied.
+    /// Fills the first `count` bytes of the buffer, which has at least `count`, by one request for
+    /// these bytes alone. The contents of the buffer after them are then unspecified. `constant` is
+    /// true if `count` is known at compile time, and changes only how the bytes are copied.
     ///
     /// # Errors
     ///
     /// As [`fetch`](Port::fetch).
     #[inline(always)]
-    pub fn fetch_prefix(&mut self, buf: &mut [u8], count: usize, constant: bool) -> Result<(), Error>
+    pub fn fetch_prefix(
+        &mut self,
+        buf: &mut [u8],
+        count: usize,
+        constant: bool,
+    ) -> Result<(), Error>
         requires { count ≤ length buf.old }
         // The buffer's front gets the next `count` bytes by one request, or it is refused.
         ensures fetches { Fetches (MayRefuseRead S.stream)
@@ -250,7 +255,7 @@ impl<S: Target> Port<S> {
         // One request is made, and no byte is sent, whether it is refused or not.
         ensures sends { Sends (MayRefuseWrite S.stream) (target_state S.stream self.old) [] result
             (target_state S.stream self.new) }
-        // The stream holds the same bytes as before, if it tells them.
+        // The stream holds the same bytes as before, if they are known.
         ensures bytes { Keeps (S.stream.contents (port_stream self.old))
             (S.stream.contents (port_stream self.new)) }
         // If it succeeds, the stream did what it says that a flush does.
@@ -282,11 +287,11 @@ impl<S: SeekSource> Port<S> {
         // One request is made. Fetched bytes are counted anew, or stay counted if it is refused.
         ensures seeks { Seeks (MayRefuseSeek S.stream S.refuses_seek to)
             (source_state S.stream self.old) result (source_state S.stream self.new) }
-        // If the stream tells its position, that becomes the answer, or stays if the seek is
-        // refused. If it tells its bytes too, the answer is the place meant.
+        // If the stream's position is known, it becomes the result, or stays if the seek is
+        // refused. If its bytes are known too, the result is the place meant.
         ensures moves { SeekMoves (S.position (port_stream self.old))
             (S.position (port_stream self.new)) (S.bytes (port_stream self.old)) to result }
-        // All bytes of the stream stay the same, if it tells them.
+        // All bytes of the stream stay the same, if they are known.
         ensures bytes { Keeps (S.bytes (port_stream self.old)) (S.bytes (port_stream self.new)) }
     {
         let before = Snapshot::of(&self.stream);
@@ -315,12 +320,12 @@ impl<S: SeekSource> Port<S> {
         // One request is made, and no byte is fetched or sent, whether it is refused or not.
         ensures places { Places (MayRefuseSeek S.stream S.refuses_seek (Current (pos 0)))
             (source_state S.stream self.old) result (source_state S.stream self.new) }
-        // A position that the stream tells stays the same.
+        // A known position of the stream stays the same.
         ensures stays { StaysAt (S.position (port_stream self.old)) (S.position (port_stream self.new)) }
-        // If it succeeds, the answer is the position that the stream tells, if it tells one.
+        // If it succeeds, the result is the position of the stream, if it is known.
         ensures answer { OnOk result (IfSome (S.position (port_stream self.old))
             (λ position. result ≡ Ok position)) }
-        // All bytes of the stream stay the same, if it tells them.
+        // All bytes of the stream stay the same, if they are known.
         ensures bytes { Keeps (S.bytes (port_stream self.old)) (S.bytes (port_stream self.new)) }
     {
         let before = Snapshot::of(&self.stream);

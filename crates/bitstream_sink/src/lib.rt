@@ -1,5 +1,5 @@
 //! Sinks of bits over no stream: they take each write call as a writer does, and count the bits or
-//! record them. What callers need of it stands in `bitstream_io`.
+//! record them. Callers find what they need in `bitstream_io`.
 //!
 //! - [`bit_counter`]: a counter of written bits
 //! - [`counter`]: the types of numbers that count bits

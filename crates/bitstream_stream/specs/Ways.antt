@@ -105,8 +105,8 @@ abbrev pub EndsUnaligned : {W E A : Type 0} → Sink (BitWriter W E) → BitWrit
     → Type 0
 EndsUnaligned K old result new = Writes {T = Unit {0}} K align old (result_map (λ _. tt) result) new
 
--- What a flush does. The writer had failed; or the stream passed on what it buffers itself, and all else is as
--- it was; or the stream refused that, as it may refuse, and the writer has failed with an empty queue.
+-- A flush. The writer had failed; or the stream passed on its buffered bytes, and all else is as it was; or the
+-- stream refused the request, as it may, and the writer has failed with an empty queue.
 pub data Flushes (may : Refusal → Type 0) (old : WriterState) (result : Result (Unit {0}) Error) (new : WriterState) :
     Type 0 where
   had_failed : old.failed ≡ true → result ≡ Err Failed → new ≡ old → Flushes may old result new

@@ -1,5 +1,5 @@
--- Values of `NonZero` types, and the numbers that stand for them.
--- A value carries a proof that it is not 0: so lemmas are imported.
+-- Values of `NonZero` types, and the numbers that represent them. A value carries a proof that it is not 0: so
+-- lemmas are imported.
 use Rattle.std.specs.Coded.{le_prop}
 use Rattle.std.specs.Prelude.{◌≡◌, ℕ, zero, suc, ◌-◌, ◌^◌, ◌<◌, nat_lt, if◌then◌else◌, Option, Some, None, Err}
 use Rattle.std.proofs.Common.{ap, subst}
@@ -14,7 +14,7 @@ unfoldable pub non_zero_decoder : {A : Type 0} → (ℕ → A) → Order → ℕ
 non_zero_decoder after o size n =
     if nat_lt n size then and_then (unsigned_decoder o size n) (λ v. pure (after v)) else fail NonZeroWidth
 
--- the word of a `NonZero` v: that of v - 1
+-- the word of a `NonZero` v: the word of v - 1
 unfoldable pub non_zero : Order → ℕ → ℕ → ℕ → Encoder
 non_zero o size n v = if nat_lt n size then unsigned o size n (v - 1) else λ _. Err NonZeroWidth
 

@@ -1,4 +1,4 @@
--- How calls are packed into a buffer.
+-- Calls that are packed into a buffer.
 use Rattle.std.specs.Prelude.{◌≡◌, ℕ, ◌*◌, ◌<◌, ◌≤◌, List, [], ◌∷◌, ◌++◌, length, None, Result, Ok, Err, IfOk, IsOk, ⊤}
 use Rattle.std.specs.Borrow.{GName}
 use Rattle.std.specs.declared.io.ErrorKind.TheVariants.{WriteZero}

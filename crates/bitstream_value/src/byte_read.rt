@@ -15,7 +15,7 @@ pub trait ByteReadExt: ByteRead {
         ensures reads { ByteOwnReads F.grows Self.source F.becomes (F.reads Self.source.order)
             self.old result self.new };
 
-    /// Reads a value of such a type, with a context that is lent.
+    /// Reads a value that needs a borrowed context.
     ///
     /// # Errors
     ///
@@ -24,7 +24,7 @@ pub trait ByteReadExt: ByteRead {
         ensures reads { ByteOwnReads F.grows Self.source F.becomes
             (F.reads Self.source.order context.now) self.old result self.new };
 
-    /// Reads a value of such a type, with a context that is used up.
+    /// Reads a value that needs a context by value.
     ///
     /// # Errors
     ///

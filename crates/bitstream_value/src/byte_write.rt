@@ -15,7 +15,7 @@ pub trait ByteWriteExt: ByteWrite {
         ensures writes { ByteWritesOwn Self.sink T.becomes (T.writes Self.sink.order value.now)
             (T.answers value.now) self.old result self.new };
 
-    /// Writes a value of such a type, with a context that is lent.
+    /// Writes a value that needs a borrowed context.
     ///
     /// # Errors
     ///
@@ -29,7 +29,7 @@ pub trait ByteWriteExt: ByteWrite {
             (T.writes Self.sink.order value.now context.now) (T.answers value.now context.now)
             self.old result self.new };
 
-    /// Writes a value of such a type, with a context that is used up.
+    /// Writes a value that needs a context by value.
     ///
     /// # Errors
     ///

@@ -7,7 +7,7 @@ use bitstream_io::write::Counter;
 use bitstream_io::{BE, BitCounter, Endianness, LE};
 use std::alloc::Global;
 
-/// Makes calls on a new counter of a type and an order, which then holds the given number of bits.
+/// Makes calls on a new counter of a type and an order, which then holds `bits` bits.
 fn count_in<N: Counter + Drop, E: Endianness>(
     alloc: Global,
     calls: &[Call<'_>],

@@ -1,11 +1,12 @@
-//! Plays rows: lists of calls with their answers and bytes, from several files.
+//! Plays rows: lists of calls with their results and bytes, from several files.
 //!
-//! Each file says in its head what its rows and columns mean, and where the answers come from. Each row
-//! is played over a slice or a vector, over a stream that gives or takes a byte a request, and over
-//! streams that refuse from each of its requests on. Reads of bits that go to no place behind the end are
-//! played on a `SliceReader` too: over all bytes, and if they go to no place, over those cut off at each
-//! length. What is written is written to a counter and to a recorder too. Buffers of each length are written
-//! and read at each place in a byte, and so are words, runs and parts of bytes in memory read.
+//! Each file says in its head what its rows and columns mean, and where the results come from. Each
+//! row is played over a slice or a vector, over a stream with short reads and writes of one byte,
+//! and over streams that refuse from each of its requests on. Reads of bits that go to no place
+//! after the end are played on a `SliceReader` too: over all bytes, and if they go to no place,
+//! over the bytes cut off at each length. Writes go to a counter and to a recorder too. Buffers of
+//! each length are written and read at each place in a byte. Words, runs and parts of bytes in
+//! memory are read at each place, too.
 //!
 //! The program fails if a row or a buffer differs, or if a row has a form, a width or a constant that the
 //! player does not know.
@@ -85,7 +86,7 @@ const FILES: [&str; 13] = [
     "r15_redundant.tsv",
 ];
 
-/// Plays a row. Prints one that differs, and tells whether it does.
+/// Plays a row. If it differs, prints it and returns true.
 fn differs(rt: &impl Print, alloc: Global, line: &str) -> io::Result<bool> {
     match replay(alloc, line) {
         Ok(()) => Ok(false),

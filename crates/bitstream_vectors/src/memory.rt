@@ -28,7 +28,7 @@ impl<'a> Memory<'a> {
         Ok(Memory::Cursor(cursor))
     }
 
-    /// At which byte it stands.
+    /// Returns the index of its current byte.
     pub fn position(&mut self) -> usize {
         match Seek::seek(self, SeekFrom::Current(0)) {
             Ok(at) => at as usize,

@@ -19,17 +19,17 @@ use test_streams::{Count, Short, Refuse};
 /// A request that a stream refuses, as each later one.
 #[derive(Clone, Copy, Drop)]
 pub struct Fault {
-    /// How many requests it serves before.
+    /// The number of requests that it serves before.
     pub served: u32,
     /// The kind of the refusal.
     pub kind: ErrorKind,
     /// The place of the call that makes the request.
     pub call: usize,
-    /// Whether the request is a seek.
+    /// True if the request is a seek.
     pub seeks: bool,
 }
 
-/// What the stream of a play does.
+/// The behavior of the stream of a play.
 #[derive(Clone, Copy, Drop)]
 pub enum Way {
     /// It gives or takes what it has room for.
@@ -45,7 +45,7 @@ pub enum Way {
 }
 
 impl Fault {
-    /// What the call answers whose request is refused.
+    /// Returns the result of the call whose request is refused.
     fn answer(self, kind: Kind) -> &'static str {
         match (kind, self.kind) {
             (Kind::Read, ErrorKind::UnexpectedEof) if !self.seeks => "EndOfInput",
@@ -53,7 +53,7 @@ impl Fault {
         }
     }
 
-    /// What a call answers whose seek is refused, or whose bytes are not taken.
+    /// Returns the result of a call whose seek is refused, or whose bytes are not taken.
     fn answer_of_seek(self) -> &'static str {
         match self.kind {
             ErrorKind::OutOfMemory => "OutOfMemory",
@@ -61,8 +61,9 @@ impl Fault {
         }
     }
 
-    /// What a call behind that one answers: on a reader or writer of bits, that it has failed, unless
-    /// it seeks, which is refused again; on one of bytes the refusal again, unless it asks for nothing.
+    /// Returns the result of a call after the refused one. On a reader or writer of bits: that it
+    /// has failed, unless it seeks, which is refused again. On one of bytes: the refusal again,
+    /// unless it asks for nothing.
     fn later_answer<'a>(self, row: &Row<'_>, call: &Call<'a>) -> &'a str {
         match row.layer {
             Layer::Bits if call.recovers() => self.answer_of_seek(),
@@ -74,8 +75,8 @@ impl Fault {
 }
 
 impl Way {
-    /// What a call of a row answers on such a stream. Before the refused call: the row's answer; at it:
-    /// the refusal; after it: `later_answer`.
+    /// Returns the result of a call of a row on this stream. Before the refused call: the row's
+    /// result; at it: the refusal; after it: `later_answer`.
     fn answer<'a>(self, row: &Row<'_>, at: usize, call: &Call<'a>) -> &'a str {
         match self {
             Way::Refused(fault) if at == fault.call => fault.answer(row.kind),
@@ -86,7 +87,7 @@ impl Way {
         }
     }
 
-    /// What differs where an answer does.
+    /// Returns the difference to report if a result differs.
     fn difference(self) -> Difference {
         match self {
             Way::Plain => Difference::Answer,
@@ -98,20 +99,21 @@ impl Way {
     }
 }
 
-/// What a play did to its stream.
+/// The effect of a play on its stream.
 #[derive(Clone, Copy, Drop)]
 pub struct Moved {
-    /// How many requests were made.
+    /// The number of requests.
     pub requests: u64,
-    /// How many of them were refused.
+    /// The number of refused requests.
     pub refused: u64,
-    /// At which byte the stream stands that was read, or how many bytes were handed on.
+    /// The index of the current byte of the stream that was read, or the number of bytes that were
+    /// handed on.
     pub bytes: usize,
 }
 
 /// A reader or writer on which calls are made.
 trait Stage {
-    /// Makes a call, and tells whether it answers so.
+    /// Makes a call, and returns true if the result is as wanted.
     fn call(&mut self, alloc: Global, call: &Call<'_>, want: &str) -> Result<bool, Objection>;
 }
 

@@ -15,7 +15,7 @@ use std::alloc::Global;
 use std::num::{NonZero, ParseIntError};
 use std::str::FromStr;
 
-/// Makes a write call, and tells whether it answers so.
+/// Makes a write call, and returns true if the result is as wanted.
 pub fn write_call<W: BitWrite>(
     alloc: Global,
     writer: &mut W,
@@ -45,7 +45,7 @@ fn write<W: BitWrite>(alloc: Global, mut writer: &mut W, call: &Call<'_>) -> Ans
     }
 }
 
-/// Makes a call that writes a number or a truth in the given number of bits, or digits.
+/// Makes a call that writes a number or a truth in `bits` bits, or digits.
 fn write_in_bits<W: BitWrite>(writer: &mut W, form: Form, bits: u32, value: &str) -> Answer {
     match form {
         Form::Align => Ok(writer.byte_align()),
@@ -74,7 +74,7 @@ fn write_bool<W: BitWrite>(writer: &mut W, bits: u32, digit: &str) -> Answer {
     Ok(writer.write_var(bits, truth(digit)?))
 }
 
-/// Writes as many digits as a text spells, and a stop digit.
+/// Writes the number of digits that a text spells, and a stop digit.
 fn write_unary<W: BitWrite>(writer: &mut W, stop: bool, value: &str) -> Answer {
     let digits = number::<u32>(value)?;
     Ok(if stop {
@@ -232,7 +232,7 @@ fn write_count<W: BitWrite>(writer: &mut W, max: u32, value: &str) -> Answer {
     }
 }
 
-/// Writes the constant that V says in as many bits as B says.
+/// Writes the constant `V::BITS` in `B::BITS` bits.
 fn write_const_in<B: Width, V: Width, W: BitWrite>(writer: &mut W) -> Answer
     requires word { B.BITS ≤ 32 }
     requires value { (V.BITS < 2 ^ B.BITS) ⊎ (B.BITS ≡ 0) }

@@ -1,4 +1,4 @@
-//! What the program does with a file.
+//! The work of the program on a file.
 
 use crate::options::Style;
 use crate::print::Printer;
@@ -110,11 +110,11 @@ pub fn play<W: Write, P: Write>(
     }
 }
 
-/// What came of the units of a file.
+/// The outcome of the units of a file.
 #[derive(Clone, Copy, Debug)]
 struct Tally {
     status: Status,
-    // How many were read or refused.
+    // The number of units that were read or refused.
     count: u64,
 }
 

@@ -8,7 +8,7 @@ use anyhow::Error;
 use std::alloc::{AllocError, Global};
 use std::fs;
 
-/// How often an error came.
+/// The number of times that an error came.
 #[derive(Drop)]
 struct Count {
     text: String,

@@ -3,7 +3,7 @@
 use crate::command::Command;
 use std::alloc::{AllocError, Global};
 
-/// How units are printed.
+/// The styles in which units are printed.
 #[derive(Clone, Copy, Debug, PartialEq, Eq)]
 pub enum Style {
     /// A line for each element: its place in bits, its name and its value.
@@ -16,7 +16,7 @@ pub enum Style {
     Errors,
 }
 
-/// How the units of files are printed.
+/// The choices for printing the units of files.
 #[derive(Drop)]
 pub struct Options {
     /// The style.
@@ -48,7 +48,7 @@ impl Options {
     }
 }
 
-/// What the program is to do.
+/// The tasks of the program.
 #[derive(Drop)]
 pub enum Call {
     /// Print how it is called.
@@ -65,7 +65,7 @@ pub enum Call {
     Damaged(Command, String),
 }
 
-/// Why a call is refused.
+/// The reasons that the arguments are refused.
 #[derive(Debug, Drop)]
 pub enum Usage {
     /// There is no command of this name.

@@ -13,7 +13,7 @@ struct Name {
     text: &'static str,
     // The place of the first element or note of this name.
     first: usize,
-    // Whether the value is an array: there are several, or it has a number.
+    // True if the value is an array: there are several, or it has a number.
     several: bool,
 }
 

@@ -1,4 +1,4 @@
-//! What is reported on standard error: how far a run is, and what was refused.
+//! The reports on standard error: progress, and refused units.
 
 use crate::unit::{Fault, Unit};
 use std::io;
@@ -8,7 +8,7 @@ use std::io::{Read, Write};
 #[derive(Drop)]
 pub struct Report<P: Write> {
     out: P,
-    // Whether progress is shown.
+    // True if progress is shown.
     shown: bool,
     total: u64,
     // The hundredths that were shown.
@@ -26,7 +26,7 @@ impl<P: Write> Report<P> {
         }
     }
 
-    /// Shows that so many bytes were read.
+    /// Shows that `bytes` bytes were read.
     pub fn done(&mut self, bytes: u64) {
         if !self.shown || self.total == 0 {
             return;

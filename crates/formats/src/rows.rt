@@ -10,14 +10,14 @@ use anyhow::{Error, anyhow, bail};
 use std::alloc::{AllocError, Global};
 use std::fs;
 
-/// What a command writes of a file.
+/// The output of a command on a file.
 #[derive(Drop)]
 pub struct Written {
-    /// What it writes to standard output.
+    /// The bytes written to standard output.
     pub out: Vec<u8>,
-    /// What it reports on standard error.
+    /// The bytes reported on standard error.
     pub reported: Vec<u8>,
-    /// What came of the file.
+    /// The outcome of the file.
     pub status: Status,
 }
 
@@ -104,12 +104,12 @@ fn compare_rows(alloc: Global, written: &str, rows: &str) -> Result<u64, Error> 
     Ok(count)
 }
 
-/// How a file of a list is compared.
+/// The comparison of a file of a list.
 #[derive(Clone, Copy, Debug, PartialEq, Eq)]
 struct Case {
-    /// Whether the file has an error, which is printed.
+    /// True if the file has an error, which is printed.
     refused: bool,
-    /// How its units are printed.
+    /// The style in which its units are printed.
     style: Style,
 }
 

@@ -122,7 +122,7 @@ fn read_file<W: Write + Drop>(
     read_from(rt, command, name, file, length, printer, out)
 }
 
-/// Plays a command over a reader of so many bytes, or 0 if it is not known.
+/// Runs a command on a reader of `length` bytes, or 0 if the number is not known.
 fn read_from<R: Read + Drop, W: Write>(
     rt: &HostRuntime,
     command: Command,

@@ -19,24 +19,24 @@ pub enum NoteValue {
 /// A fact about a unit that is no element of the format's document: it follows from elements, or is a text.
 #[derive(Drop)]
 pub struct Note {
-    /// Its name.
+    /// The name.
     pub name: &'static str,
-    /// Its number, of several notes of one name.
+    /// The index among notes of the same name.
     pub index: Option<u32>,
-    /// Its value.
+    /// The value.
     pub value: NoteValue,
 }
 
 /// A unit of a file: a NAL unit, an OBU, a frame, a page, a packet, a block or a member.
 #[derive(Drop)]
 pub struct Unit {
-    /// What it is.
+    /// The kind of the unit.
     pub kind: &'static str,
     /// The place of its first byte in the file.
     pub byte: u64,
-    /// Its elements, as far as they were read.
+    /// The elements, as far as they were read.
     pub elements: Vec<Element>,
-    /// What is known of it beyond its elements.
+    /// The facts beyond the elements.
     pub notes: Vec<Note>,
 }
 
@@ -118,7 +118,7 @@ impl Unit {
 pub struct Fault {
     /// The bit in the unit at which the reader was.
     pub bit: u64,
-    /// What is wrong.
+    /// The error.
     pub text: String,
 }
 
@@ -132,7 +132,7 @@ impl Fault {
     }
 }
 
-/// What came of a unit.
+/// The outcome of a unit.
 #[derive(Drop)]
 pub enum Step {
     /// It was read.

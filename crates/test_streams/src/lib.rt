@@ -1,5 +1,5 @@
-//! Streams for tests: one that drips, one that refuses, one that counts and one that never ends; and
-//! memory that refuses.
+//! Streams for tests: one with short reads and writes, one that refuses, one that counts and one
+//! that never ends; and memory that refuses.
 #![tactic(auto)]
 
 mod count;

@@ -1,4 +1,4 @@
-//! A stream that drips.
+//! A stream with short reads and writes.
 ghost use Rattle.std.specs.Prelude.{◌≡◌, ◌≤◌, IfOk, true};
 ghost use Rattle.std.specs.Io.KnownBytes.{ReadConsumes, WriteAppends};
 ghost use Rattle.std.specs.Io.{ReadsAtMost, WritesAtMost};
@@ -6,12 +6,12 @@ ghost use Rattle.std.specs.Io.{ReadsAtMost, WritesAtMost};
 use std::io;
 use std::io::{Read, Seek, SeekFrom, Write};
 
-/// Gives or takes one byte at each `read` or `write`, where it drips.
+/// Moves only one byte at each `read` or `write`, if `short` is true.
 #[derive(Drop)]
 pub struct Short<S> {
-    /// The stream that it stands before.
+    /// The stream that it wraps.
     pub inner: S,
-    /// Whether it drips, and does not hand on requests as they are.
+    /// True for short reads and writes of one byte, false to pass requests on unchanged.
     pub short: bool,
 }
 

@@ -153,6 +153,9 @@ impl Coding {
 }
 
 impl Header {
+    /// The number of bits before each line of the description.
+    pub const PLACES: [u64; 13] = [0, 32, 64, 96, 128, 160, 176, 192, 224, 256, 272, 288, 320];
+
     /// Reads the fields in order.
     ///
     /// # Errors

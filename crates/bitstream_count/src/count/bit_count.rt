@@ -175,7 +175,7 @@ impl<const MAX: u32> TryFrom<u32> for BitCount<MAX> {
     ghost try_from_gives = { λ n r. MatchResult r
         (λ c. (n ≤ MAX) × (c ≡ n)) (λ e. (MAX < n) × (e ≡ n)) };
 
-    /// Returns a count of the given number of bits.
+    /// Returns a count of `bits` bits.
     ///
     /// # Errors
     ///

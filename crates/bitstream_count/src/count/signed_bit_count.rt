@@ -173,7 +173,7 @@ impl<const MAX: u32> TryFrom<u32> for SignedBitCount<MAX> {
     ghost try_from_gives = { λ n r. MatchResult r
         (λ c. (1 ≤ n) × (n ≤ MAX) × (c ≡ n)) (λ e. IsOutOfRange 1 MAX n × (e ≡ n)) };
 
-    /// Returns a count of the given number of bits.
+    /// Returns a count of `bits` bits.
     ///
     /// # Errors
     ///

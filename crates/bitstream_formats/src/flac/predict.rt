@@ -3,8 +3,8 @@
 
 use super::header::Channels;
 
-/// Adds to each residual behind the first samples what the samples before it predict. Numbers that a
-/// decoder of 64 bits does not hold wrap.
+/// Adds to each residual after the first samples the value that the samples before it predict.
+/// Numbers that do not fit in 64 bits wrap.
 pub(super) fn predict(samples: &mut [i64], coefficients: &[i64], shift: u32) {
     for at in coefficients.len()..samples.len() {
         let sum = weighted(&samples[..at], coefficients);

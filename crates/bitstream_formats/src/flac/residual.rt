@@ -5,7 +5,7 @@ use super::error::FlacError;
 use super::rice::read_rice;
 use bitstream_io::{BitRead, BitReadExt, Bits};
 
-/// Reads a residual behind the first `order` samples of a block, and appends it.
+/// Reads a residual after the first `order` samples of a block, and appends it.
 pub(super) fn read_residual<R: BitRead>(
     reader: &mut R,
     block: u32,

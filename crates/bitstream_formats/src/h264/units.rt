@@ -5,7 +5,7 @@
 pub struct Units<'a> {
     // The bytes after the last start code that was found. `None` after the last unit.
     rest: Option<&'a [u8]>,
-    // How many bytes of the stream come before them.
+    // The number of bytes of the stream before them.
     before: usize,
 }
 

@@ -1,10 +1,11 @@
--- What a stream tells that a function borrows.
+-- The properties of a stream that a function borrows.
 use Rattle.std.specs.Prelude.{◌∷◌}
 use Rattle.bitstream_order.specs.Reference.{by_name}
 use Rattle.bitstream_order.specs.Streams.{InputStream, OutputStream}
 use Rattle.bitstream_order.specs.declared.streams.lent.Lent.{Lent}
 
--- a source that is lent tells what the one behind the reference tells, and is reached through the reference too
+-- a borrowed source has the properties of the source that the reference points to, and is reached through the
+-- reference too
 abbrev pub lent_input : {S : Type 0} → InputStream S → InputStream (Lent S)
 lent_input I = record {
   remaining = λ lent. I.remaining lent.at.now;

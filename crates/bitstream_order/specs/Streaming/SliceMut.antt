@@ -1,4 +1,4 @@
--- How bytes in memory are written.
+-- Writes to bytes in memory.
 use Rattle.std.specs.Prelude.{◌≡◌, ℕ, ◌+◌, ◌<◌, List, [], ◌∷◌, ◌++◌, length, take, drop, Option, Some}
 use Rattle.std.specs.Borrow.{GName}
 use Rattle.std.specs.declared.io.ErrorKind.{ErrorKind}
@@ -11,7 +11,7 @@ use Rattle.bitstream_order.specs.declared.streams.slice_mut.SliceMut.{SliceMut}
 abbrev pub written_bytes : SliceMut → List ℕ
 written_bytes s = take s.written s.bytes.now
 
--- the same, as what a target tells of its bytes
+-- the bytes of a vector, as the known contents of a target
 abbrev pub written_contents : SliceMut → Option (List ℕ)
 written_contents s = Some (written_bytes s)
 
@@ -46,7 +46,7 @@ abbrev pub slice_refuses_write : SliceMut → ℕ → ErrorKind → SliceMut →
 slice_refuses_write before wanted kind after = (kind ≡ WriteZero)
     × (slice_capacity before < length (written_bytes before) + wanted) × (after ≡ before)
 
--- what bytes in memory tell as a target: a flush changes nothing
+-- bytes in memory as a target: a flush changes nothing
 abbrev pub slice_mut_stream : OutputStream SliceMut
 slice_mut_stream = record {
   contents = written_contents;

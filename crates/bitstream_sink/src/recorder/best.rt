@@ -31,8 +31,8 @@ pub trait Recorder: BitWrite + Sized {
     ///
     /// # Errors
     ///
-    /// Those of the function: the candidate stays as the function left it then, and this recorder is
-    /// lost.
+    /// The errors of the function: the candidate stays as the function left it then, and this
+    /// recorder is lost.
     final fn best<F, X>(self, candidate: &mut Self, f: X) -> Result<Self, F>
     where
         Self: Drop,

@@ -1,4 +1,4 @@
--- What is known of a reader of bytes in memory.
+-- The laws of a reader of bytes in memory.
 use Rattle.std.specs.Prelude.{◌≡◌, ℕ, ◌+◌, ◌-◌, ◌*◌, ◌/◌, ◌<◌, Bool, List, [], length, take, drop, Some, if◌then◌else◌}
 use Rattle.std.specs.Prelude.{None}
 use Rattle.std.specs.declared.io.ErrorKind.TheVariants.{UnexpectedEof}

@@ -1,4 +1,4 @@
--- What the states of a reader of bytes in memory mean.
+-- The meaning of the states of a reader of bytes in memory.
 use Rattle.bitstream_number.specs.Word.{Order}
 use Rattle.bitstream_stream.specs.Reading.Reads.{BitSource}
 use Rattle.bitstream_stream.specs.Reading.Memory.{memory_state, EndsInMemory}

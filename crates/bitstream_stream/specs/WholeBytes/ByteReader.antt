@@ -1,4 +1,4 @@
--- What the states of a `ByteReader` mean.
+-- The meaning of the states of a `ByteReader`.
 use Rattle.std.specs.Prelude.{◌≡◌, ℕ, Result, Ok, Err}
 use Rattle.std.specs.IoError.{error_kind}
 use Rattle.std.specs.declared.io.Error.{Error as IoError}
@@ -28,7 +28,7 @@ byte_reader_source I o = record {
   may = MayRefuseRead I;
 }
 
--- a reader, by what its stream tells
+-- a reader, from what is known of its stream
 abbrev pub byte_reader_port : {R E : Type 0} → InputStream R → ByteReader R E → PortState
 byte_reader_port I r = source_state I r.port
 

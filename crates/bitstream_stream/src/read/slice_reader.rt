@@ -20,17 +20,17 @@ mod words;
 
 /// Reads bits from bytes in memory: [`over`](SliceReader::over) makes one.
 ///
-/// It holds no queue: its place is a bit of the bytes. So it tells how many bits were
-/// [read](SliceReader::bits_read) and are [left](SliceReader::bits_left), and the [rest](SliceReader::rest)
-/// of the bytes, and [goes](SliceReader::seek_bits) to any of their bits. It fails only at the end of
-/// the bytes, with [`EndOfInput`](bitstream_count::error::Error). A call that is one read takes no bit then.
-/// A call that is made of several reads keeps those that were done: the groups of a number of variable
-/// width, the items of an array, the bits of a prefix code, pieces of 4096 bytes of
-/// [read_to_vec](crate::read::BitRead::read_to_vec), and the bits up to a whole byte, which
-/// [take_bytes](SliceReader::take_bytes) and [part](SliceReader::part) drop first. The reader has failed
-/// then: each later call for a value returns `Failed`, until a seek makes it read again. The
-/// [bits read](SliceReader::bits_read), the [bits left](SliceReader::bits_left) and the rest still say where
-/// it stopped.
+/// It has no queue: its place is a bit of the bytes. So it reports the number of bits
+/// [read](SliceReader::bits_read) and [left](SliceReader::bits_left) and the
+/// [rest](SliceReader::rest) of the bytes, and it [goes](SliceReader::seek_bits) to any of their
+/// bits. It fails only at the end of the bytes, with [`EndOfInput`](bitstream_count::error::Error).
+/// A call that is one read takes no bit then. A call that is made of several reads keeps the reads
+/// that were done: the groups of a number of variable width, the items of an array, the bits of a
+/// prefix code, pieces of 4096 bytes of [read_to_vec](crate::read::BitRead::read_to_vec), and the
+/// bits up to a whole byte, which [take_bytes](SliceReader::take_bytes) and
+/// [part](SliceReader::part) drop first. The reader has failed then: each later call for a value
+/// returns `Failed`, until a seek makes it read again. The [bits read](SliceReader::bits_read), the
+/// [bits left](SliceReader::bits_left) and the rest still report where it stopped.
 ///
 /// # Examples
 ///
@@ -46,9 +46,9 @@ mod words;
 #[derive(Drop)]
 pub struct SliceReader<'a, E> {
     all: &'a [u8],
-    // Those from the one that has the next bit.
+    // The bytes from the one that has the next bit.
     bytes: &'a [u8],
-    // How many bits of that byte are taken.
+    // The number of bits taken of that byte.
     bit: u32,
     failed: bool,
     refusals: GhostRefusals,
@@ -102,11 +102,11 @@ impl<'a, E: Endianness> SliceReader<'a, E> {
         // The bits of all bytes that were not taken, also after a failure.
         ensures all { result
             ≡ min (8 * length (memory_bytes self.now) - ((memory_source E.order).state self.now).taken) u64.MAX }
-        // Unless the reader has failed, the answer is at most the number of bits left.
+        // Unless the reader has failed, the result is at most the number of bits left.
         ensures most { ((memory_source E.order).state self.now).failed ≡ false
             → IfSome (bits_left E.order ((memory_source E.order).state self.now))
             (λ left. result ≤ length left) }
-        // If that number is below 2^64 and the reader has not failed, it is the answer.
+        // If that number is below 2^64 and the reader has not failed, it is the result.
         ensures exact { ((memory_source E.order).state self.now).failed ≡ false
             → IfSome (bits_left E.order ((memory_source E.order).state self.now))
             (λ left. length left < 2 ^ 64 → result ≡ length left) }

@@ -64,8 +64,7 @@ impl<S: Copy + Eq, A: Allocator> HuffmanTree<S, A> {
         Ok(HuffmanTree { nodes })
     }
 
-    /// Makes a tree of two: the words of `zero` come behind the bit 0, and those of `one` behind
-    /// the bit 1.
+    /// Makes a tree of two: the words of `zero` follow the bit 0, and the words of `one` the bit 1.
     ///
     /// # Errors
     ///

@@ -108,7 +108,7 @@ impl ReadUnits for AdtsUnits<'_> {
 #[derive(Drop)]
 pub struct FlacUnits<'a> {
     file: &'a [u8],
-    // Whether the samples are written.
+    // True if the samples are written.
     writes: bool,
     at: usize,
     blocks: Option<Blocks<'a>>,

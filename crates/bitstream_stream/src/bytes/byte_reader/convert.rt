@@ -24,7 +24,7 @@ impl<R: Source, E: Endianness> ByteReader<R, E> {
 
     /// Lends the stream. The reader does not count what is then taken from it.
     pub fn reader(&mut self) -> &mut R
-        // What is lent is the reader's stream.
+        // The reader's stream is lent.
         ensures stream { result.now ≡ byte_reader_stream self.old }
         // When the borrow ends, only the stream may have changed: it is as it was left.
         ensures* writes_back { sem 𝓛 (Lends (the_row R.row E.row) R.row self.entry result
@@ -35,7 +35,7 @@ impl<R: Source, E: Endianness> ByteReader<R, E> {
 
     /// Returns a new reader of bits over the stream, in the same order.
     pub fn into_bitreader(self) -> BitReader<R, E>
-        // Nothing is taken or queued yet, and the bytes left are the stream's, if it tells them.
+        // Nothing is taken or queued yet, and the bytes left are the stream's, if they are known.
         ensures state { ⟦<BitReader<R, E> as BitRead>⟧.source.state result
             ≡ new_reader_state (R.stream.remaining (byte_reader_stream self))
             (R.stream.references (byte_reader_stream self)) }
@@ -53,7 +53,7 @@ impl<R: Source, E: Endianness> ByteReader<R, E> {
     /// The bits left of a byte that the new reader began are lost when it is dropped: read them first,
     /// or pass over them by [`byte_align`](BitRead::byte_align).
     pub fn bitreader<'a>(&'a mut self) -> BitReader<Lent<'a, R>, E>
-        // Nothing is taken or queued yet, and the bytes left are the stream's, if it tells them.
+        // Nothing is taken or queued yet, and the bytes left are the stream's, if they are known.
         ensures state { ⟦<BitReader<Lent<'a, R>, E> as BitRead>⟧.source.state result
             ≡ new_reader_state (R.stream.remaining (byte_reader_stream self.old))
             (by_name (reader_name result) ∷ R.stream.references (byte_reader_stream self.old)) }

@@ -16,7 +16,7 @@ pub(super) fn load_eight<E: Endianness>(bytes: &[u8]) -> u64
     E::of_bytes::<u64>(prefix)
 }
 
-/// Returns fewer than eight bytes as a number, with zeros behind them.
+/// Returns fewer than eight bytes as a number, padded with zeros after them.
 #[inline(never)]
 fn load_padded<E: Endianness>(bytes: &[u8]) -> u64
     requires { length bytes.now < 8 }
@@ -41,7 +41,7 @@ pub(super) fn load<E: Endianness>(bytes: &[u8]) -> u64
     }
 }
 
-/// Returns the first N bytes as a number, with zeros behind them.
+/// Returns the first N bytes as a number, padded with zeros after them.
 #[inline(always)]
 pub(super) fn load_first<const N: usize, E: Endianness>(bytes: &[u8]) -> u64
     requires few { N ≤ 8 }
@@ -53,8 +53,8 @@ pub(super) fn load_first<const N: usize, E: Endianness>(bytes: &[u8]) -> u64
     E::of_bytes::<u64>(prefix)
 }
 
-/// Returns the first bytes as a number, with zeros behind them: of a number of bytes that is mostly
-/// known as the program is compiled.
+/// Returns the first bytes as a number, padded with zeros after them. The number of bytes is mostly
+/// known at compile time.
 #[inline(always)]
 fn load_exact<E: Endianness>(bytes: &[u8], need: u32) -> u64
     requires few { need ≤ 8 }
@@ -74,14 +74,15 @@ fn load_exact<E: Endianness>(bytes: &[u8], need: u32) -> u64
     }
 }
 
-/// Returns a number whose word begins with the first bits of some bytes, if there are so many.
+/// Returns a number whose word begins with the first `total` bits of some bytes, if there are
+/// enough.
 #[inline(always)]
 pub(super) fn load_bits<E: Endianness>(bytes: &[u8], total: u32, constant: bool) -> Option<u64>
     requires { total ≤ 64 }
-    // If a number is answered, its word begins with the first `total` bits, and there are so many.
+    // If a number is returned, its word begins with the first `total` bits, and there are enough.
     ensures some { IfSome result (λ w. (total ≤ 8 * length bytes.now)
         × (take total (word E.order 64 w) ≡ take total (bits E.order bytes.now))) }
-    // If `None` is answered, there are fewer than `total` bits.
+    // If `None` is returned, there are fewer than `total` bits.
     ensures none { result ≡ None → 8 * length bytes.now < total }
 {
     let need = (total + 7) / 8;

@@ -66,10 +66,8 @@ impl<'a, E: Endianness> SliceReader<'a, E> {
     fn read_slow<U: UnsignedInteger>(&mut self, bits: u32) -> Result<U, Error>
         requires fine { self.old.failed ≡ false }
         requires room { bits ≤ U.BITS_SIZE }
-        // Takes just the bits of the call and returns what they say, or returns an error.
         ensures reads { Reads (memory_source E.order) (unsigned_decoder E.order U.BITS_SIZE bits)
             self.old (result_map U.value result) self.new }
-        // If too few bits are left, the reader stays where it was.
         ensures stays { StaysAtEnd E.order self.old result self.new }
     {
         if self.has(bits) {
@@ -79,17 +77,15 @@ impl<'a, E: Endianness> SliceReader<'a, E> {
         }
     }
 
-    /// Reads a number. `constant` tells whether `bits` is known as the program is compiled.
+    /// Reads a number. `constant` is true if `bits` is known at compile time.
     #[inline(always)]
     pub(super) fn read_word<U: UnsignedInteger>(
         &mut self,
         bits: u32,
         constant: bool,
     ) -> Result<U, Error>
-        // Takes just the bits of the call and returns what they say, or returns an error.
         ensures reads { Reads (memory_source E.order) (unsigned_decoder E.order U.BITS_SIZE bits)
             self.old (result_map U.value result) self.new }
-        // If too few bits are left, the reader stays where it was.
         ensures stays { StaysAtEnd E.order self.old result self.new }
     {
         if self.failed {
@@ -116,9 +112,7 @@ impl<'a, E: Endianness> SliceReader<'a, E> {
     /// Reads one bit as a number.
     #[inline(always)]
     pub(super) fn read_one(&mut self) -> Result<u64, Error>
-        // Takes just the bits of the call and returns what they say, or returns an error.
         ensures reads { Reads (memory_source E.order) (unsigned_decoder E.order 64 1) self.old result self.new }
-        // If too few bits are left, the reader stays where it was.
         ensures stays { StaysAtEnd E.order self.old result self.new }
     {
         if self.failed {
@@ -140,10 +134,8 @@ impl<'a, E: Endianness> SliceReader<'a, E> {
         bits: u32,
         constant: bool,
     ) -> Result<S, Error>
-        // Takes just the bits of the call and returns what they say, or returns an error.
         ensures reads { Reads (memory_source E.order) (signed_decoder E.order S.BITS_SIZE bits)
             self.old (result_map S.integer result) self.new }
-        // If too few bits are left, the reader stays where it was.
         ensures stays { StaysAtEnd E.order self.old result self.new }
     {
         if self.failed {

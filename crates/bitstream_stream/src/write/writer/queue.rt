@@ -1,4 +1,4 @@
-//! What a writer holds, to be looked at.
+//! The queue of a writer, to be looked at.
 ghost use Rattle.std.specs.Prelude.{◌≡◌, ◌<◌, ◌^◌, [], Some};
 
 use super::BitWriter;
@@ -20,7 +20,6 @@ impl<W: Target, E: Endianness> BitWriter<W, E> {
 
     /// Returns how many bits wait in the writer.
     pub fn queued(&self) -> u32
-        // The answer is the number of bits that are queued.
         ensures bits { result ≡ queued_bits self.now }
         // It is below 8.
         ensures few { result < 8 }
@@ -30,7 +29,6 @@ impl<W: Target, E: Endianness> BitWriter<W, E> {
 
     /// Returns the number of the bits that wait in the writer.
     pub fn queue(&self) -> u8
-        // The answer is the number of the queued bits.
         ensures number { result ≡ queue_number self.now }
         // It is below 2^n if n bits are queued.
         ensures small { result < 2 ^ queued_bits self.now }

@@ -1,7 +1,7 @@
 use Rattle.std.proofs.Common.{refl}
 use Rattle.bitstream_io.proofs.ReadBackLemmas.{reads_back, sure_back}
 use Rattle.bitstream_io.proofs.ReadScriptLemmas.{run_of}
-use Rattle.bitstream_io.proofs.script.laws.written_calls_come_back.Goals as goal
+use Rattle.bitstream_io.proofs.script.laws.written_calls_round_trip.Goals as goal
 
 pub returns : goal.returns
 returns g c written len old new answers ends free typed fine stands each =

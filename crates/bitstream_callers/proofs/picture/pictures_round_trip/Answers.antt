@@ -7,7 +7,7 @@ use Rattle.bitstream_io.proofs.WordLemmas.{length-word, number-word}
 use Rattle.bitstream_io.proofs.WriteLemmas.{unsigned-fits}
 use Rattle.bitstream_callers.specs.Picture.{counted_reads, counted_writes, size_reads, size_writes, IsCounted}
 use Rattle.bitstream_callers.specs.declared.picture.PictureSize.{PictureSize}
-use Rattle.bitstream_callers.proofs.picture.pictures_go_back.Goals as goal
+use Rattle.bitstream_callers.proofs.picture.pictures_round_trip.Goals as goal
 
 -- a number of 32 bits, which is written from a wider type
 count-back : {B : Type 0} (o : Order) (n : ℕ) (f : ℕ → Decoder B) (es : List Encoder) (b : B) → n < 2 ^ 32

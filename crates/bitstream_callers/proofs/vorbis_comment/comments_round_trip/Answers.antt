@@ -13,7 +13,7 @@ use Rattle.bitstream_callers.specs.VorbisComment.{IsText, text_bytes, text_reads
 use Rattle.bitstream_callers.specs.VorbisTexts.{Comment}
 use Rattle.bitstream_callers.specs.declared.vorbis_comment.CommentError.{CommentError}
 use Rattle.bitstream_callers.specs.declared.vorbis_comment.CommentError.TheVariants.{NotText}
-use Rattle.bitstream_callers.proofs.vorbis_comment.comments_go_back.Goals as goal
+use Rattle.bitstream_callers.proofs.vorbis_comment.comments_round_trip.Goals as goal
 
 length_back : (n : ℕ) → n < 2 ^ 32 → BytesBack (number_bytes Low 4) (bytes Low 4 n) n
 length_back n fits = number-back Low 4 n fits

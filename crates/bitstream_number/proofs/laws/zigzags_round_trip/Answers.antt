@@ -1,5 +1,5 @@
 use Rattle.bitstream_number.proofs.SignedLemmas.{zag-zig, zig-zag}
-use Rattle.bitstream_number.proofs.laws.zigzags_go_back.Goals as goal
+use Rattle.bitstream_number.proofs.laws.zigzags_round_trip.Goals as goal
 
 pub returns-clause-signed : goal.returns-clause-signed
 returns-clause-signed c = zag-zig

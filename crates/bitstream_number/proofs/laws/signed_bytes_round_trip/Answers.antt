@@ -1,7 +1,7 @@
 use Rattle.std.proofs.Common.{sym, ◌∙◌, ◌<◌, arith}
 use Rattle.bitstream_number.specs.Word.{High, Low}
 use Rattle.bitstream_number.proofs.SignedLemmas.{same_from_residue}
-use Rattle.bitstream_number.proofs.laws.signed_bytes_go_back.Goals as goal
+use Rattle.bitstream_number.proofs.laws.signed_bytes_round_trip.Goals as goal
 
 pub returns-clause-high : goal.returns-clause-high
 returns-clause-high g c =
