@@ -56,7 +56,7 @@ signed_within n (first ∷ rest) = signed_after n first rest
 abbrev pub split_spaces : List ℕ → List (List ℕ)
 split_spaces text = slice_split (λ b. b == 32) text
 
--- whether the number of a decimal is a byte
+-- true if the number of a decimal is a byte
 abbrev pub is_byte : List ℕ → Bool
 is_byte text = nat_lt (decimal_value text) 256
 

@@ -103,7 +103,7 @@ abbrev pub group_bits : GroupSize → ℕ
 group_bits Four = 4
 group_bits Eight = 8
 
--- how a field is written: its letter, and its number if it has one; a constant has two, with `=` between them
+-- the spelling of a field: its letter, and its number if it has one; a constant has two, with `=` between them
 abbrev pub field_text : Field → List ℕ
 field_text (Unsigned n) = 117 ∷ decimal n
 field_text (Signed n) = 105 ∷ decimal n

@@ -55,7 +55,7 @@ abbrev pub field_writes : Order → List Field → List FieldValue → List Enco
 field_writes o [] vs = []
 field_writes o (field ∷ fields) vs = field_write o field vs ∷ field_writes o fields (drop (value_count field) vs)
 
--- what the write calls of the fields append from a place on, and a last alignment
+-- the bits that the write calls of the fields append from a place on, and a last alignment
 abbrev pub packed_bits : Order → List Field → List FieldValue → ℕ → List Bool
 packed_bits o fields vs at = write_sequence (field_writes o fields vs ++ align ∷ []) at
 

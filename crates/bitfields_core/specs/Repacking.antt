@@ -21,7 +21,7 @@ use Rattle.bitfields_core.specs.Unpacking.{FieldCalls, Unpacked, Unpacks, Stops,
 
 -- ---- what packed bits say
 
--- whether all bits are 0
+-- true if all bits are 0
 abbrev pub are_zeros : List Bool → Bool
 are_zeros [] = true
 are_zeros (b ∷ bits) = if b then false else are_zeros bits
@@ -34,7 +34,7 @@ zeros_decoder n = consume n (λ w. Ok (are_zeros w))
 unfoldable pub boundary_decoder : Decoder Bool
 boundary_decoder = call (λ p bits. word_prefix (to_boundary p) (λ w. Ok (are_zeros w)) bits)
 
--- no value, or the reason why bits are not what is packed
+-- no value, or the fault that padding is not zero
 abbrev pub if_zeros : Bool → Result (Option FieldValue) Reason
 if_zeros zero = if zero then Ok None else Err PaddingNotZero
 
@@ -90,7 +90,7 @@ pub record ReadPacked (o : Order) (fields : List Field) (old : Option (List ℕ)
   pub loses : Consumes old new gone
   pub says : (more : List Bool) → unpack_aligned o fields (bits o gone ++ more) ≡ Unpacks vs (8 * length gone)
 
--- why packed fields are not read from a stream's bytes
+-- the reasons that packed fields are not read from a stream's bytes
 abbrev pub PackedFault : (Refusal → Type 0) → Order → List Field → Option (List ℕ) → Fault → Option (List ℕ) → Type 0
 PackedFault may o fields old f new = (g : Fault)
     × FieldsFault exact_read may o (with_alignment fields) old g new × (f ≡ without_field (length fields) g)

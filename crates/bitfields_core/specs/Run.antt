@@ -24,7 +24,7 @@ use Rattle.bitfields_core.specs.Value.{lines, values}
 
 -- ---- packing
 
--- the input was read to its end, and what its lines spell for the fields is this
+-- the input was read to its end, and its lines spell these values for the fields
 pub record SpelledInput (fields : List Field) (input : Option (List ℕ)) (spelt : Result (List FieldValue) Fault)
     (input_after : Option (List ℕ)) : Type 0 where
   pub bytes : List ℕ

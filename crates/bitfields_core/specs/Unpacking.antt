@@ -70,7 +70,7 @@ abbrev pub byte_count : Field → ℕ
 byte_count (Bytes n) = n
 byte_count field = 0
 
--- whether memory is asked for before a field is read
+-- true if memory is allocated before a field is read
 abbrev pub asks_memory : Field → Bool
 asks_memory (Bytes n) = true
 asks_memory field = false
@@ -88,11 +88,11 @@ unpack_answers k (field ∷ fields) at ((Ok (Ok v), next) ∷ answers) =
 unpack_answers k (field ∷ fields) at ((Ok (Err why), next) ∷ answers) = Stops (fault k why)
 unpack_answers k (field ∷ fields) at ((Err e, next) ∷ answers) = Stops (fault k (read_reason e))
 
--- what the bits from a place on say for fields, which are numbered from k on, by the fields' read calls
+-- the result of the bits from a place on for fields, which are numbered from k on, by the fields' read calls
 abbrev pub says_by : FieldCalls → Order → ℕ → List Field → ℕ → List Bool → Unpacked
 says_by calls o k fields at bits = unpack_answers k fields at (read_sequence (map (calls o) fields) at bits)
 
--- what the bits from a place on say for fields, which are numbered from k on
+-- the result of the bits from a place on for fields, which are numbered from k on
 abbrev pub unpack_bits : Order → ℕ → List Field → ℕ → List Bool → Unpacked
 unpack_bits o k fields at bits = says_by field_read o k fields at bits
 
@@ -115,7 +115,7 @@ pub record LineRefused {R : Type 0} (calls : FieldCalls) (K : BitSource R) (k : 
   pub reads : ReadsField calls K field old (Ok (Some value)) new
   pub answer : result ≡ Err (fault k OutOfMemory)
 
--- Memory for a field's bytes was refused before they were read. The reader is as it was.
+-- Memory for a field's bytes was refused before they were read. The reader is unchanged.
 pub record BufferRefused {R : Type 0} (k : ℕ) (field : Field) (old : R) (result : Result (List FieldValue) Fault)
     (new : R) : Type 0 where
   pub asks : asks_memory field ≡ true
@@ -164,7 +164,7 @@ pub record ReadsLines {R : Type 0} (K : BitSource R) (fields : List Field) (old 
 
 -- ---- from a stream
 
--- these bytes were taken from a stream, of which a number of bits reaches into the last
+-- these bytes were taken from a stream, and a number of bits reaches into the last one
 pub record TakesLeastBytes (known : Option (List ℕ)) (gone : List ℕ) (len : ℕ) (after : Option (List ℕ)) : Type 0 where
   pub loses : Consumes known after gone
   pub least : (8 * length gone < len + 8) × (len ≤ 8 * length gone)
@@ -261,7 +261,8 @@ pub record UnpackingRefused (calls : FieldCalls) (may : Refusal → Type 0) (o :
   pub stops : says_by calls o 1 fields 0 (bits o gone) ≡ Stops (fault field BitsEnded)
   pub ended : IsTrueEnd refusal → (xs : List ℕ) → old ≡ Some xs → says_by calls o 1 fields 0 (bits o xs) ≡ Stops f
 
--- why fields are not read from a stream's bytes: the bytes say it, or memory or a request was refused
+-- the reasons that fields are not read from a stream's bytes: the bytes are wrong, or memory or a request was
+-- refused
 abbrev pub FieldsFault : FieldCalls → (Refusal → Type 0) → Order → List Field → Option (List ℕ) → Fault
     → Option (List ℕ) → Type 0
 FieldsFault calls may o fields old f new =

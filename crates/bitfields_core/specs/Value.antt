@@ -1,4 +1,5 @@
--- Value lines: what an input says for the fields of a layout, and what is printed of values.
+-- Value lines: the values that an input spells for the fields of a layout, and the lines that are printed for
+-- values.
 use Rattle.std.specs.Prelude.{ℕ, ℤ, pos, ◌≤◌, ◌≡◌, ◌+◌, ◌-◌, ◌^◌, ◌<◌, ◌==◌, ⊤, All, if◌then◌else◌, List, [], ◌∷◌, ◌++◌, length, take, drop, slice_index_or, Option, Some, None, Result, Ok, Err}
 use Rattle.std.specs.List.{slice_split, flat_map}
 use Rattle.std.specs.Fmt.{decimal, signed_decimal}
@@ -25,7 +26,7 @@ without_empty_last parts =
 abbrev pub lines : List ℕ → List (List ℕ)
 lines input = without_empty_last (slice_split (λ b. b == 10) input)
 
--- what the value of a field is
+-- the kind of a field's value
 abbrev pub value_kind : Field → ValueKind
 value_kind (Unsigned n) = Kind.Unsigned n
 value_kind (Signed n) = Kind.Signed n

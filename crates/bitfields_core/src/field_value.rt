@@ -83,7 +83,7 @@ pub enum ValueKind {
     Bytes(u32),
 }
 
-/// Returns what the value of a field is.
+/// Returns the kind of a field's value.
 pub fn value_kind(field: Field) -> ValueKind
     ensures kind { result ≡ value_kind_of field }
     ensures in_range { IsField field → IsKind result }

@@ -21,10 +21,10 @@ use std::alloc::Global;
 /// # Errors
 ///
 /// At the first value field with a fault: `ValueMissing` if its line is missing, `ValueMisspelt` if
-/// the line spells no value of the field's kind, `ValueDoesNotFit` if the number needs more bits. Else
-/// `ValueLeftOver` (field 0) if lines remain, or `OutOfMemory` (field 0). The stream is as it was
-/// then, since all values are read before the first byte is written. Else `StreamFault` or
-/// `OutOfMemory` (field 0), as the stream refuses; the stream is as the refusal left it.
+/// the line spells no value of the field's kind, `ValueDoesNotFit` if the number needs more bits.
+/// Else `ValueLeftOver` (field 0) if lines remain, or `OutOfMemory` (field 0). The stream is
+/// unchanged then, since all values are read before the first byte is written. Else `StreamFault`
+/// or `OutOfMemory` (field 0), as the stream refuses; the stream is as the refusal left it.
 pub fn pack<E: Endianness, W: Target>(
     alloc: Global,
     layout: &Layout,

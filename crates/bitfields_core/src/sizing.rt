@@ -1,4 +1,4 @@
-//! Sizes: how many bits the values of an input take.
+//! Sizes: the number of bits of the values of an input.
 
 ghost use Rattle.bitfields_core.specs.Size.{Sizes};
 ghost use Rattle.bitfields_core.specs.Value.{lines as lines_of, values as values_of};

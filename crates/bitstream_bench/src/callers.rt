@@ -25,7 +25,7 @@ use bitstream_io::{
 use std::alloc::Global;
 use std::io::ErrorKind;
 use std::process::Abort;
-use test_streams::{Short, Refuse};
+use test_streams::{Refuse, Short};
 
 /// The fields of a block, in their order.
 fn fields(info: &StreamInfo) -> [u64; 8] {

@@ -81,7 +81,7 @@ fn says(alloc: Global, error: Error, text: &str, kind: ErrorKind) -> bool {
     said & own & (io::Error::from(error).kind() == kind)
 }
 
-/// Asserts that each of these errors says so.
+/// Asserts that each of these errors has its text and kind.
 fn each_says(rt: &impl Abort, alloc: Global, rows: [(Error, &str, ErrorKind); 15]) {
     for (error, text, kind) in rows {
         holds_of(rt, says(alloc, error, text, kind), text);

@@ -30,7 +30,7 @@ fn fails_to_read<R: BitRead>(alloc: Global, reader: &mut R) -> bool {
         & failed(reader.read_to_vec(alloc, 0))
 }
 
-/// A failed writer lends its stream no more, and gives it up.
+/// A failed writer no longer lends its stream, but still returns it.
 #[test]
 fn r13_faults(rt: HostRuntime) {
     let mut writer = BitWriter::<_, BE>::new(Refuse {

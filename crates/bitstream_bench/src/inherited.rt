@@ -1,5 +1,5 @@
-//! A reader, a writer and a reader of bytes of a user's own, which give the required calls alone: each other
-//! call is the body that the trait gives it.
+//! A reader, a writer and a reader of bytes of a user's own with only the required calls: each
+//! other call has the body of the trait.
 ghost use Rattle.bitstream_io.specs.ByteReads.{inner_byte_source};
 ghost use Rattle.bitstream_io.specs.Reads.{inner_source};
 ghost use Rattle.bitstream_io.specs.Sink.{inner_sink};

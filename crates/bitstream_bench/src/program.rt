@@ -9,7 +9,7 @@ use bitfields_core::{Fault, Reason, parse_layout, run};
 use std::alloc::{AllocError, Global};
 use std::io::ErrorKind;
 use std::process::Abort;
-use test_streams::{Count, Short, Refuse};
+use test_streams::{Count, Refuse, Short};
 
 /// Which request of each stream is refused, if any: the first is 0. Each later one is served again.
 #[derive(Clone, Copy, Drop)]
@@ -198,7 +198,7 @@ fn has_too_many_fields(alloc: Global, text: &str) -> bool {
 fn layouts_have_256_fields_at_most(rt: HostRuntime) {
     let most = repeated(rt.alloc(), "u1", ",u1", 255);
     holds(&rt, has_256_fields(rt.alloc(), most.as_str()));
-    // Their number comes before what they spell.
+    // Their number is checked before their spelling.
     let past = repeated(rt.alloc(), "x", ",u1", 256);
     holds(&rt, has_too_many_fields(rt.alloc(), past.as_str()));
 }
@@ -257,16 +257,16 @@ fn moves_large_inputs(rt: HostRuntime) {
     move_each(&rt, rt.alloc(), &LARGE);
 }
 
-/// Which stream refuses a request, and which of its requests, the first of which is 0.
+/// The stream that refuses a request, and the index of the request, from 0.
 #[derive(Clone, Copy, Drop)]
 enum Refusing {
     Input(u32),
     Output(u32),
 }
 
-/// A request of the input or of the output that is refused: which one, the field of the call's fault, how
-/// many of its bytes went before, and how many requests were made of the input, of the output and of the
-/// stream for faults.
+/// A refused request of the input or of the output: its stream and index, the field of the call's
+/// fault, the number of its bytes sent before, and the number of requests made of the input, of the
+/// output and of the stream for faults.
 #[derive(Drop)]
 struct Refusal(Refusing, usize, usize, (u64, u64, u64));
 
@@ -434,8 +434,8 @@ fn an_end_is_no_stream_fault(rt: HostRuntime) {
     holds(&rt, ends_at_an_end(rt.alloc(), 2, "5: bits ended"));
 }
 
-/// The call and the input of a row, how many bytes of the input are left, and how many requests are made
-/// of the input, of the output and of the stream for faults.
+/// The call and the input of a row, the number of bytes of the input left, and the number of
+/// requests made of the input, of the output and of the stream for faults.
 #[derive(Drop)]
 struct Demand(Row, usize, (u64, u64, u64));
 

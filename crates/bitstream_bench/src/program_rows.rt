@@ -166,7 +166,7 @@ pub(crate) const HEADLINE: [Row; 33] = [
     Row("unpack be ", b"", b"", "1: bad layout", 2),
 ];
 
-/// Values of which the last is two bytes, and the lines that spell them.
+/// Values that end with two bytes, and the lines that spell them.
 const BYTES_LAST: &[u8] = b"5\n4\n8\n-3\n1 255\n";
 
 pub(crate) const BYTES: [Row; 28] = [
@@ -543,5 +543,5 @@ pub(crate) const REPACKINGS: [Row; 34] = [
     ),
 ];
 
-/// 128 bits that are 0, and then some of which one is not.
+/// 128 bits of 0, and then some bits that are not all 0.
 const PAST_WORD: &[u8] = &[0, 0, 0, 0, 0, 0, 0, 0, 0, 0, 0, 0, 0, 0, 0, 0, 0x01];

@@ -1,4 +1,5 @@
-//! Bytes in memory as a target: where a request is refused, and what was written until then.
+//! Bytes in memory as a target: the place where a request is refused, and the bytes written until
+//! then.
 use crate::asserts::{each_holds, failed, same};
 use bitstream_io::{BE, BitWrite, BitWriter, ByteWrite, ByteWriter, Endianness, Error, LE};
 use std::io::ErrorKind;
@@ -54,7 +55,7 @@ const ROWS: [Row; 7] = [
         big_endian: [0xb1, 0xed, 0xee, 0xee, 0xee, 0xee],
         little_endian: [0x1e, 0xdb, 0xee, 0xee, 0xee, 0xee],
     },
-    // The two bytes are one request, of which none is written.
+    // The two bytes are one request, and none of them is written.
     Row {
         room: 3,
         written: 2,

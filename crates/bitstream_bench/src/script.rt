@@ -7,7 +7,7 @@ use bitstream_io::{
 use std::alloc::Global;
 use std::io::ErrorKind;
 use std::process::Abort;
-use test_streams::{Short, Refuse};
+use test_streams::{Refuse, Short};
 
 /// A list of calls with a number in more bits than its type has, or fewer calls if memory is refused.
 fn calls_with_one_too_wide(alloc: Global) -> Vec<WriteCall> {

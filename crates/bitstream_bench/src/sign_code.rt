@@ -1,4 +1,4 @@
-//! A prefix code of a user's own, which states what it reads and writes: signs of numbers.
+//! A prefix code of a user's own, whose contract states its words: signs of numbers.
 ghost use Rattle.bitstream_io.specs.Reads.{Reads};
 ghost use Rattle.bitstream_io.specs.Sink.{WritesAll};
 ghost use Rattle.bitstream_io.specs.Tree.{bit_by_bit};

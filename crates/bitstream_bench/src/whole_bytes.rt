@@ -1,5 +1,5 @@
-//! Whole bytes: how many requests primitives and long vectors make, and memory that is refused. Long
-//! skips and pads are worked rows of `bitstream_vectors`.
+//! Whole bytes: the number of requests of primitives and long vectors, and memory that is refused.
+//! Long skips and pads are test vectors of `bitstream_vectors`.
 use crate::asserts::{failed, gives, same};
 use bitstream_io::{
     BE, BitRead, BitReader, BitWrite, BitWriter, ByteRead, ByteReader, Endianness, Error, LE,

@@ -6,8 +6,8 @@ ghost use Rattle.bitstream_callers.specs.BlockHeader.{block_header_writes};
 use crate::block_header::BlockHeader;
 use bitstream_io::{BitWrite, BitWriteExt, Error, ToBitStream};
 
-/// Writes a header, and returns the number of bits of which it is made: those that were written, if
-/// the sink was at the end of a byte.
+/// Writes a header, and returns its number of bits: exactly the bits written, if the sink was at
+/// the end of a byte.
 ///
 /// # Errors
 ///
@@ -20,7 +20,7 @@ pub fn append<W: BitWrite>(writer: &mut W, header: &BlockHeader) -> Result<u32, 
     // At the end of a byte, the result is the number of bytes written.
     ensures counts { W.sink.len writer.old % 8 ≡ 0
         → IfOk result (λ bits. W.sink.len writer.new ≡ W.sink.len writer.old + bits) }
-    // After an error the sink is as it was, or a write of the header had this error.
+    // After an error the sink is unchanged, or a write of the header had this error.
     ensures refused { IfErr result (λ error. (writer.new ≡ writer.old) ⊎ WritesAll W.sink
         (block_header_writes W.sink.order header.now) writer.old (Err error) writer.new) }
 {

@@ -1,4 +1,4 @@
-//! The header of a packet of whole bytes, as a type that says how it is read and written.
+//! The header of a packet of whole bytes, as a type with reads and writes of its own.
 ghost use Rattle.bitstream_io.specs.Callers.{same_error};
 ghost use Rattle.bitstream_callers.specs.PacketHeader.{becomes_stream, packet_reads, packet_writes};
 

@@ -114,7 +114,7 @@ impl ToBitStream for PictureSize {
     }
 }
 
-/// A picture, as a file has it.
+/// A picture, as it is in a file.
 #[derive(Drop)]
 pub struct Picture {
     /// The kind of picture: 3 for a front cover.

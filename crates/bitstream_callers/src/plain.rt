@@ -1,5 +1,5 @@
-//! Parsers without contracts, of unary numbers, variable widths, constants, prefix codes, bytes, and sums on what was
-//! read.
+//! Parsers without contracts: of unary numbers, variable widths, constants, prefix codes and bytes,
+//! with sums on the values read.
 use bitstream_io::huffman::HuffmanTree;
 use bitstream_io::{BE, BitRead, BitReadExt, BitReader, Bits, Error, LE, LittleEndian};
 use std::alloc::Global;
@@ -34,7 +34,7 @@ pub struct Turn {
     pub angle: i16,
 }
 
-/// Returns what a packet says.
+/// Parses the values of a packet.
 ///
 /// # Errors
 ///
@@ -74,7 +74,7 @@ pub fn drift(packet: &[u8]) -> Result<(i16, i16), Error> {
     Ok((now, now - set * 10))
 }
 
-/// Returns how a wheel turns: not at all, forwards or backwards.
+/// Returns the direction of a wheel: none, forwards or backwards.
 ///
 /// # Errors
 ///

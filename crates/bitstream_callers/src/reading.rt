@@ -1,4 +1,4 @@
-//! A sensor's reading, as a type that says how it is read and written in a width that its context says.
+//! A sensor's reading, as a type with reads and writes of its own, in a width from its context.
 ghost use Rattle.bitstream_io.specs.Callers.{same_error};
 ghost use Rattle.bitstream_callers.specs.Reading.{becomes_reader, reading_reads, reading_writes};
 
@@ -19,7 +19,7 @@ pub struct Reading {
 pub enum ReadingError {
     /// An error of the reader.
     Reader(Error),
-    /// The sensor measured nothing. The bit that says so is read.
+    /// The sensor measured nothing. The bit for that is read.
     Missing,
 }
 

@@ -33,7 +33,7 @@ pub struct Sps {
 pub enum SpsError {
     /// An error of the reader.
     Reader(Error),
-    /// The unit is no sequence parameter set. The byte that says so is read.
+    /// The unit is no sequence parameter set. Its first byte is read.
     OtherUnit,
     /// The type of the picture order count is not 2, the order of decoding. The type is read.
     UnsupportedOrder,
@@ -79,7 +79,7 @@ impl Sps {
         })
     }
 
-    /// Returns what the bytes of a unit say, up to the size.
+    /// Parses a unit up to the size.
     ///
     /// # Errors
     ///

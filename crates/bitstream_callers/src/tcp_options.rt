@@ -9,7 +9,7 @@ use bitstream_io::{BE, BitRead, BitReadExt, Bits, Error, SliceReader};
 pub struct TcpOptions {
     /// The most bytes of a segment.
     pub maximum_segment: Option<u16>,
-    /// By how many bits the window is shifted.
+    /// The number of bits by which the window is shifted.
     pub window_scale: Option<u8>,
     /// True if selective acknowledgements are permitted.
     pub selective: bool,
@@ -42,7 +42,7 @@ impl Parser<'_, '_> {
     }
 }
 
-/// Notes what the data of an option say. Data that are too short say nothing.
+/// Fills in the value of an option from its data. Data that are too short change nothing.
 fn note(options: &mut TcpOptions, kind: u8, data: &mut SliceReader<BE>) {
     match kind {
         2 => options.maximum_segment = data.read::<Bits<16>, u16>().ok(),

@@ -1,4 +1,5 @@
-//! Heartbeats, and samples of a vehicle's telemetry in a vector after their length.
+//! Heartbeats, and samples of a vehicle's telemetry in vectors: plain, or in frames that begin with
+//! their length.
 ghost use Rattle.std.specs.Prelude.{◌≡◌, ◌<◌, ◌^◌, Err, IfErr, IfOk, IsOk, length};
 ghost use Rattle.bitstream_io.specs.Callers.{write_sequence, sequence_length, High, align, bits};
 ghost use Rattle.bitstream_callers.specs.Sample.{Fits, sample_bits, sample_writes};

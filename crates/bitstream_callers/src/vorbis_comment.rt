@@ -1,4 +1,5 @@
-//! The Vorbis comment of a FLAC file, as types that own memory and say how they are read from whole bytes.
+//! The Vorbis comment of a FLAC file, as types that own memory and have reads of their own, of
+//! whole bytes.
 ghost use Rattle.std.specs.Prelude.{◌≡◌, ◌++◌, true, ℕ, List, length, Ok};
 ghost use Rattle.bitstream_io.specs.Callers.{OutOfMemory, Done};
 ghost use Rattle.bitstream_callers.specs.VorbisComment.{becomes_reader, comment_bytes, comment_reads, IsComment, text_reads};

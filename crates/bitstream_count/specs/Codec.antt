@@ -14,7 +14,7 @@ pub data Prefix (A : Type 0) : Type 0 where
 pub record Decoder (A : Type 0) : Type 0 where
   pub reads : ℕ → List Bool → Prefix A
   pub on_failed : Result A Error
-  -- whether the call may allocate once it has taken just these bits
+  -- true if the call may allocate once it has taken just these bits
   pub allocates : ℕ → List Bool → Bool
 
 -- a write call: its word, which may depend on the number of bits written before, or its error
@@ -41,7 +41,7 @@ fail e = call (λ _ _. Done 0 (Err e))
 abbrev pub pure : {A : Type 0} → A → Decoder A
 pure a = record { reads = λ _ _. Done 0 (Ok a); on_failed = Ok a; allocates = λ _ _. false }
 
--- whether there is nothing in a list
+-- true if a list is empty
 abbrev pub is_empty : {X : Type 0} → List X → Bool
 is_empty [] = true
 is_empty (x ∷ xs) = false
@@ -50,7 +50,7 @@ is_empty (x ∷ xs) = false
 abbrev pub stores : {A : Type 0} → A → Decoder A
 stores a = record (pure a) { allocates = λ _ bits. is_empty bits }
 
--- whether these are just the bits, or the bytes, of a value
+-- true if these are just the bits, or the bytes, of a value
 abbrev pub is_whole : {X A : Type 0} → Prefix A → List X → Bool
 is_whole Incomplete xs = false
 is_whole (Done n (Ok a)) xs = n == length xs
@@ -76,7 +76,7 @@ abbrev pub result_then : {A B : Type 0} → Result A Error → (A → Result B E
 result_then (Ok a) f = f a
 result_then (Err e) f = Err e
 
--- whether the call that follows a prefix allocates
+-- true if the call that follows a prefix allocates
 abbrev pub allocates_after : {A : Type 0} → Prefix A → (ℕ → A → Bool) → Bool
 allocates_after Incomplete f = false
 allocates_after (Done n (Ok a)) f = f n a

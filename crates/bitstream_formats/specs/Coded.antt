@@ -50,7 +50,7 @@ coded_decoder o = do
   ones ← unary_decoder false
   ones_decoder o ones
 
--- how many bytes a number needs
+-- the number of bytes that a number needs
 abbrev pub bytes_needed : ℕ → ℕ
 bytes_needed number =
     if nat_lt number (2 ^ 11) then 2

@@ -1,4 +1,4 @@
-//! Where an error was found.
+//! The place of an error.
 
 /// An error, and the bit at which the reader stood, counted from the start of the bytes.
 #[derive(Debug, Drop)]

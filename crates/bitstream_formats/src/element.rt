@@ -26,7 +26,7 @@ impl fmt::Display for Element {
     }
 }
 
-/// A reader, and what was read by it.
+/// A reader, and the elements that it read.
 #[derive(Drop)]
 pub(crate) struct Syntax<'r, 'a, 'b, E: Endianness> {
     /// The reader.

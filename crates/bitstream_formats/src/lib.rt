@@ -9,14 +9,14 @@
 //!
 //! - [`adts`]: ADTS, the frames of AAC in a stream
 //! - [`adts_header`]: the header of an ADTS frame, printed by `./format`
-//! - [`at`]: where an error was found
+//! - [`at`]: the places of errors
 //! - [`av1`]: AV1: the headers of OBUs, and sequence headers
 //! - [`deflate`]: DEFLATE, and the files of gzip
 //! - [`element`]: elements of a format, as they are read one by one
 //! - [`flac`]: FLAC: the metadata of a file, and its samples
 //! - [`h264`]: H.264: the units of a byte stream, and its parameter sets
 //! - [`ogg`]: Ogg: pages and packets, and the first byte of a packet of Opus
-//! - [`stream_info`]: what a FLAC file says of all its frames, printed by `./format`
+//! - [`stream_info`]: the properties of all frames of a FLAC file, printed by `./format`
 //! - [`ts`]: MPEG transport streams: packets, and the headers of PES packets
 #![tactic(auto)]
 

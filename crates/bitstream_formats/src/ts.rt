@@ -11,7 +11,7 @@ pub const PACKET: usize = 188;
 /// The reasons that a packet is not read.
 #[derive(Debug, Drop, thiserror::Error)]
 pub enum TsError {
-    /// The bits were not read: what the packet says does not fit in it.
+    /// The bits were not read: the contents of the packet do not fit in it.
     #[error("{0}")]
     Reader(Error),
     /// The packet does not begin with 0x47.

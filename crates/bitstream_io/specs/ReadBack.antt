@@ -1,4 +1,4 @@
--- Lists of write calls and their matching reads: what was written is read back.
+-- Lists of write calls and their matching reads: the values written are read back.
 use Rattle.std.specs.Prelude.{◌≡◌, ◌++◌, ℕ, ◌+◌, ◌%◌, ◌^◌, ◌<◌, ◌==◌, if◌then◌else◌, Bool, true, false, List, [], ◌∷◌, length, map, Option, Some, None, Result, Ok, Err, is_ok, ⊤}
 use Rattle.std.specs.List.{All}
 use Rattle.bitstream_number.specs.Word.{Order, FitsSignedBits, bits}

@@ -43,7 +43,7 @@ read_decoder o (Bytes n) = map_answer variant.Bytes (bytes_decoder o n)
 read_decoder o (Skip n) = map_answer (λ _. variant.Done) (skip_decoder n)
 read_decoder o Align = map_answer (λ _. variant.Done) align_decoder
 
--- whether a call may ask for memory
+-- true if a call may allocate
 abbrev pub asks_memory : ReadCall → Bool
 asks_memory (Bytes n) = true
 asks_memory _ = false

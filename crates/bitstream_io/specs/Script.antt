@@ -1,4 +1,4 @@
--- Lists of write calls: what each call means, and what all of them do to a sink.
+-- Lists of write calls: the meaning of each call, and the effect of all of them on a sink.
 use Rattle.std.specs.Prelude.{◌≡◌, ◌++◌, ◌+◌, ℕ, nat_lt, if◌then◌else◌, Bool, true, false, List, [], ◌∷◌, length, map, replicate, Option, Some, None, Result, Ok, Err, ⊤}
 use Rattle.bitstream_number.specs.Word.{Order}
 use Rattle.bitstream_count.specs.Codec.{Encoder}
@@ -39,7 +39,7 @@ AlignsNowhere [] = ⊤
 AlignsNowhere (Align ∷ calls) = ⊥
 AlignsNowhere (_ ∷ calls) = AlignsNowhere calls
 
--- how long the word of a call is, or its error
+-- the length of a call's word in bits, or its error
 abbrev pub word_size : Result (List Bool) Error → Result ℕ Error
 word_size (Ok word) = Ok (length word)
 word_size (Err error) = Err error

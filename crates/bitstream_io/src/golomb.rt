@@ -15,8 +15,8 @@ use crate::write::{BitWrite, BitWriteExt};
 ///
 /// # Errors
 ///
-/// `VariableWidthOverflow` for more than 31 leading zeros. The zeros and the one after them are read
-/// then, and the reader goes on after them. Else the errors of the reader.
+/// `VariableWidthOverflow` for more than 31 leading zeros. The zeros and the one after them are
+/// read then, and the reader continues after them. Else the errors of the reader.
 ///
 /// # Examples
 ///

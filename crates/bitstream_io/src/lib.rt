@@ -13,8 +13,8 @@
 //! - [`integer`]: types whose values are read and written as bits
 //! - [`huffman`]: prefix codes
 //! - [`order`]: the two orders of bits
-//! - [`read`]: reading bits: the readers, their calls, what they read from, and types that are read
-//! - [`write`]: writing bits: the writer, counters and recorders, their calls, what is written to, and
+//! - [`read`]: reading bits: the readers, their calls, their sources, and types that are read
+//! - [`write`]: writing bits: the writer, counters and recorders, their calls, their targets, and
 //!   types that are written
 //! - [`bytes`]: reading and writing whole bytes
 //! - [`laws`]: laws of the definitions: one function each, whose contract is the law

@@ -76,7 +76,7 @@ signed-can_sub w (negsuc n) h = record { sfits = below-half w n h }
 suc-step : (t n : ℕ) → t - suc n ≡ t - 1 - n
 suc-step t n = omega arith
 
--- what a cast keeps of a number
+-- a cast of a signed number keeps it modulo 2^bits
 pub signed-bits : (w : Width) (z : ℤ) → FitsSignedBits (bit_len w) z → cast_unsigned w z ≡ residue (bit_len w) z
 signed-bits w (pos n) h =
     let f = below-half w n h in

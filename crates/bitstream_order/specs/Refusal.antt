@@ -15,7 +15,7 @@ pub record Refusal : Type 0 where
   pub before : Option (List ℕ)
   pub after : Option (List ℕ)
 
--- the refusal of a request, by what the stream told before it and after it
+-- the refusal of a request, from the known state of the stream before it and after it
 abbrev pub refusal_told : {S : Type 0} → (S → Option (List ℕ)) → (S → List Reference) → S → ℕ → ErrorKind → S → Refusal
 refusal_told known references old wanted kind new = record {
   kind = kind;

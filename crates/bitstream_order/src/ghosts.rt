@@ -32,7 +32,7 @@ impl GhostCount {
         GhostCount { seal: () }
     }
 
-    /// Does nothing at run time. The caller's proof says by what the count grows.
+    /// Does nothing at run time. The caller's proof states the growth of the count.
     pub(crate) fn grow(&mut self, _n: u64)
         ghost by: { ℕ }
         ensures { self.new.count ≡ self.old.count + by }
@@ -96,7 +96,7 @@ impl GhostRefusals {
         GhostRefusals { seal: () }
     }
 
-    /// Does nothing at run time. The caller's proof says by what the list grows.
+    /// Does nothing at run time. The caller's proof states the growth of the list.
     pub fn push(&mut self, _n: u64)
         ghost by: { Refusal }
         ensures { self.new.list ≡ by ∷ self.old.list }
@@ -129,7 +129,7 @@ impl GhostBytes {
         GhostBytes { seal: () }
     }
 
-    /// Does nothing at run time. The caller's proof says what the list becomes.
+    /// Does nothing at run time. The caller's proof states the new list.
     fn set(&mut self, _n: u64)
         ghost by: { List ℕ }
         ensures { self.new.list ≡ by }

@@ -122,7 +122,7 @@ impl<S> Port<S> {
         &self.stream
     }
 
-    /// Forgets what was asked of the stream, which stays as it is.
+    /// Forgets the requests made to the stream, which is unchanged.
     pub fn restart(&mut self)
         // The stream stays as it is.
         ensures stream { port_stream self.new ≡ port_stream self.old }
@@ -258,7 +258,7 @@ impl<S: Target> Port<S> {
         // The stream holds the same bytes as before, if they are known.
         ensures bytes { Keeps (S.stream.contents (port_stream self.old))
             (S.stream.contents (port_stream self.new)) }
-        // If it succeeds, the stream did what it says that a flush does.
+        // If it succeeds, its effect is the one that the stream states for a flush.
         ensures flushed { OnOk result (S.stream.flushes (port_stream self.old) (port_stream self.new)) }
     {
         let before = Snapshot::of(&self.stream);
@@ -276,15 +276,16 @@ impl<S: Target> Port<S> {
 }
 
 impl<S: SeekSource> Port<S> {
-    /// Seeks by one request, and returns the new position in bytes. From there on the fetched bytes
-    /// are counted anew.
+    /// Seeks by one request, and returns the new position in bytes. The count of fetched bytes
+    /// starts again there.
     ///
     /// # Errors
     ///
     /// `OutOfMemory` if the stream refuses with that kind, else `Stream` with its kind. The
-    /// position stays as it was then.
+    /// position is unchanged then.
     pub fn seek(&mut self, to: SeekFrom) -> Result<u64, Error>
-        // One request is made. Fetched bytes are counted anew, or stay counted if it is refused.
+        // One request is made. The count of fetched bytes starts again, or is unchanged if it is
+        // refused.
         ensures seeks { Seeks (MayRefuseSeek S.stream S.refuses_seek to)
             (source_state S.stream self.old) result (source_state S.stream self.new) }
         // If the stream's position is known, it becomes the result, or stays if the seek is

@@ -33,7 +33,7 @@ recorder_sink o = inner_sink (λ recorder. recorder.writer) (growing_sink o)
 abbrev pub IsEmptyRecorder : {N E A : Type 0} → BitRecorder N E A → Type 0
 IsEmptyRecorder recorder = growing_state recorder.writer ≡ new_writer_state (Some []) []
 
--- whether memory was refused to a recorder, which was not cleared since
+-- true if memory was refused to a recorder, which was not cleared since
 abbrev pub recorder_failed : {N E A : Type 0} → BitRecorder N E A → Bool
 recorder_failed recorder = has_failed recorder.writer
 

@@ -1,4 +1,4 @@
-//! A sink that records what is written to it, so that it can be played to another sink.
+//! A sink that records the bits written to it, and plays them to another sink.
 ghost use Rattle.std.specs.Prelude.{◌≡◌, ◌≤◌, [], true, false, length, Err, IfOk, OnOk};
 ghost use Rattle.bitstream_sink.specs.GrowingWriter.{HoldsAll};
 
@@ -19,7 +19,7 @@ pub mod laws;
 
 /// Records the bits that are written to it, so that they can be played to another sink of bits, at
 /// any place in a byte. Whole bytes are in a vector, and the fewer than 8 bits after them in a byte
-/// of their own. Their number is returned as an N, but N does not limit what is recorded.
+/// of their own. Their number is returned as an N, but N does not limit the recording.
 ///
 /// If the vector needs memory and gets none, the call returns `OutOfMemory` and the recorder has
 /// failed: it keeps its whole bytes, but each later call that writes or plays returns `Failed`,
@@ -91,7 +91,7 @@ impl<N, E: Endianness, A: Allocator> BitRecorder<N, E, A> {
         }
     }
 
-    /// Returns how many bits were recorded.
+    /// Returns the number of bits recorded.
     fn bits(&self) -> u128
         ensures { result ≡ ⟦<Self as BitWrite>⟧.sink.len self.now }
     {
@@ -125,7 +125,7 @@ impl<N, E: Endianness, A: Allocator> BitRecorder<N, E, A> {
         N: Counter,
         // Returns the number of bits that were recorded, or an error exactly if N does not hold it.
         ensures bits { Counts N.value N.greatest (length (recorded_bits E.order self.now)) result }
-        // The same is said of the recorder's length as a sink.
+        // The same holds for the recorder's length as a sink.
         ensures len { Counts N.value N.greatest (⟦<Self as BitWrite>⟧.sink.len self.now) result }
     {
         value_of::<N>(self.bits())
@@ -161,7 +161,7 @@ impl<N, E: Endianness, A: Allocator> BitRecorder<N, E, A> {
         target.write_unsigned_var(self.writer.queued(), self.writer.queue())
     }
 
-    /// Forgets what was recorded, and a failure. The recorder keeps its memory.
+    /// Forgets the recorded bits, and a failure. The recorder keeps its memory.
     pub fn clear(&mut self)
         ensures { IsEmptyRecorder self.new }
     {

@@ -3,7 +3,7 @@
 //! `bitstream_io`.
 //!
 //! - [`bytes`]: readers and writers of whole bytes
-//! - [`laws`]: laws of what is read and written, and of the ends and the room of streams
+//! - [`laws`]: laws of reads and writes, and of the ends and the room of streams
 //! - [`read`]: the calls of a reader of bits, and the readers: over a stream, and over bytes in memory
 //! - [`vbr`]: the length of a number of variable width
 //! - [`width`]: checks of numbers against a number of bits

@@ -375,7 +375,7 @@ pub trait BitRead {
     fn by_ref(&mut self) -> &mut Self
         // It reaches this reader, as it is.
         ensures value { result.now ≡ self.old }
-        // It is this very reference, so what is done by it is done to this reader.
+        // It is this very reference, so its calls change this reader.
         ensures same_reference { result.ghost_name ≡ self.entry.ghost_name }
     {
         self

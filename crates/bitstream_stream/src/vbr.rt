@@ -18,7 +18,7 @@ pub fn vbr_bits<F: Width, U: UnsignedInteger>(value: U) -> u32
     let payload = F::BITS - 1;
     let mut bits = F::BITS;
     let mut rest = value;
-    // Two groups a turn.
+    // Two groups an iteration.
     while rest.shr_default(2 * payload) != U::ZERO {
         bits += 2 * F::BITS;
         rest = rest.shr_default(2 * payload);

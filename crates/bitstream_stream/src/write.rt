@@ -280,7 +280,7 @@ pub trait BitWrite {
     fn by_ref(&mut self) -> &mut Self
     where
         Self: Sized,
-        // It is this very reference, so what is done by it is done to this sink.
+        // It is this very reference, so its calls change this sink.
         ensures same_reference { result.ghost_name ≡ self.entry.ghost_name }
         // It reaches this sink, as it is.
         ensures same_value { result.now ≡ self.old }

@@ -23,7 +23,7 @@ pub record ByteGrowthRefused {A : Type 0} (decoder : ByteDecoder A) (old : ByteR
   pub asked : IsTrue (decoder.allocates bytes)
   pub took : BytesTaken old bytes new
 
--- reads of bytes among which memory is asked for: they come to an outcome of a read, or memory was refused in one of
+-- reads of bytes that allocate between them: they have the outcome of a read, or memory was refused in one of
 -- them or between them
 pub data ByteGrowingOutcome {R A : Type 0} (K : ByteSource R) (decoder : ByteDecoder A) (old : R)
     (result : Result A Error) (new : R) : Type 0 where

@@ -47,7 +47,7 @@ abbrev pub ByteWritesOwn : {S E : Type 0} → ByteSink S → (Error → E → Ty
 ByteWritesOwn K becomes buffers answer old result new =
     OwnErrors becomes (λ _. answer) (λ plain. ByteWritesAll K buffers old plain new) result
 
--- how many bytes the buffers have in all
+-- the number of bytes in all buffers
 abbrev pub total_length : List (List ℕ) → ℕ
 total_length [] = 0
 total_length (buffer ∷ buffers) = length buffer + total_length buffers

@@ -14,8 +14,9 @@ pub record ReadLacksMemory {A : Type 0} (o : Order) (decoder : Decoder A) (old :
   pub refused : MemoryRefused o decoder old result new
   pub asked : IsTrue (decoder.allocates old.taken refused.word)
 
--- Memory was refused between the reads of a call, on a reader that had not failed and goes on. The call may allocate
--- after the word that was taken, and no proper beginning of the word has a prefix: the call was not decided before.
+-- Memory was refused between the reads of a call, on a reader that had not failed and continues. The call may
+-- allocate after the word that was taken, and no proper beginning of the word has a prefix: the call was not
+-- decided before.
 pub record GrowthRefused {A : Type 0} (o : Order) (decoder : Decoder A) (old : ReaderState) (result : Result A Error)
     (new : ReaderState) : Type 0 where
   pub answer : result ≡ Err OutOfMemory
@@ -25,7 +26,7 @@ pub record GrowthRefused {A : Type 0} (o : Order) (decoder : Decoder A) (old : R
   pub asked : IsTrue (decoder.allocates old.taken word)
   pub took : Took o old word new
 
--- reads among which memory is asked for: they come to an outcome of a read, or memory was refused in one of them or
+-- reads that allocate between them: they have the outcome of a read, or memory was refused in one of them or
 -- between them
 pub data GrowingOutcome {R A : Type 0} (K : BitSource R) (decoder : Decoder A) (old : R) (result : Result A Error)
     (new : R) : Type 0 where

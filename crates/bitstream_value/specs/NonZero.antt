@@ -40,7 +40,7 @@ option_decoder after o size n = and_then (unsigned_decoder o size n) (λ v. pure
 unfoldable pub option_vbr_decoder : {A : Type 0} → (ℕ → A) → Order → ℕ → ℕ → Decoder (Option A)
 option_vbr_decoder after o field size = and_then (vbr_decoder o field size (2 ^ size)) (λ v. pure (if_any after v))
 
--- what is made of a number is the same for the same number
+-- equal numbers make the same value
 pub made-same : {A : Type 0} (make : (k : ℕ) → 0 < k → A) (m n : ℕ) (p : 0 < m) (q : 0 < n) → m ≡ n → make m p
     ≡ make n q
 made-same make m n p q e = subst (λ k. (r : 0 < k) → make m p ≡ make k r) e (λ r. ap (make m) (le_prop p r)) q

@@ -4,7 +4,7 @@ use Rattle.bitstream_count.specs.Codec.{Decoder, Encoder, and_then, pure}
 use Rattle.bitstream_stream.specs.Reading.ReadTable.{bit_decoder}
 use Rattle.bitstream_stream.specs.Writing.WriteTable.{bit}
 
--- a leaf with its symbol; or a branch, of which the bit 0 leads to the first side and the bit 1 to the second
+-- a leaf with its symbol; or a branch: the bit 0 leads to its first side and the bit 1 to the second
 pub data Tree (S : Type 0) : Type 0 where
   leaf : S → Tree S
   node : (zero_side : Tree S) → (one_side : Tree S) → Tree S

@@ -4,9 +4,9 @@ ghost use Rattle.bitstream_value.specs.ByteTypes.{ByteWritesOwn};
 use crate::byte_build::{ToByteStream, ToByteStreamUsing, ToByteStreamWith};
 use bitstream_stream::bytes::byte_write::ByteWrite;
 
-/// Writes values of types that say how they are written. Every sink of bytes has these calls.
+/// Writes values of types that implement their own writes. Every sink of bytes has these calls.
 pub trait ByteWriteExt: ByteWrite {
-    /// Writes a value of a type that says how it is written.
+    /// Writes a value of a type that implements its own writes.
     ///
     /// # Errors
     ///

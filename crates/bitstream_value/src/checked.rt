@@ -50,7 +50,7 @@ pub trait Checkable: Sealed + Copy {
         ensures writes { Writes W.sink (plain (word W.sink.order self.now))
             writer.old result writer.new };
 
-    /// Returns how many bits a write of the value takes.
+    /// Returns the number of bits that a write of the value takes.
     fn written_bits(&self) -> u32
         ensures bits { (o : Order) → result ≡ length (word o self.now) };
 }

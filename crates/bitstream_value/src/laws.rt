@@ -39,7 +39,7 @@ pub fn symbols_have_words<S>()
     // A symbol has a word exactly if a leaf has the same symbol.
     ensures known { (same : S → S → Bool) (t : Tree S) (s : S) → IsSome (first_path same t s)
         ↔ ((w : List Bool) × (x : S) × IsPath t w x × (same x s ≡ true)) }
-    // The word is the path of the first such leaf, and is what is written.
+    // The word is the path of the first such leaf, and it is the word written.
     ensures first { (same : S → S → Bool) (t : Tree S) (s : S) (w : List Bool)
         → first_path same t s ≡ Some w → IsFirstPath same t s w × (symbol_word same t s ≡ w) }
     // The word is read as a symbol that is the same, whatever follows it.

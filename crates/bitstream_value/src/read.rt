@@ -94,7 +94,7 @@ pub trait BitReadExt: BitRead {
     fn read_huffman<T: FromBits>(&mut self, code: &T) -> Result<T::Symbol, Error>
         ensures reads { Reads Self.source (T.decoder code.now) self.old result self.new };
 
-    /// Reads a value of a type that says how it is read.
+    /// Reads a value of a type that implements its own reads.
     ///
     /// # Errors
     ///

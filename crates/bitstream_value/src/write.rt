@@ -83,7 +83,7 @@ pub trait BitWriteExt: BitWrite {
         ensures writes { WritesAll Self.sink (bit_by_bit (T.word code.now symbol))
             self.old result self.new };
 
-    /// Writes a value of a type that says how it is written.
+    /// Writes a value of a type that implements its own writes.
     ///
     /// # Errors
     ///

@@ -10,8 +10,8 @@ use std::io;
 /// moved, and two bytes.
 const LENGTHS: usize = 2051;
 
-/// The byte of each buffer at an index. Neighbours differ, and so do the first and the last bit of a
-/// byte, so that none is itself with its bits turned round.
+/// Returns the byte of each buffer at an index. Neighbours differ, and so do the first and the last
+/// bit of a byte, so that no byte equals its own reversed bits.
 pub fn byte_at(index: usize) -> u8 {
     let low = ((index % 127).wrapping_mul(37) % 127) as u8;
     if low % 2 == 0 { low | 0x80 } else { low }
@@ -28,7 +28,8 @@ struct Place {
 }
 
 impl Place {
-    /// The byte that begins with the last `bits` bits of a byte and goes on with the first of the next.
+    /// Returns the byte that begins with the last `bits` bits of a byte and continues with the
+    /// first bits of the next.
     fn joined(self, before: u8, this: u8) -> u8 {
         let (before, this) = (u16::from(before), u16::from(this));
         let both = match self.order {
@@ -112,7 +113,7 @@ fn differing<E: Endianness>(alloc: Global, place: Place) -> Result<u32, AllocErr
     Ok(differing)
 }
 
-/// Writes and reads all buffers. Prints how many differ, and gives it.
+/// Writes and reads all buffers. Prints the number that differ, and returns it.
 pub fn play_buffers(rt: &impl Print, alloc: Global) -> io::Result<u32> {
     let mut all = 0u32;
     let mut lead = 0u8;

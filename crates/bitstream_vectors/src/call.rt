@@ -11,7 +11,7 @@ use std::str::FromStr;
 pub struct Call<'a> {
     /// The form of the call: what it reads, writes or asks.
     pub form: Form,
-    /// In how many bits, how many bytes, or the greatest number of a count.
+    /// The number of bits or bytes, or the greatest number of a count.
     pub bits: u32,
     /// The value that it writes, the number of a constant, or the calls that a recorder is given.
     pub value: &'a str,

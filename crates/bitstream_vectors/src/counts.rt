@@ -21,7 +21,7 @@ where
     agrees(u128::from(counter.written()) == bits, Difference::Length)
 }
 
-/// Plays a row of a counter's type, its calls, and what it holds after them.
+/// Plays a row of a counter's type, its calls, and its number of bits after them.
 pub fn play_count(alloc: Global, kind: &str, calls: &str, after: &str) -> Result<(), Objection> {
     let calls = calls_of(alloc, Kind::Write, calls)?;
     let Some(bits) = after.strip_prefix("bits ") else {

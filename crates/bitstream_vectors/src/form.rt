@@ -171,7 +171,7 @@ impl Form {
 ///
 /// # Errors
 ///
-/// That the name spells none.
+/// If the name spells none.
 pub fn form_of(name: &str, next: &str) -> Result<Form, Objection> {
     let named = named(&PLAIN, name).or_else(|| whole_form(name, next));
     let named = named.or_else(|| variable_form(name, next));
@@ -181,7 +181,7 @@ pub fn form_of(name: &str, next: &str) -> Result<Form, Objection> {
         .ok_or(Objection::BAD_FORM)
 }
 
-/// The forms that a name alone spells.
+/// The forms that a name spells without the word after it.
 const PLAIN: [(&str, Form); 32] = [
     ("align", Form::Align),
     ("aligned", Form::Aligned),

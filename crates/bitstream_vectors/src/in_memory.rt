@@ -20,7 +20,7 @@ const BEFORE: u32 = 24;
 /// The number of bytes after a word or a run, if there are any.
 const BEHIND: usize = 16;
 
-/// The bytes of which parts are taken.
+/// The number of bytes from which parts are taken.
 const WHOLE: usize = 5;
 
 /// The number of some bits.
@@ -253,7 +253,7 @@ fn stays_in_place<E: Endianness>(bits: u32, kind: u32) -> bool {
     skipped & ended & failed & place & left & !reader.is_at_end()
 }
 
-/// Returns how many kinds of calls that are too long do not stay in place after some bits.
+/// Returns the number of kinds of overlong calls that move after some bits.
 fn moved_by_failing<E: Endianness>(bits: u32) -> u32 {
     let mut differing = 0u32;
     for kind in 0..TOO_LONG {
@@ -264,7 +264,8 @@ fn moved_by_failing<E: Endianness>(bits: u32) -> u32 {
     differing
 }
 
-/// Reads all words, runs and parts, and makes the calls that are too long. Prints how many differ, and gives it.
+/// Reads all words, runs and parts, and makes the overlong calls. Prints the number that differ,
+/// and returns it.
 pub fn play_memory_parts(rt: &impl Print) -> io::Result<u32> {
     let (mut words, mut runs, mut parts, mut moved) = (0u32, 0u32, 0u32, 0u32);
     for bits in 0..8 {

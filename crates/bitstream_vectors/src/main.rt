@@ -98,7 +98,7 @@ fn differs(rt: &impl Print, alloc: Global, line: &str) -> io::Result<bool> {
     }
 }
 
-/// Plays the rows of a file, and gives how many differ.
+/// Plays the rows of a file, and returns the number that differ.
 fn play_file(rt: &(impl Files + Print + Alloc), alloc: Global, name: &str) -> io::Result<u32> {
     let text = std::fs::read_to_string(rt, name)?;
     let (mut rows, mut differing) = (0u32, 0u32);
@@ -114,7 +114,7 @@ fn play_file(rt: &(impl Files + Print + Alloc), alloc: Global, name: &str) -> io
     Ok(differing)
 }
 
-/// Plays the rows of files, and gives how many differ.
+/// Plays the rows of files, and returns the number that differ.
 fn play_files(rt: &(impl Files + Print + Alloc), alloc: Global, names: &[&str]) -> io::Result<u32> {
     let mut differing = 0u32;
     for name in names {

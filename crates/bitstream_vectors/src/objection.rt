@@ -19,7 +19,7 @@ pub enum Difference {
     Short,
     /// A result, the requests or the bytes over a stream that refuses.
     Refused,
-    /// The bytes, or how many were moved.
+    /// The bytes, or the number moved.
     Bytes,
     /// The place in bits.
     Place,

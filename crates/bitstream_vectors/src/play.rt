@@ -14,7 +14,7 @@ use bitstream_io::{
 };
 use std::alloc::Global;
 use std::io::{ErrorKind, Read, Seek, SeekFrom};
-use test_streams::{Count, Short, Refuse};
+use test_streams::{Count, Refuse, Short};
 
 /// A request that a stream refuses, as each later one.
 #[derive(Clone, Copy, Drop)]
@@ -32,7 +32,7 @@ pub struct Fault {
 /// The behavior of the stream of a play.
 #[derive(Clone, Copy, Drop)]
 pub enum Way {
-    /// It gives or takes what it has room for.
+    /// It moves the bytes that it has room for.
     Plain,
     /// It does so, and is the library's own source of bytes in memory.
     Slice,
@@ -187,7 +187,7 @@ fn make_calls<S: Stage>(
     Ok(())
 }
 
-/// A stream that does what a way says.
+/// Returns a stream that behaves as a way says.
 fn stream_of<S>(inner: S, way: Way) -> Count<Refuse<Short<S>>> {
     let short = matches!(way, Way::Short);
     let (left, kind) = match way {
@@ -242,8 +242,8 @@ fn read_bytes<E: Endianness + Drop>(
     })
 }
 
-/// Makes the read calls of a row on bytes in memory, of which `last` is the first that wants more bits. Gives
-/// how many bits were read.
+/// Makes the read calls of a row on bytes in memory. The call `last` is the first that wants more
+/// bits. Returns the number of bits read.
 fn read_memory<E: Endianness>(
     alloc: Global,
     row: &Row<'_>,
@@ -268,8 +268,8 @@ pub fn play_memory(
     }
 }
 
-/// Makes write calls on a counter and on a recorder. Objects where these do not hold the bits that a
-/// writer of bits wrote, of which these are the whole bytes.
+/// Makes write calls on a counter and on a recorder. Objects if their bits differ from the bits of
+/// a writer, whose whole bytes these are.
 fn write_beside<E: Endianness + Drop>(
     alloc: Global,
     calls: &[Call<'_>],
@@ -288,8 +288,8 @@ fn write_beside<E: Endianness + Drop>(
     agrees(recorded && same && counted, Difference::Beside)
 }
 
-/// Makes write calls on a writer of bits, and if its stream is plain, on a counter and on a recorder
-/// too. Gives how many requests the writer made, and how many were refused.
+/// Makes write calls on a writer of bits, and if its stream is plain, on a counter and on a
+/// recorder too. Returns the number of requests that the writer made, and the number refused.
 fn write_bits<E: Endianness + Drop>(
     alloc: Global,
     written: &mut Vec<u8>,
@@ -307,8 +307,8 @@ fn write_bits<E: Endianness + Drop>(
     Ok(moved)
 }
 
-/// Makes write calls on a writer of bytes. Gives how many requests they made, and how many were
-/// refused.
+/// Makes write calls on a writer of bytes. Returns the number of requests that they made, and the
+/// number refused.
 fn write_whole_bytes<E: Endianness>(
     alloc: Global,
     written: &mut Vec<u8>,

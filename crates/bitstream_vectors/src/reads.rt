@@ -134,8 +134,8 @@ fn read_optional<R: BitRead>(reader: &mut R, size: Size, bits: u32, want: &str) 
     }
 }
 
-/// Reads a number in a number of bits that is known to be no more than 128, at the types that the
-/// rows have.
+/// Reads a number in at most 128 bits, in a counted number of bits, at the types that the rows
+/// have.
 fn read_counted<R: BitRead>(
     reader: &mut R,
     number: Number,
@@ -153,7 +153,7 @@ fn read_counted<R: BitRead>(
     }
 }
 
-/// Reads a number by the calls for words alone, at the types that the rows have.
+/// Reads a number only by the calls for words, at the types that the rows have.
 fn read_word<R: BitRead>(
     reader: &mut R,
     number: Number,

@@ -19,7 +19,7 @@ struct Played {
     behind: (u32, u8),
 }
 
-/// The words of a text that says of a recorder: `to ORDER ; behind N V ; recorded L`.
+/// Splits a text on a recorder into its words: `to ORDER ; behind N V ; recorded L`.
 fn played_of(text: &str) -> Option<(&str, &str, &str, &str)> {
     let (to, rest) = text.strip_prefix("to ")?.split_once(" ; behind ")?;
     let (behind, recorded) = rest.split_once(" ; recorded ")?;

@@ -26,7 +26,7 @@ const WRITE_FAULTS: [ErrorKind; 3] = [
 ///
 /// # Errors
 ///
-/// The first thing that is not as the row says.
+/// The first difference from the row.
 pub fn replay(alloc: Global, line: &str) -> Result<(), Objection> {
     play_line(alloc, line)?;
     if line.contains("prefix ") {
@@ -48,8 +48,8 @@ fn play_line(alloc: Global, line: &str) -> Result<(), Objection> {
     }
 }
 
-/// Plays a row that says what holds after its calls: of a counter, with its type in the place of an
-/// order, of a recorder, or of a reader or writer.
+/// Plays a row with facts about the state after its calls: of a counter, with its type instead of
+/// an order, of a recorder, or of a reader or writer.
 fn play_row(
     alloc: Global,
     kind: &str,
@@ -112,7 +112,7 @@ fn play_whole(alloc: Global, row: &Row<'_>, way: Way) -> Result<(), Objection> {
     }
 }
 
-/// Objects where a row says what holds, and something else does.
+/// Objects if a row states a fact that does not hold.
 fn agrees_with<T: Copy + PartialEq>(
     want: Option<T>,
     found: T,

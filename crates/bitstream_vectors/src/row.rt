@@ -72,7 +72,7 @@ impl<'a> Row<'a> {
     ///
     /// # Errors
     ///
-    /// That the row is of a bad form.
+    /// If the row has a bad form.
     pub fn parse(
         alloc: Global,
         kind: &str,

@@ -109,8 +109,8 @@ fn write_number<W: BitWrite>(writer: &mut W, number: Number, bits: u32, value: &
     }
 }
 
-/// Writes a number in a number of bits that is known to be no more than 128, at the types that the
-/// rows have.
+/// Writes a number in at most 128 bits, in a counted number of bits, at the types that the rows
+/// have.
 fn write_counted<W: BitWrite>(writer: &mut W, kind: Number, bits: u32, value: &str) -> Answer {
     let Ok(count) = BitCount::<128>::try_from(bits) else {
         return Err(Objection::BAD_FORM);
@@ -123,7 +123,7 @@ fn write_counted<W: BitWrite>(writer: &mut W, kind: Number, bits: u32, value: &s
     }
 }
 
-/// Writes a number by the calls for words alone, at the types that the rows have.
+/// Writes a number only by the calls for words, at the types that the rows have.
 fn write_word<W: BitWrite>(writer: &mut W, kind: Number, bits: u32, value: &str) -> Answer {
     Ok(match kind {
         Number::Unsigned(Size::Bits8) => writer.write_unsigned_var::<u8>(bits, number(value)?),
@@ -207,7 +207,7 @@ pub fn truths_of(text: &str) -> Result<[bool; 4], Objection> {
     }
 }
 
-/// Writes a count of no more than MAX.
+/// Writes a count of at most MAX.
 fn write_count_below<const MAX: u32, W: BitWrite>(writer: &mut W, value: u32) -> Answer
     requires { 0 < MAX }
 {

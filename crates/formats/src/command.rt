@@ -54,7 +54,7 @@ impl Command {
         }
     }
 
-    /// Returns true if the command writes what a file holds, and prints no elements.
+    /// Returns true if the command writes the contents of a file, and prints no elements.
     pub fn decodes(self) -> bool {
         matches!(self, Command::Flac | Command::Gunzip)
     }
@@ -174,7 +174,7 @@ pub fn show<U: ReadUnits, W: Write, P: Write>(
     Ok(tally.end(name, report))
 }
 
-/// Writes what the units of a file hold, and reports those that are refused.
+/// Writes the contents of the units of a file, and reports the units that are refused.
 pub fn decode<U: ReadUnits, W: Write, P: Write>(
     alloc: Global,
     name: &str,

@@ -34,8 +34,8 @@ fn add(alloc: Global, counts: &mut Vec<Count>, text: &str) -> Result<(), AllocEr
     Ok(())
 }
 
-/// Turns the bits of each byte of a file in turn, and counts the copies that are read whole and the first errors of the
-/// others.
+/// Flips the bits of each byte of a file one after the other, and counts the copies that are read
+/// whole and the first errors of the others.
 pub fn play_damaged(rt: &HostRuntime, command: Command, path: &str) -> Result<(), Error> {
     let alloc = rt.alloc();
     let mut file = fs::read(rt, path)?;

@@ -244,7 +244,7 @@ impl Printer {
     }
 }
 
-/// Prints what comes before the value of a name, the number of which counts from 0.
+/// Prints the text before the value of a name. The number of the name counts from 0.
 fn begin_member<W: Write>(out: &mut W, number: usize, name: &Name) -> io::Result<()> {
     if number > 0 {
         write!(out, ",")?;

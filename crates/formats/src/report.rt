@@ -4,7 +4,7 @@ use crate::unit::{Fault, Unit};
 use std::io;
 use std::io::{Read, Write};
 
-/// Reports how far a run is, a hundredth at a time, in one line that it overwrites, and what was refused.
+/// Reports progress, a hundredth at a time, in one line that it overwrites, and the refused units.
 #[derive(Drop)]
 pub struct Report<P: Write> {
     out: P,
@@ -79,7 +79,7 @@ pub struct Watched<R: Read, P: Write> {
 }
 
 impl<R: Read, P: Write> Watched<R, P> {
-    /// Returns a reader that reports what is read of another one.
+    /// Returns a reader that passes on the reads of another one, and reports them.
     pub fn new(reader: R, report: Report<P>) -> Watched<R, P> {
         Watched {
             reader,

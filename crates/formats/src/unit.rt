@@ -165,8 +165,8 @@ impl Step {
 
 /// Units that are read one after the other.
 pub trait ReadUnits {
-    /// Reads the next unit, and writes to `out` what a decoder finds in it. After a unit that is refused the next call
-    /// goes on with the next unit that can be found.
+    /// Reads the next unit, and writes its decoded data to `out`. After a refused unit, the next
+    /// call continues with the next unit that can be found.
     fn next_unit<W: Write>(
         &mut self,
         alloc: Global,
@@ -174,6 +174,6 @@ pub trait ReadUnits {
         out: &mut W,
     ) -> Result<Step, Error>;
 
-    /// Returns how many bytes of the file were read.
+    /// Returns the number of bytes of the file that were read.
     fn bytes_done(&self) -> u64;
 }

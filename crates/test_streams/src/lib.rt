@@ -3,13 +3,13 @@
 #![tactic(auto)]
 
 mod count;
-mod short;
 mod endless;
 mod memory;
 mod refuse;
+mod short;
 
 pub use count::Count;
-pub use short::Short;
 pub use endless::Endless;
 pub use memory::RefuseMemory;
 pub use refuse::Refuse;
+pub use short::Short;

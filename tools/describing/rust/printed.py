@@ -121,7 +121,7 @@ def error_code(f: Format) -> list[str]:
     firsts = {it.error: it for it in reversed(f.tests)}
     cases = [line for it in dict.fromkeys(it.error for it in f.tests) for line in error_case(firsts[it])]
     return [
-        f"/// Why {article(f.type)} is not read.",
+        f"/// The errors of reading {article(f.type)}.",
         "#[derive(Debug, Drop, thiserror::Error)]",
         f"pub enum {e} {{",
         "    /// An error of the reader.",

@@ -17,7 +17,7 @@ use std::marker::Model;
 /// A type of counts, and the values of type T that such a count holds: the bound of a function over
 /// any [`Checked`]. Only the four types of counts of this crate implement it.
 pub trait Holds<T>: Sealed {
-    // That a count holds a value.
+    // A count holds a value.
     ghost holds: { Self → T → Type 0 };
 }
 
@@ -137,7 +137,7 @@ impl<C: Holds<T> + Copy, T: Copy> Checked<C, T> {
     }
 }
 
-/// Checks a value against a number of bits, and returns what is kept of it: at 0 bits any value is
+/// Checks a value against a number of bits, and returns the value to keep: at 0 bits any value is
 /// accepted, and 0 is kept.
 ///
 /// # Errors

@@ -83,7 +83,7 @@ impl<const MAX: u32> SignedBitCount<MAX> {
         left.signed_count()
     }
 
-    /// Applies `f` to the number of bits, and returns a count of what it returns; or `None` if `f`
+    /// Applies `f` to the number of bits, and returns a count of the result; or `None` if `f`
     /// returns `None`, 0 or a number above NEW_MAX.
     pub fn try_map<const NEW_MAX: u32, F: FnOnce(u32) -> Option<u32>>(
         self,

@@ -145,7 +145,7 @@ impl<'a> Decoder<'a> {
         Ok(Some(frame))
     }
 
-    /// Compares what was decoded with STREAMINFO, and returns no frame.
+    /// Compares the decoded samples with STREAMINFO, and returns no frame.
     fn finish(&mut self) -> Result<Option<Frame>, FlacError>
         ensures of_file { IfOk result (λ frame. IfSome frame (IsOfFile self.old)) }
         ensures same { self.new ≡ self.old }

@@ -21,7 +21,7 @@ pub enum Channels {
 }
 
 impl Channels {
-    /// Returns how many there are: 1 to 8 in a frame that was read.
+    /// Returns the number of channels: 1 to 8 in a frame that was read.
     pub fn count(self) -> u8
         ensures { result ≡ channel_count self }
     {

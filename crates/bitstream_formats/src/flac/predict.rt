@@ -1,5 +1,5 @@
-//! Predictions: what the samples before one say of it (sections 9.2.5 and 9.2.6), and two channels of one
-//! frame (section 4.2).
+//! Predictions: a sample from the samples before it (sections 9.2.5 and 9.2.6), and two channels of
+//! one frame (section 4.2).
 
 use super::header::Channels;
 

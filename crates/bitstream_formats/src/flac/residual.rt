@@ -1,4 +1,4 @@
-//! Residuals: what the samples are more than was predicted (section 9.2.7).
+//! Residuals: the differences between the samples and their predictions (section 9.2.7).
 ghost use Rattle.std.specs.Prelude.{◌<◌, IfOk, IfSome};
 
 use super::error::FlacError;

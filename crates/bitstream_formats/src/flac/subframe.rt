@@ -40,7 +40,7 @@ pub(super) fn read_subframe<R: BitRead>(
     Ok(samples)
 }
 
-/// Reads how many low bits of the samples are 0.
+/// Reads the number of low bits of the samples that are 0.
 fn read_wasted<R: BitRead>(reader: &mut R) -> Result<u32, FlacError> {
     if !reader.read_bit()? {
         return Ok(0);

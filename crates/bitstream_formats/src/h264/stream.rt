@@ -70,7 +70,7 @@ impl<'a> Stream<'a> {
         self.units.rest()
     }
 
-    /// Returns how many units were read or refused.
+    /// Returns the number of units that were read or refused.
     pub fn units_taken(&self) -> u64 {
         self.taken
     }

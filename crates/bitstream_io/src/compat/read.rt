@@ -17,7 +17,7 @@ use bitstream_value::read::BitReadExt;
 use std::alloc::Allocator;
 
 /// Reads bits, by the names of earlier versions. Every reader of bits has these calls. Code that
-/// uses them imports this trait in place of [`BitRead`] and [`BitReadExt`], since some of the names
+/// uses them imports this trait instead of [`BitRead`] and [`BitReadExt`], since some of the names
 /// are the same.
 ///
 /// # Errors
@@ -115,7 +115,7 @@ pub trait BitRead2 {
     fn read_huffman<T: FromBits>(&mut self, code: &T) -> Result<T::Symbol, Error>
         ensures reads { Reads source (T.decoder code.now) self.old result self.new };
 
-    /// Reads a value of a type that says how it is read, as [`BitReadExt::parse`].
+    /// Reads a value of a type that implements its own reads, as [`BitReadExt::parse`].
     fn parse<F: FromBitStream>(&mut self) -> Result<F, F::Error>
         ensures reads { OwnReads F.grows source F.becomes (F.reads source.order)
             self.old result self.new };

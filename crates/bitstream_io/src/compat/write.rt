@@ -16,7 +16,7 @@ use bitstream_value::integer::Integer;
 use bitstream_value::write::BitWriteExt;
 
 /// Writes bits, by the names of earlier versions. Every sink of bits has these calls. Code that
-/// uses them imports this trait in place of [`BitWrite`] and [`BitWriteExt`], since some of the
+/// uses them imports this trait instead of [`BitWrite`] and [`BitWriteExt`], since some of the
 /// names are the same.
 ///
 /// # Errors
@@ -121,7 +121,7 @@ pub trait BitWrite2 {
         ensures writes { WritesAll sink (bit_by_bit (T.word code.now symbol))
             self.old result self.new };
 
-    /// Writes a value of a type that says how it is written, as [`BitWriteExt::build`].
+    /// Writes a value of a type that implements its own writes, as [`BitWriteExt::build`].
     fn build<T: ToBitStream>(&mut self, value: &T) -> Result<(), T::Error>
         ensures writes { WritesOwn sink T.becomes (T.writes sink.order value.now)
             (T.answers value.now) self.old result self.new };

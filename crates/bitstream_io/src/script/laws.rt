@@ -121,7 +121,7 @@ pub fn written_words_are_read()
     // A signed number that fits n bits of its type, where n is not 0, is read back.
     ensures signed { (o : Order) (size n : ℕ) (x : ℤ) → 0 < n → n ≤ size → FitsSignedBits n x
         → IsReadAs (signed o size n x ∷ []) (signed_decoder o size n) x }
-    // A constant that fits its bits is found to be what was written.
+    // A constant that fits its bits is read back.
     ensures constant { (o : Order) (n v : ℕ) → v < 2 ^ n
         → IsReadAs (plain (word o n v) ∷ []) (const_decoder o n v) true }
     // A unary number below 2^32 is read back, with either stop bit.
@@ -151,8 +151,8 @@ pub fn written_words_are_read()
         → IsReadAs (signed_vbr o field x ∷ []) (any_signed_vbr_decoder o field size) x }
 {}
 
-/// The same holds for the types of values: what a value's calls write is read back as the value. In
-/// no bits a `NonZero` is read as 1, and an `Option` as `None`.
+/// The same holds for the types of values: a value is read back from the words of its writes. In 0
+/// bits a `NonZero` is read as 1, and an `Option` as `None`.
 pub fn written_values_are_read<A>()
     // A `bool` is read back from one bit.
     ensures bool { (b : Bool) → IsReadAs (truth 1 b ∷ []) (truth_decoder 1) b }

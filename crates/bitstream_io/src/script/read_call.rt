@@ -59,7 +59,7 @@ pub enum ReadCall {
 }
 
 impl ReadCall {
-    /// Makes the call. For `Bytes` alone memory is asked of the allocator.
+    /// Makes the call. Only `Bytes` asks the allocator for memory.
     ///
     /// # Errors
     ///

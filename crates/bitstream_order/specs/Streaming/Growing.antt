@@ -15,7 +15,7 @@ growing_bytes g = g.bytes.items
 abbrev pub growing_contents : {A : Type 0} → Growing A → Option (List ℕ)
 growing_contents g = Some (growing_bytes g)
 
--- how many bytes the vector has memory for
+-- the number of bytes for which the vector has memory
 abbrev pub growing_capacity : {A : Type 0} → Growing A → ℕ
 growing_capacity g = vec_capacity g.bytes
 

@@ -15,7 +15,7 @@ written_bytes s = take s.written s.bytes.now
 abbrev pub written_contents : SliceMut → Option (List ℕ)
 written_contents s = Some (written_bytes s)
 
--- how many bytes there are, written or free
+-- the number of bytes, written or free
 abbrev pub slice_capacity : SliceMut → ℕ
 slice_capacity s = length s.bytes.now
 
@@ -31,7 +31,7 @@ slice_was s = s.was.list
 abbrev pub slice_name : SliceMut → GName
 slice_name s = s.bytes.ghost_name
 
--- the reference to the bytes, with what they were
+-- the reference to the bytes, with their old values
 abbrev pub slice_reference : SliceMut → Reference
 slice_reference s = to_slice (slice_name s) (slice_was s)
 

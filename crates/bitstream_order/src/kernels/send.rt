@@ -11,8 +11,8 @@ use crate::streams::target::Target;
 use bitstream_count::error::Error;
 use bitstream_number::number::{Numeric, Primitive, UnsignedInteger};
 
-/// Sends the whole bytes that a queue of bits and then the n bits of a value make, by one request.
-/// Returns how many of the n bits were sent: all but fewer than 8.
+/// Sends the whole bytes of a queue of bits and the n bits of a value after it, by one request.
+/// Returns the number of the n bits that were sent: all but fewer than 8.
 ///
 /// # Errors
 ///

@@ -27,7 +27,7 @@ fn fetch_byte<S: Source>(port: &mut Port<S>) -> Result<u8, Error>
     Ok(byte[0])
 }
 
-/// A unary word that was taken, and what is left of the byte that holds its stop bit.
+/// A unary word that was taken, and the rest of the byte that holds its stop bit.
 #[derive(Clone, Copy, Drop)]
 pub struct TakenUnary {
     /// The number of bits before the stop bit.
@@ -61,7 +61,8 @@ pub fn take_unary<S: Source, E: Endianness>(
         (source_state S.stream port.old) result (source_state S.stream port.new) }
     // If a word was taken, fewer than 8 bits are left after it.
     ensures few { IfOk result (λ answer. IfSome answer (λ run. run.queued < 8)) }
-    // Unless a request is refused, it takes one turn more than it fetches bytes.
+    // Unless a request is refused, it takes one iteration more than the number of bytes that it
+    // fetches.
     ensures turns { OnOk result (turns.new.count
         ≡ turns.old.count + (fetched_count port.new - fetched_count port.old) + 1) }
 {

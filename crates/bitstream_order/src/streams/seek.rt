@@ -27,7 +27,7 @@ pub trait SeekSource: Source {
     ///
     /// # Errors
     ///
-    /// The source's own, as [`Seek::seek`] has them. The position stays as it was then.
+    /// The errors of [`Seek::seek`] of the source. The position is unchanged then.
     fn seek(&mut self, to: SeekFrom) -> io::Result<u64>
         // If the source's position is known, it becomes the result, or stays if the seek is
         // refused. If its bytes are known too, the result is the place meant.
@@ -37,7 +37,7 @@ pub trait SeekSource: Source {
         ensures bytes { Keeps (bytes self.old) (bytes self.new) }
         // The source is reached by the same references as before.
         ensures references { Self.stream.references self.new ≡ Self.stream.references self.old }
-        // An error is one by which the source says that it may refuse this seek.
+        // The source may refuse this seek by this error.
         ensures refused { IfErr result (λ e. refuses_seek self.old to (error_kind e) self.new) };
 }
 

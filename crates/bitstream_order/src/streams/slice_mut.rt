@@ -67,7 +67,7 @@ impl<'a> SliceMut<'a> {
         &self.bytes[..self.written]
     }
 
-    /// Returns how many bytes are free.
+    /// Returns the number of free bytes.
     pub fn free(&self) -> usize
         ensures { result ≡ slice_capacity self.now - length (written_bytes self.now) }
     {

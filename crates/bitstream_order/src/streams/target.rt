@@ -41,11 +41,11 @@ pub trait Target {
     fn flush(&mut self) -> io::Result<()>
         // The target holds the same bytes as before, if they are known.
         ensures bytes { Keeps (stream.contents self.old) (stream.contents self.new) }
-        // If it succeeds, the target did what it says that a flush does.
+        // If it succeeds, its effect is the one that the target states for a flush.
         ensures flushed { OnOk result (stream.flushes self.old self.new) }
         // The target is reached by the same references as before.
         ensures references { stream.references self.new ≡ stream.references self.old }
-        // An error is one by which the target says that it may refuse a request of no bytes.
+        // The target may refuse a request of no bytes by this error.
         ensures refused { IfErr result (λ e. stream.refuses self.old 0 (error_kind e) self.new) };
 }
 

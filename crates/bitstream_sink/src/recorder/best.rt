@@ -16,7 +16,7 @@ pub trait Recorder: BitWrite + Sized {
     // Nothing was recorded, and nothing refused.
     ghost is_empty: { Self → Type 0 };
 
-    /// Forgets what was recorded, and a failure.
+    /// Forgets the recorded bits, and a failure.
     fn begin_anew(&mut self)
         ensures { is_empty self.new };
 

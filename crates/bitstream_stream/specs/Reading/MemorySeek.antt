@@ -31,7 +31,7 @@ pub record StandsAt {E : Type 0} (o : Order) (place : ℕ) (old new : SliceReade
   pub bytes : memory_bytes new ≡ memory_bytes old
   pub refusals : ((memory_source o).state new).refusals ≡ ((memory_source o).state old).refusals
 
--- Going to a place, if there is one. It may be the end, but not beyond it: then the reader stays as it was.
+-- Going to a place, if there is one. It may be the end, but not beyond it: then the reader is unchanged.
 pub data GoesWithin {E : Type 0} (o : Order) (place : Option ℕ) (old : SliceReader E) (result : Result ℕ Error)
     (new : SliceReader E) : Type 0 where
   was_done : (at : ℕ) → place ≡ Some at → at ≤ 8 * length (memory_bytes old) → result ≡ Ok at → StandsAt o at old new

@@ -8,7 +8,7 @@ use Rattle.bitstream_stream.specs.Reading.Memory.{held, rest_bits, EndsInMemory}
 use Rattle.bitstream_stream.specs.Reading.MemorySource.{memory_source}
 use Rattle.bitstream_stream.specs.declared.read.slice_reader.SliceReader.{SliceReader}
 
--- a reader goes on by n bits, which are there
+-- a reader moves on by n bits, which are there
 pub record GoesOn {E : Type 0} (n : ℕ) (old new : SliceReader E) : Type 0 where
   pub enough : old.bit + n ≤ 8 * length old.bytes.now
   pub all : new.all.now ≡ old.all.now

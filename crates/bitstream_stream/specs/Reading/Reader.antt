@@ -30,7 +30,7 @@ reader_state o port queue queued taken failed = record {
 abbrev pub queued_number : {R E : Type 0} → Order → BitReader R E → ℕ
 queued_number o r = first_part o r.queue 8 r.queued
 
--- what the states of a reader mean
+-- the meaning of the states of a reader
 abbrev pub reader_source : {R E : Type 0} → InputStream R → Order → BitSource (BitReader R E)
 reader_source I o = record {
   order = o;
@@ -61,7 +61,7 @@ queued_bits reader = reader.queued
 abbrev pub requests_made : {R E : Type 0} → BitReader R E → ℕ
 requests_made reader = requests_count reader.port
 
--- the number of turns that a reader made to read unary numbers
+-- the number of iterations that a reader made to read unary numbers
 abbrev pub turns_made : {R E : Type 0} → BitReader R E → ℕ
 turns_made reader = reader.turns.count
 

@@ -29,7 +29,7 @@ pub record ReaderState : Type 0 where
 abbrev pub Demands : ReaderState → Type 0
 Demands s = s.fetched ≡ (s.taken + 7) / 8
 
--- what was fetched and not taken is queued
+-- the bits fetched and not taken are queued
 abbrev pub QueuesRest : ReaderState → Type 0
 QueuesRest s = s.failed ≡ false → s.taken + length s.queue ≡ 8 * s.fetched
 
@@ -37,7 +37,7 @@ QueuesRest s = s.failed ≡ false → s.taken + length s.queue ≡ 8 * s.fetched
 abbrev pub Empties : ReaderState → Type 0
 Empties s = s.failed ≡ true → s.queue ≡ []
 
--- what the states of a reader mean, with the laws
+-- the meaning of the states of a reader, with the laws
 pub record BitSource (R : Type 0) : Type 1 where
   pub order : Order
   pub state : R → ReaderState
@@ -136,7 +136,7 @@ pub record MemoryRefused {A : Type 0} (o : Order) (decoder : Decoder A) (old : R
   pub references : new.references ≡ old.references
   pub failed : new.failed ≡ true
 
--- one read, by what the call means; `grows` says whether the call asks for memory of its own
+-- one read, from the meaning of the call; `grows` is true if the call allocates
 pub data ReadOutcome {R A : Type 0} (K : BitSource R) (grows : Bool) (decoder : Decoder A) (old : R)
     (result : Result A Error) (new : R) : Type 0 where
   had_failed : HadFailed decoder (K.state old) result (K.state new) → ReadOutcome K grows decoder old result new

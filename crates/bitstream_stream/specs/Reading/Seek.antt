@@ -16,7 +16,7 @@ use Rattle.bitstream_stream.specs.Alignment.{to_boundary}
 use Rattle.bitstream_stream.specs.Reading.Place.{bit_meant, place_of}
 use Rattle.bitstream_stream.specs.Reading.Reads.{ReaderState, BitSource, bits_left}
 
--- what the states of a reader that seeks mean
+-- the meaning of the states of a reader that seeks
 pub record SeekerOf (R : Type 0) : Type 1 where
   pub source : BitSource R
   -- the position in bytes of its stream, and all bytes of its stream, if they are known
@@ -25,7 +25,7 @@ pub record SeekerOf (R : Type 0) : Type 1 where
   -- the refusals that its stream may make of a seek to this place
   pub may : SeekFrom → Refusal → Type 0
 
--- what the states of a `BitReader` that seeks mean
+-- the meaning of the states of a `BitReader` that seeks
 abbrev pub reader_seeker : {S E : Type 0} → BitSource (BitReader S E) → (S → Option ℕ) → (S → Option (List ℕ))
     → (SeekFrom → Refusal → Type 0) → SeekerOf (BitReader S E)
 reader_seeker source position bytes may = record {
@@ -35,7 +35,7 @@ reader_seeker source position bytes may = record {
   may = may;
 }
 
--- wherever the position and the bytes of the stream are known, the bytes left are the ones after the position
+-- if the position and the bytes of the stream are known, the bytes left are the ones after the position
 abbrev pub TellsRest : {R : Type 0} → SeekerOf R → Type 0
 TellsRest {R} K = (r : R) (at : ℕ) (xs : List ℕ) → K.position r ≡ Some at → K.bytes r ≡ Some xs
     → (K.source.state r).bytes ≡ Some (drop at xs)
@@ -69,7 +69,8 @@ IsFromHere to = ⊥
 abbrev pub KnowsStart : SeekFrom → ReaderState → Type 0
 KnowsStart to s = IsFromHere to → s.failed ≡ false
 
--- The reader reads on from the bit at this place. Bits taken and bytes fetched are counted anew from the byte sought.
+-- The reader continues from the bit at this place. The counts of bits taken and bytes fetched start again at
+-- the byte sought.
 pub record Lands {R : Type 0} (K : SeekerOf R) (place : ℕ) (old new : R) : Type 0 where
   pub failed : (K.source.state new).failed ≡ false
   pub taken : (K.source.state new).taken ≡ place % 8
@@ -140,7 +141,7 @@ pub record OnlyAsked {R : Type 0} (K : SeekerOf R) (old new : R) : Type 0 where
   pub bytes : Keeps (K.bytes old) (K.bytes new)
 
 -- The reader has failed, with the refusals that it had. The stream is at its end, if that is known, and the
--- fetched bytes are counted anew from there.
+-- count of fetched bytes starts again there.
 pub record Fails {R : Type 0} (K : SeekerOf R) (old new : R) : Type 0 where
   pub failed : (K.source.state new).failed ≡ true
   pub queue : (K.source.state new).queue ≡ []
@@ -149,7 +150,7 @@ pub record Fails {R : Type 0} (K : SeekerOf R) (old new : R) : Type 0 where
   pub references : (K.source.state new).references ≡ (K.source.state old).references
   pub ended : (xs : List ℕ) → Tells K old xs → (K.source.state new).bytes ≡ Some []
 
--- what a reader becomes whose place is out of range: from `Current` it stays as it was, from `End` it has failed
+-- a reader whose place is out of range: for `Current` it is unchanged, for `End` it has failed
 abbrev pub Stops : {R : Type 0} → SeekerOf R → SeekFrom → R → R → Type 0
 Stops K (Start x) old new = ⊥
 Stops K (End n) old new = Fails K old new
@@ -186,7 +187,7 @@ pub data AsksPlace {R : Type 0} (K : SeekerOf R) (to : SeekFrom) (old : R) (resu
   was_rejected : (K.source.state old).failed ≡ false → Means K to old None → result ≡ Err Place → OnlyAsked K old new
       → AsksPlace K to old result new
 
--- the reader begins anew at the position that its stream returned for a seek, with no bits queued
+-- the reader starts again at the position that its stream returned for a seek, with no bits queued
 pub record Begins {R : Type 0} (K : SeekerOf R) (to : SeekFrom) (old : R) (at : ℕ) (new : R) : Type 0 where
   pub failed : (K.source.state new).failed ≡ false
   pub queue : (K.source.state new).queue ≡ []

@@ -20,15 +20,15 @@ pub record ByteReaderState : Type 0 where
   -- the references through which the stream is reached
   pub references : List Reference
 
--- what the states of a reader of bytes mean
+-- the meaning of the states of a reader of bytes
 pub record ByteSource (R : Type 0) : Type 1 where
   pub order : Order
   pub state : R → ByteReaderState
   -- the refusals that its stream may make
   pub may : Refusal → Type 0
 
--- a call that reads bytes: what it finds at the start of the bytes to read, and whether it may allocate once it has
--- taken just these bytes
+-- a call that reads bytes: its result on the bytes left, and whether it may allocate once it has taken just
+-- these bytes
 pub record ByteDecoder (A : Type 0) : Type 0 where
   pub reads : List ℕ → Prefix A
   pub allocates : List ℕ → Bool
@@ -94,7 +94,7 @@ pub record ByteMemoryRefused {A : Type 0} (decoder : ByteDecoder A) (old : ByteR
   pub few : decoder.reads bytes ≡ Incomplete
   pub took : BytesTaken old bytes new
 
--- one read of bytes, by what the call means; `grows` says whether the call asks for memory of its own
+-- one read of bytes, from the meaning of the call; `grows` is true if the call allocates
 pub data ByteReadOutcome {R A : Type 0} (K : ByteSource R) (grows : Bool) (decoder : ByteDecoder A) (old : R)
     (result : Result A Error) (new : R) : Type 0 where
   was_done : ByteReadDone decoder (K.state old) result (K.state new) → ByteReadOutcome K grows decoder old result new

@@ -10,7 +10,7 @@ use Rattle.bitstream_order.specs.Fault.{refusal_of}
 use Rattle.bitstream_order.specs.Refusal.{Refusal}
 use Rattle.bitstream_stream.specs.Writing.Sink.{IsWithin, IsPastLimit}
 
--- what the states of a sink of bytes mean, with the laws
+-- the meaning of the states of a sink of bytes, with the laws
 pub record ByteSink (S : Type 0) : Type 1 where
   pub order : Order
   -- the second state is the first with these bytes appended
@@ -58,7 +58,7 @@ pub record ByteWriteRefused {S : Type 0} (K : ByteSink S) (old : S) (bytes : Lis
   pub refusals : K.refusals new ≡ refusal ∷ K.refusals old
   pub references : K.references new ≡ K.references old
 
--- what one call does that writes these bytes
+-- the effect of one call that writes these bytes
 pub data ByteWrites {S T : Type 0} (K : ByteSink S) (bytes : List ℕ) (old : S) (result : Result T Error) (new : S) :
     Type 0 where
   past_limit : IsPastLimit K.limit (K.len old + length bytes) → result ≡ Err CounterOverflow

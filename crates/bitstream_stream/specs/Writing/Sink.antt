@@ -24,7 +24,7 @@ abbrev pub IsFullLimit : Option ℕ → Type 0
 IsFullLimit None = ⊤
 IsFullLimit (Some most) = (n : ℕ) × (most + 1 ≡ 8 * n)
 
--- what the states of a sink mean, with the laws
+-- the meaning of the states of a sink, with the laws
 pub record Sink (S : Type 0) : Type 1 where
   pub order : Order
   -- the second state is the first with these bits appended
@@ -88,7 +88,7 @@ pub record WriteRefused {S : Type 0} (K : Sink S) (old : S) (x : List Bool) (err
   pub failed : K.failed new ≡ true
   pub references : K.references new ≡ K.references old
 
--- what one write call does, by what it means
+-- the effect of one write call, from its encoder
 pub data Writes {S T : Type 0} (K : Sink S) (encoder : Encoder) (old : S) (result : Result T Error) (new : S) :
     Type 0 where
   had_failed : K.failed old ≡ true → result ≡ Err Failed → Kept K old new → Writes K encoder old result new

@@ -34,7 +34,7 @@ queued_bits writer = writer.queued
 abbrev pub queue_number : {W E : Type 0} → BitWriter W E → ℕ
 queue_number writer = writer.queue
 
--- whether a writer has failed
+-- true if a writer has failed
 abbrev pub has_failed : {W E : Type 0} → BitWriter W E → Bool
 has_failed writer = writer.failed
 

@@ -117,7 +117,8 @@ impl<R: SeekSource, E: Endianness> Seek for ByteReader<R, E> {
             (R.position (byte_reader_stream self.new)) (R.bytes (byte_reader_stream self.old)) to result }
         // All bytes of the stream stay the same, if they are known.
         ensures bytes { Keeps (R.bytes (byte_reader_stream self.old)) (R.bytes (byte_reader_stream self.new)) }
-        // One request is made. Fetched bytes are counted anew, or the error has the refusal's kind.
+        // One request is made. The count of fetched bytes starts again, or the error has the
+        // refusal's kind.
         ensures seeks { ByteSeeks (MayRefuseSeek R.stream R.refuses_seek to)
             (byte_reader_port R.stream self.old) result (byte_reader_port R.stream self.new) }
     {

@@ -74,7 +74,6 @@ impl<R: Source, E: Endianness> BitReader<R, E> {
             ≡ new_reader_state (R.stream.remaining reader) (R.stream.references reader) }
         // No request was made yet.
         ensures requests { requests_made result ≡ 0 }
-        // No turn was taken yet to read a unary number.
         ensures turns { turns_made result ≡ 0 }
     {
         BitReader {
@@ -97,7 +96,6 @@ impl<R: Source, E: Endianness> BitReader<R, E> {
             ≡ new_reader_state (R.stream.remaining reader) (R.stream.references reader) }
         // No request was made yet.
         ensures requests { requests_made result ≡ 0 }
-        // No turn was taken yet to read a unary number.
         ensures turns { turns_made result ≡ 0 }
     {
         BitReader::new(reader)
@@ -430,7 +428,7 @@ impl<R: Source, E: Endianness> BitRead for BitReader<R, E> {
         // before it. Or returns an error.
         ensures reads { Reads ⟦<Self as BitRead>⟧.source (unary_decoder (S.BITS == 1))
             self.old result self.new }
-        // If it succeeds, it took one turn more than it fetched bytes.
+        // If it succeeds, it took one iteration more than the number of bytes that it fetched.
         ensures turns { TurnsByBytes self.old result self.new }
     {
         if self.failed {
@@ -439,8 +437,8 @@ impl<R: Source, E: Endianness> BitRead for BitReader<R, E> {
         let stop = S::BITS == 1;
         let queue = self.queue;
         let queued = self.queued;
-        // The reader is what it is to be after a refused request or a run too long: it has failed,
-        // and its queue is empty.
+        // The reader is in the state after a refused request or a run too long: it has failed, and
+        // its queue is empty.
         self.queue = 0;
         self.queued = 0;
         self.failed = true;

@@ -81,7 +81,7 @@ impl<'a, E: Endianness> SliceReader<'a, E> {
         }
     }
 
-    /// Returns how many bits were taken.
+    /// Returns the number of bits taken.
     fn taken(&self) -> u128
         ensures { result ≡ taken_bits self.now.all.now self.now.bytes.now self.now.bit }
     {
@@ -127,7 +127,7 @@ impl<'a, E: Endianness> SliceReader<'a, E> {
         self.bytes.is_empty()
     }
 
-    /// Returns the bytes of which no bit is taken, also of a reader that has failed.
+    /// Returns the bytes of which no bit is taken, even if the reader has failed.
     pub fn rest(&self) -> &'a [u8]
         ensures { ((memory_source E.order).state self.now).bytes ≡ Some result.now }
     {

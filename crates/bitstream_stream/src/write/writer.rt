@@ -353,7 +353,7 @@ impl<W: Target, E: Endianness> BitWrite for BitWriter<W, E> {
             return Err(Error::Failed);
         }
         let stop = S::BITS == 1;
-        // Long runs go in words of 64 bits, none of which is the stop bit.
+        // Long runs are written in words of 64 bits that differ from the stop bit.
         for _done in 0..value / 64 {
             self.push(run_without_stop::<u64>(stop, 64), 64)?;
         }

@@ -21,7 +21,7 @@ enum Node<S> {
 /// leaf: the bit 0 leads to the first side of a branch, and the bit 1 to the second.
 ///
 /// If several leaves have the same symbol, the path of the first one, from the side of 0, is
-/// written. A symbol that no leaf has is written as nothing. However deep a tree is, reading,
+/// written. For a symbol that no leaf has, nothing is written. However deep a tree is, reading,
 /// writing and dropping it take no more stack.
 ///
 /// # Examples

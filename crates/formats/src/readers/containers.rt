@@ -54,7 +54,7 @@ impl<'a> OggUnits<'a> {
         Ok("unknown")
     }
 
-    /// Keeps a stream, in place of one of its number.
+    /// Keeps a stream, and replaces one of the same number.
     fn keep(&mut self, stream: Stream) -> Result<(), AllocError> {
         for kept in self.streams.as_mut_slice() {
             if kept.serial == stream.serial {

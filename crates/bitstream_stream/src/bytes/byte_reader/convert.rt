@@ -22,7 +22,7 @@ impl<R: Source, E: Endianness> ByteReader<R, E> {
         self.port.into_inner()
     }
 
-    /// Lends the stream. The reader does not count what is then taken from it.
+    /// Lends the stream. The reader does not count bytes taken from it meanwhile.
     pub fn reader(&mut self) -> &mut R
         // The reader's stream is lent.
         ensures stream { result.now ≡ byte_reader_stream self.old }
@@ -45,8 +45,8 @@ impl<R: Source, E: Endianness> ByteReader<R, E> {
         BitReader::new(self.into_reader())
     }
 
-    /// Returns a new reader of bits over the stream, in the same order. When it is dropped, this one
-    /// goes on with the bytes that it left.
+    /// Returns a new reader of bits over the stream, in the same order. When it is dropped, this
+    /// one continues with the bytes that it left.
     ///
     /// # Warning
     ///

@@ -22,7 +22,7 @@ impl<W: Target, E: Endianness> ByteWriter<W, E> {
         self.port.into_inner()
     }
 
-    /// Lends the stream. The writer does not count what is then added to it.
+    /// Lends the stream. The writer does not count bytes added to it meanwhile.
     pub fn writer(&mut self) -> &mut W
         // The writer's stream is lent.
         ensures stream { result.now ≡ byte_writer_stream self.old }

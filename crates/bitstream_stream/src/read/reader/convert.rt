@@ -34,7 +34,7 @@ impl<R: Source, E: Endianness> BitReader<R, E> {
     }
 
     /// Lends the stream, if the reader is at a byte boundary and has not failed. The reader does
-    /// not count what is then taken from the stream.
+    /// not count bytes taken from the stream meanwhile.
     pub fn reader(&mut self) -> Option<&mut R>
         // The result is `Some` exactly if the reader has not failed and the bits taken are whole
         // bytes.
@@ -54,8 +54,8 @@ impl<R: Source, E: Endianness> BitReader<R, E> {
     }
 
     /// Skips the bits up to the next byte boundary, as [`byte_align`](BitRead::byte_align) does,
-    /// and lends the stream, even if the reader has failed. The reader does not count what is then
-    /// taken from the stream.
+    /// and lends the stream, even if the reader has failed. The reader does not count bytes taken
+    /// from the stream meanwhile.
     pub fn aligned_reader(&mut self) -> &mut R
         // The reader's stream is lent.
         ensures stream { result.now ≡ reader_stream self.old }
@@ -68,9 +68,9 @@ impl<R: Source, E: Endianness> BitReader<R, E> {
     }
 
     /// Returns a new reader of bytes over the stream, in the same order, if this reader is at a
-    /// byte boundary and has not failed: so no bit is lost. To pass over the bits up to a boundary call
-    /// [`byte_align`](BitRead::byte_align) first. When the new one is dropped, this one goes on with
-    /// the bytes that it left. It does not count the bytes that the new one took.
+    /// byte boundary and has not failed: so no bit is lost. To skip the bits up to a boundary, call
+    /// [`byte_align`](BitRead::byte_align) first. When the new reader is dropped, this one
+    /// continues with the bytes that it left. It does not count the bytes that the new one took.
     pub fn bytereader<'a>(&'a mut self) -> Option<ByteReader<Lent<'a, R>, E>>
         // The result is `Some` exactly if the reader has not failed and the bits taken are whole
         // bytes.

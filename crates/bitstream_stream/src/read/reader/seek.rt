@@ -18,13 +18,13 @@ impl<R: SeekSource, E: Endianness> BitReader<R, E> {
 
     /// Goes to a place in bits, and returns it: x for `Start(x)`, n bits back from the end of the
     /// stream for `End(n)` (unlike in std), and d bits after the reader's place for `Current(d)`.
-    /// [`bit_place`] computes it. The bits taken and the bytes fetched are then counted anew from
+    /// [`bit_place`] computes it. The counts of bits taken and bytes fetched then start again at
     /// the byte sought.
     ///
     /// # Errors
     ///
-    /// - `Place` if the place is below 0 or above 2^64 - 1. From `Current` the reader stays as it
-    ///   was; from `End` it has failed, and the stream is at its end.
+    /// - `Place` if the place is below 0 or above 2^64 - 1. From `Current` the reader is unchanged;
+    ///   from `End` it has failed, and the stream is at its end.
     /// - `EndOfInput`, `OutOfMemory` or `Stream` if the stream refuses a request. The reader has
     ///   failed then, and the stream is as the refusal left it.
     /// - `Failed` for `Current` if the reader has failed. `Start` and `End` make it read again.
@@ -64,7 +64,7 @@ impl<R: SeekSource, E: Endianness> BitReader<R, E> {
     ///
     /// # Errors
     ///
-    /// - `Place` if the place is below 0 or above 2^64 - 1. The reader stays as it was.
+    /// - `Place` if the place is below 0 or above 2^64 - 1. The reader is unchanged.
     /// - `OutOfMemory` or `Stream` if the stream refuses the request. The reader has failed then,
     ///   and the stream is as the refusal left it.
     /// - `Failed` if the reader has failed.
@@ -136,7 +136,7 @@ impl<R: SeekSource, E: Endianness> BitReader<R, E> {
         Ok(place)
     }
 
-    /// Drops the queue, and seeks to a position in bytes. The counts begin anew there.
+    /// Drops the queue, and seeks to a position in bytes. The counts start again there.
     fn seek_bytes(&mut self, to: SeekFrom) -> Result<u64, Error>
         ensures { SeeksBytes (reader_seeker ⟦<Self as BitRead>⟧.source R.position R.bytes
             (MayRefuseSeek R.stream R.refuses_seek)) to self.old result self.new }
@@ -145,7 +145,8 @@ impl<R: SeekSource, E: Endianness> BitReader<R, E> {
         self.drop_queue();
         match self.port.seek(to) {
             Ok(at) => {
-                // Fetched bytes are counted anew from here, so the bits taken are, too.
+                // The count of fetched bytes starts again here, so the count of bits taken does,
+                // too.
                 self.taken = GhostCount::new();
                 self.failed = false;
                 Ok(at)

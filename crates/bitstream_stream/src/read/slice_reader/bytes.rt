@@ -85,8 +85,8 @@ impl<'a, E: Endianness> SliceReader<'a, E> {
         Ok(&bytes[..count])
     }
 
-    /// Takes the next `count` bytes, as [`take_bytes`](SliceReader::take_bytes) does, and returns a reader
-    /// of them alone: its end is theirs.
+    /// Takes the next `count` bytes, as [`take_bytes`](SliceReader::take_bytes) does, and returns a
+    /// reader of only these bytes.
     ///
     /// # Errors
     ///

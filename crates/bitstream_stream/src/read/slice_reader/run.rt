@@ -25,14 +25,14 @@ pub(super) fn run_in_window<E: Endianness>(bytes: &[u8], bit: u32, stop: bool) -
     E::lead_behind(load_eight::<E>(bytes), bit, stop)
 }
 
-/// Returns the number of 64 bits of which none is `stop`.
+/// Returns 64 bits that differ from `stop`, as a number.
 fn window_without<E: Endianness>(stop: bool) -> u64
     ensures { word E.order 64 result ≡ replicate 64 (not stop) }
 {
     if stop { 0 } else { u64::MAX }
 }
 
-/// Returns how many of the first bytes have no bit that is `stop`, counted eight at a time.
+/// Returns the number of first bytes that have no bit equal to `stop`, counted eight at a time.
 fn bytes_without<E: Endianness>(bytes: &[u8], stop: bool) -> usize
     ensures within { result ≤ length bytes.now }
     // Their bits come before the first one that is `stop`.
@@ -47,7 +47,7 @@ fn bytes_without<E: Endianness>(bytes: &[u8], stop: bool) -> usize
     at
 }
 
-/// Returns a number and how many bits of some bytes come before the first one that is `stop`.
+/// Returns `first` plus the number of bits other than `stop` at the start of some bytes.
 fn run_from<E: Endianness>(bytes: &[u8], first: u32, stop: bool) -> u128
     ensures { result ≡ first + lead stop (bits E.order bytes.now) }
 {

@@ -20,9 +20,9 @@ impl<'a, E: Endianness> SliceReader<'a, E> {
     ///
     /// # Errors
     ///
-    /// - `Place` if the place is below 0, after the end, or above 2^64 - 1. The reader stays as it
-    ///   was.
-    /// - `Failed` for `Current` if the reader has failed. It stays as it was.
+    /// - `Place` if the place is below 0, after the end, or above 2^64 - 1. The reader is
+    ///   unchanged.
+    /// - `Failed` for `Current` if the reader has failed. It is unchanged.
     ///
     /// # Examples
     ///
@@ -58,7 +58,7 @@ impl<'a, E: Endianness> SliceReader<'a, E> {
         }
     }
 
-    /// Returns the place in bits: how many were read.
+    /// Returns the place in bits: the number of bits read.
     ///
     /// # Errors
     ///
@@ -87,7 +87,7 @@ impl<'a, E: Endianness> SliceReader<'a, E> {
         }
     }
 
-    /// Returns how many bytes hold the bits that were taken.
+    /// Returns the number of bytes that hold the bits taken.
     fn fetched(&self) -> u64
         ensures { result ≡ ((memory_source E.order).state self.now).fetched }
     {

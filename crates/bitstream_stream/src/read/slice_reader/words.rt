@@ -95,7 +95,7 @@ impl<'a, E: Endianness> SliceReader<'a, E> {
         if bits > U::BITS_SIZE {
             return Err(Error::ReadBits);
         }
-        // Eight bytes have 56 bits, wherever in the first one these begin.
+        // Eight bytes have 56 bits, at any place in the first one.
         if bits > 56 {
             return self.read_slow(bits);
         }

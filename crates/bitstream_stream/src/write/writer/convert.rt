@@ -32,7 +32,7 @@ impl<W: Target, E: Endianness> BitWriter<W, E> {
     }
 
     /// Lends the stream, if the writer is at a byte boundary and has not failed. The writer does
-    /// not count what is then added to the stream.
+    /// not count bytes added to the stream meanwhile.
     pub fn writer(&mut self) -> Option<&mut W>
         // The result is `Some` exactly if the writer has not failed and the bits written are whole
         // bytes.
@@ -52,7 +52,7 @@ impl<W: Target, E: Endianness> BitWriter<W, E> {
     }
 
     /// Writes zeros up to the next byte boundary, as [`byte_align`](BitWrite::byte_align) does, and
-    /// lends the stream. The writer does not count what is then added to the stream.
+    /// lends the stream. The writer does not count bytes added to the stream meanwhile.
     ///
     /// # Errors
     ///
@@ -72,8 +72,8 @@ impl<W: Target, E: Endianness> BitWriter<W, E> {
     }
 
     /// Returns a new writer of bytes to the stream, in the same order, if this writer is at a byte
-    /// boundary and has not failed: so no bit is lost. Call [`byte_align`](BitWrite::byte_align) first.
-    /// This writer does not count what the new one writes.
+    /// boundary and has not failed: so no bit is lost. Call [`byte_align`](BitWrite::byte_align)
+    /// first. This writer does not count the bytes that the new one writes.
     pub fn bytewriter<'a>(&'a mut self) -> Option<ByteWriter<Lent<'a, W>, E>>
         // The result is `Some` exactly if the writer has not failed and the bits written are whole
         // bytes.
@@ -131,7 +131,7 @@ impl<W: Target, E: Endianness> BitWriter<W, E> {
         // or the writer had failed.
         ensures flushes { Flushes (MayRefuseWrite W.stream) (writer_state W.stream self.old) result
             (writer_state W.stream self.new) }
-        // If it succeeds, the stream did what it says that a flush does.
+        // If it succeeds, its effect is the one that the stream states for a flush.
         ensures flushed { OnOk result (W.stream.flushes (writer_stream self.old) (writer_stream self.new)) }
     {
         if self.failed {

@@ -32,7 +32,7 @@ impl<'a, E: Endianness> BitWriter<SliceMut<'a>, E> {
         capped(8 * self.written().len() as u128 + self.queued as u128)
     }
 
-    /// Returns how many bytes are free. Bits of an unfinished byte will take one of them.
+    /// Returns the number of free bytes. Bits of an unfinished byte will take one of them.
     pub fn bytes_left(&self) -> usize
         ensures { result ≡ slice_capacity (writer_stream self.now)
             - length (written_bytes (writer_stream self.now)) }

@@ -18,7 +18,7 @@ impl<W: Target, E: Endianness> BitWriter<W, E> {
         self.port.stream()
     }
 
-    /// Returns how many bits wait in the writer.
+    /// Returns the number of bits that wait in the writer.
     pub fn queued(&self) -> u32
         ensures bits { result ≡ queued_bits self.now }
         // It is below 8.
