@@ -1,10 +1,10 @@
 -- Numbers that are taken from bytes in memory.
-use Rattle.std.proofs.Common.{◌≡◌, ℕ, ◌+◌, ◌-◌, ◌*◌, ◌/◌, ◌^◌, ◌<◌, ◌≤◌, List, ◌++◌, length, take, drop, sym, ap, ap₂, ◌∙◌, subst, arith, take-append-drop, mod-lt, inl, inr}
+use Rattle.std.proofs.Common.{◌≡◌, ℕ, ◌+◌, ◌-◌, ◌*◌, ◌/◌, ◌^◌, ◌<◌, ◌≤◌, List, ◌++◌, length, take, drop, sym, ap, ap₂, ◌∙◌, subst, arith, take-append-drop, inl, inr}
 use Rattle.std.proofs.lemmas.Bool.{cases_lt}
 use Rattle.std.proofs.Math.Nat.{pow-le-pow_right}
 use Rattle.std.proofs.lemmas.List.{length-take-le, take_all, length-drop, drop-take, drop-drop, take-append-le}
 use Rattle.std.proofs.Math.Seq.{take-add}
-use Rattle.bitstream_number.specs.Word.{Order, High, Low, word, bits}
+use Rattle.bitstream_number.specs.Word.{Order, word, bits}
 use Rattle.bitstream_number.proofs.WordLemmas.{length-bits, bits-append}
 use Rattle.bitstream_order.specs.Parts.{piece, put_number}
 use Rattle.bitstream_order.proofs.PartLemmas.{put_word, put_below}
