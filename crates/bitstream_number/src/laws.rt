@@ -1,7 +1,7 @@
 //! Laws of words, bytes and numbers, whatever reads or writes them.
 //!
-//! The contract of each function is a law. A law of words has an empty body. A law of numbers makes
-//! the calls that it is about, for any type of its bound.
+//! The contract of each function is a law. A law that is only about words has an empty body. A law
+//! of numbers makes the calls that it is about, for any type of its bound.
 
 ghost use Rattle.std.specs.Prelude.{◌≡◌, ℕ, ℤ, pos, ◌+◌, ◌*◌, ◌%◌, ◌^◌, ◌<◌, ◌≤◌, ◌+ℤ◌, ◌*ℤ◌, ◌≤ℤ◌, ◌<ℤ◌, Bool, List, ◌++◌, length};
 ghost use Rattle.bitstream_number.specs.Word.{Order, High, Low, word, number, bits, bytes, FitsSignedBits, signed_word, signed_number, zig, zag};

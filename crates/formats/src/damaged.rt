@@ -8,7 +8,7 @@ use anyhow::Error;
 use std::alloc::{AllocError, Global};
 use std::fs;
 
-/// The number of times that an error came.
+/// An error, and the number of times that it came.
 #[derive(Drop)]
 struct Count {
     text: String,
