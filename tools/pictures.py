@@ -195,6 +195,7 @@ HOLDS = {
     "bitstream_callers": "callers that the guide shows",
     "bitstream_formats": "FLAC, H.264, AV1 and others",
     "bitfields_core": "layouts of bit fields",
+    "flac_codec": "FLAC subframes, lossless",
     "bitfields": "the program",
     "formats": "the program",
     "wav_header": "a whole program, printed from a description",

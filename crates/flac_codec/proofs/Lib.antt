@@ -1,0 +1,7 @@
+mod Rows
+pub mod FrameLemmas
+pub mod LosslessLemmas
+pub mod PredictLemmas
+pub mod ResultLemmas
+pub mod RiceLemmas
+pub mod SubframeLemmas

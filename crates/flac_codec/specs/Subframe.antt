@@ -1,0 +1,135 @@
+-- Subframes of FLAC (RFC 9639, section 9.2): their decoder, the calls that write them, and what an encoder owes.
+use Rattle.std.specs.Prelude.{◌≡◌, ◌⊎◌, ℕ, ℤ, ◌+◌, ◌-◌, ◌==◌, nat_lt, if◌then◌else◌, false, List, [], ◌∷◌, ◌++◌, replicate, Result, Ok, Err}
+use Rattle.std.specs.List.{flat_map}
+use Rattle.bitstream_io.specs.Callers.{Decoder, Encoder, ◌>>=◌, pure, stores, list_item, bit_decoder, unsigned_decoder, signed_decoder, items_decoder, part_then, Error, Order, High, OutOfMemory, bits, Done, Sink, WritesAll, AllAccepted, bit, unsigned, signed}
+use Rattle.bitstream_io.specs.ReadBack.{IsReadAs}
+use Rattle.flac_codec.specs.Predict.{fixed_weights, predicted, restored}
+use Rattle.flac_codec.specs.Rice.{rice_decoder, rice_writes}
+use Rattle.flac_codec.specs.declared.error.FlacError.{FlacError}
+use Rattle.flac_codec.specs.declared.error.FlacError.TheVariants.{ReservedBit, ReservedSubframe, ReservedResidual, ShortBlock}
+
+-- ---- the decoder
+
+-- samples that are not coded
+abbrev pub samples_decoder : Order → ℕ → ℕ → Decoder (List ℤ)
+samples_decoder o width count = items_decoder (list_item (signed_decoder o 64 width)) count
+
+-- one sample for all samples of the block
+abbrev pub constant_decoder : Order → ℕ → ℕ → Decoder (Result (List ℤ) FlacError)
+constant_decoder o width block_size = do
+  sample ← signed_decoder o 64 width
+  stores (Ok (replicate block_size sample))
+
+-- a subframe of samples that are not coded
+abbrev pub verbatim_decoder : Order → ℕ → ℕ → Decoder (Result (List ℤ) FlacError)
+verbatim_decoder o width block_size = do
+  samples ← samples_decoder o width block_size
+  pure (Ok samples)
+
+-- Rice numbers after their parameter; the parameter 15 stands for numbers that are not coded
+abbrev pub numbers_decoder : Order → ℕ → ℕ → Decoder (Result (List ℤ) FlacError)
+numbers_decoder o count parameter =
+    if parameter == 15 then pure (Err ReservedResidual)
+    else items_decoder (list_item (rice_decoder o parameter)) count >>= (λ numbers. pure (Ok numbers))
+
+-- a residual after its partition order, which must be 0: one partition
+abbrev pub partition_decoder : Order → ℕ → ℕ → Decoder (Result (List ℤ) FlacError)
+partition_decoder o count partition_order =
+    if partition_order == 0 then unsigned_decoder o 32 4 >>= numbers_decoder o count
+    else pure (Err ReservedResidual)
+
+-- a residual of `count` numbers
+abbrev pub residual_decoder : Order → ℕ → Decoder (Result (List ℤ) FlacError)
+residual_decoder o count = unsigned_decoder o 8 2 >>= (λ coding.
+    if coding == 0 then unsigned_decoder o 32 4 >>= partition_decoder o count
+    else pure (Err ReservedResidual))
+
+-- the first samples, and the residual of the others after a fixed prediction
+abbrev pub fixed_decoder : Order → ℕ → ℕ → ℕ → Decoder (Result (List ℤ) FlacError)
+fixed_decoder o width block_size order =
+    if nat_lt block_size order then pure (Err ShortBlock)
+    else samples_decoder o width order >>= (λ first.
+    residual_decoder o (block_size - order) >>= part_then (λ rest.
+    stores (Ok (restored (predicted (fixed_weights order)) first rest))))
+
+-- a subframe of a type after its header
+abbrev pub kind_decoder : Order → ℕ → ℕ → ℕ → Decoder (Result (List ℤ) FlacError)
+kind_decoder o width block_size kind =
+    if kind == 0 then constant_decoder o width block_size
+    else if kind == 1 then verbatim_decoder o width block_size
+    else if nat_lt kind 8 then pure (Err ReservedSubframe)
+    else if nat_lt 12 kind then pure (Err ReservedSubframe)
+    else fixed_decoder o width block_size (kind - 8)
+
+-- a subframe after its first bit: its type, and that it has no wasted bits
+abbrev pub typed_decoder : Order → ℕ → ℕ → Decoder (Result (List ℤ) FlacError)
+typed_decoder o width block_size = do
+  kind ← unsigned_decoder o 32 6
+  wasted ← bit_decoder
+  if wasted then pure (Err ReservedBit) else kind_decoder o width block_size kind
+
+-- a subframe of `block_size` samples of `width` bits
+abbrev pub subframe_decoder : Order → ℕ → ℕ → Decoder (Result (List ℤ) FlacError)
+subframe_decoder o width block_size = do
+  reserved ← bit_decoder
+  if reserved then pure (Err ReservedBit) else typed_decoder o width block_size
+
+-- ---- the calls that write
+
+-- a sample in `width` bits
+abbrev pub sample_writes : Order → ℕ → ℤ → List Encoder
+sample_writes o width sample = signed o 64 width sample ∷ []
+
+-- samples, one after another
+abbrev pub samples_writes : Order → ℕ → List ℤ → List Encoder
+samples_writes o width samples = flat_map (sample_writes o width) samples
+
+-- Rice numbers
+abbrev pub numbers_writes : Order → ℕ → List ℤ → List Encoder
+numbers_writes o parameter numbers = flat_map (rice_writes o parameter) numbers
+
+-- the header of a subframe of a type with no wasted bits, and then its body
+abbrev pub headed : Order → ℕ → List Encoder → List Encoder
+headed o kind body = bit false ∷ unsigned o 32 6 kind ∷ bit false ∷ body
+
+-- a constant subframe
+abbrev pub constant_writes : Order → ℕ → ℤ → List Encoder
+constant_writes o width sample = headed o 0 (signed o 64 width sample ∷ [])
+
+-- a verbatim subframe
+abbrev pub verbatim_writes : Order → ℕ → List ℤ → List Encoder
+verbatim_writes o width samples = headed o 1 (samples_writes o width samples)
+
+-- the header of a residual with one partition: its coding, its partition order and its parameter
+abbrev pub residual_head : Order → ℕ → List Encoder
+residual_head o parameter = unsigned o 8 2 0 ∷ unsigned o 32 4 0 ∷ unsigned o 32 4 parameter ∷ []
+
+-- a residual with one partition
+abbrev pub residual_writes : Order → ℕ → List ℤ → List Encoder
+residual_writes o parameter numbers = residual_head o parameter ++ numbers_writes o parameter numbers
+
+-- a subframe with a fixed prediction: its first samples, and the residual of the others
+abbrev pub fixed_writes : Order → ℕ → ℕ → ℕ → List ℤ → List ℤ → List Encoder
+fixed_writes o width order parameter first rest =
+    headed o (8 + order) (samples_writes o width first ++ residual_writes o parameter rest)
+
+-- ---- what an encoder owes
+
+-- Write calls were made in order, up to the first that failed. None of them has an error of its own. From their words the
+-- decoder reads the value, wherever they are written and whatever follows them.
+pub record WritesValue {S A E : Type 0} (K : Sink S) (decoder : Decoder (Result A E)) (value : A) (old : S)
+    (result : Result (Unit {0}) Error) (new : S) : Type 0 where
+  pub calls : List Encoder
+  pub written : WritesAll K calls old result new
+  pub accepted : (from : ℕ) → AllAccepted calls from
+  pub read : IsReadAs calls decoder (Ok value)
+
+-- the value was written so, or memory was refused before the first call
+abbrev pub Encodes : {S A E : Type 0} → Sink S → Decoder (Result A E) → A → S → Result (Unit {0}) Error → S → Type 0
+Encodes K decoder value old result new =
+    WritesValue K decoder value old result new ⊎ ((result ≡ Err OutOfMemory) × (new ≡ old))
+
+-- the decoder reads these samples at the start of the bytes: `count` samples of `width` bits
+abbrev pub Decodes : List ℕ → ℕ → ℕ → List ℤ → Type 0
+Decodes bytes width count samples =
+    (n : ℕ) × ((subframe_decoder High width count).reads 0 (bits High bytes) ≡ Done n (Ok (Ok samples)))

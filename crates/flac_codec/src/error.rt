@@ -1,0 +1,52 @@
+//! What is wrong with an encoded subframe or frame.
+
+use bitstream_io::Error;
+use std::alloc::AllocFailed;
+
+/// Why samples are not decoded.
+#[derive(Debug, Drop, thiserror::Error)]
+pub enum FlacError {
+    /// The bits were not read, or memory was refused.
+    #[error("{0}")]
+    Reader(Error),
+    /// A bit that must be 0 is 1.
+    #[error("a reserved bit is set")]
+    ReservedBit,
+    /// The type of the subframe is reserved, or is not decoded here.
+    #[error("the type of the subframe is reserved")]
+    ReservedSubframe,
+    /// The coding of the residual is reserved, or is not decoded here.
+    #[error("the coding of the residual is reserved")]
+    ReservedResidual,
+    /// The block has fewer samples than the prediction needs.
+    #[error("the block is too short for its prediction")]
+    ShortBlock,
+    /// The checksum of the frame's header is not that of its bits.
+    #[error("the checksum of the frame's header is wrong")]
+    HeaderChecksum,
+    /// The checksum of the frame is not that of its bits.
+    #[error("the checksum of the frame is wrong")]
+    FrameChecksum,
+}
+
+impl From<Error> for FlacError {
+    ghost use Rattle.flac_codec.specs.Errors.{becomes_flac};
+
+    ghost from_gives = { becomes_flac };
+
+    fn from(error: Error) -> FlacError {
+        FlacError::Reader(error)
+    }
+}
+
+impl<T: Drop> From<AllocFailed<T>> for FlacError {
+    ghost use Rattle.std.specs.Prelude.{◌≡◌};
+    ghost use Rattle.bitstream_io.specs.Callers.{OutOfMemory};
+    ghost use Rattle.flac_codec.specs.declared.error.FlacError.TheVariants.{Reader};
+
+    ghost from_gives = { λ _ error. error ≡ Reader OutOfMemory };
+
+    fn from(_refused: AllocFailed<T>) -> FlacError {
+        FlacError::Reader(Error::OutOfMemory)
+    }
+}

@@ -1,0 +1,23 @@
+//! Subframes of FLAC (RFC 9639, section 9.2), proved lossless: [`decode`] returns the samples that [`encode`] was given.
+//!
+//! `subframe_decoder` (`specs/Subframe.antt`) is the one definition of the format here. [`read_subframe`] returns what it
+//! says for every stream. [`write_subframe`] writes bits from which it reads the samples; which kind of subframe it
+//! chooses is left open, so a better choice needs no new contract.
+#![tactic(auto)]
+
+mod choice;
+mod error;
+mod laws;
+mod lossless;
+mod numbers;
+mod predict;
+mod reading;
+mod rice;
+mod writing;
+
+pub use error::FlacError;
+pub use laws::frame_round_trip;
+pub use lossless::{decode, encode, round_trip};
+pub use reading::read_subframe;
+pub use rice::{read_rice, rice_round_trip, write_rice};
+pub use writing::write_subframe;

@@ -1,0 +1,189 @@
+//! Subframes, read (section 9.2).
+ghost use Rattle.std.specs.Prelude.{◌≡◌, ◌≤◌, IfOk, replicate};
+ghost use Rattle.bitstream_io.specs.Callers.{result_map, GrowsOwn};
+ghost use Rattle.flac_codec.specs.Errors.{becomes_flac};
+ghost use Rattle.flac_codec.specs.Subframe.{constant_decoder, fixed_decoder, kind_decoder, numbers_decoder, partition_decoder, residual_decoder, subframe_decoder, typed_decoder, verbatim_decoder};
+
+use crate::error::FlacError;
+use crate::numbers::{read_numbers, read_samples};
+use crate::predict::restore_fixed;
+use bitstream_io::{BitRead, BitReadExt, Bits};
+use std::alloc::{AllocFailed, Global};
+
+/// Reads a subframe of `block_size` samples of `width` bits: constant, verbatim, or after a fixed prediction with one
+/// partition of Rice numbers.
+///
+/// # Errors
+///
+/// `ReservedBit` for a first bit 1 and for wasted bits, `ReservedSubframe` for another type, `ReservedResidual` for
+/// another coding of the residual, and `ShortBlock` for a block that is shorter than the order of its prediction. Those
+/// of the reader; memory was refused.
+pub fn read_subframe<R: BitRead>(
+    reader: &mut R,
+    alloc: Global,
+    width: u32,
+    block_size: u32,
+) -> Result<Vec<i64>, FlacError>
+    ensures { GrowsOwn R.source becomes_flac (subframe_decoder R.source.order width block_size)
+        reader.old (result_map (λ found. found.items) result) reader.new }
+{
+    let reserved = reader.read_bit()?;
+    if reserved {
+        return Err(FlacError::ReservedBit);
+    }
+    read_typed(reader, alloc, width, block_size)
+}
+
+/// Reads a subframe after its first bit.
+fn read_typed<R: BitRead>(
+    reader: &mut R,
+    alloc: Global,
+    width: u32,
+    block_size: u32,
+) -> Result<Vec<i64>, FlacError>
+    ensures { GrowsOwn R.source becomes_flac (typed_decoder R.source.order width block_size)
+        reader.old (result_map (λ found. found.items) result) reader.new }
+{
+    let kind = reader.read::<Bits<6>, u32>()?;
+    let wasted = reader.read_bit()?;
+    if wasted {
+        return Err(FlacError::ReservedBit);
+    }
+    read_kind(reader, alloc, width, block_size, kind)
+}
+
+/// Reads a subframe of a type after its header.
+fn read_kind<R: BitRead>(
+    reader: &mut R,
+    alloc: Global,
+    width: u32,
+    block_size: u32,
+    kind: u32,
+) -> Result<Vec<i64>, FlacError>
+    ensures { GrowsOwn R.source becomes_flac (kind_decoder R.source.order width block_size kind)
+        reader.old (result_map (λ found. found.items) result) reader.new }
+{
+    if kind == 0 {
+        return read_constant(reader, alloc, width, block_size);
+    }
+    if kind == 1 {
+        return read_verbatim(reader, alloc, width, block_size);
+    }
+    if kind < 8 {
+        return Err(FlacError::ReservedSubframe);
+    }
+    if kind > 12 {
+        return Err(FlacError::ReservedSubframe);
+    }
+    read_fixed(reader, alloc, width, block_size, kind - 8)
+}
+
+/// Returns a sample `count` times.
+fn repeated(alloc: Global, sample: i64, count: u32) -> Result<Vec<i64>, AllocFailed<i64>>
+    ensures { IfOk result (λ found. found.items ≡ replicate count sample) }
+{
+    let mut found = Vec::new(alloc);
+    for _ in 0..count {
+        found.push(sample)?;
+    }
+    Ok(found)
+}
+
+/// Reads one sample for all samples of the block.
+fn read_constant<R: BitRead>(
+    reader: &mut R,
+    alloc: Global,
+    width: u32,
+    block_size: u32,
+) -> Result<Vec<i64>, FlacError>
+    ensures { GrowsOwn R.source becomes_flac (constant_decoder R.source.order width block_size)
+        reader.old (result_map (λ found. found.items) result) reader.new }
+{
+    let sample = reader.read_var::<i64>(width)?;
+    Ok(repeated(alloc, sample, block_size)?)
+}
+
+/// Reads samples that are not coded.
+fn read_verbatim<R: BitRead>(
+    reader: &mut R,
+    alloc: Global,
+    width: u32,
+    block_size: u32,
+) -> Result<Vec<i64>, FlacError>
+    ensures { GrowsOwn R.source becomes_flac (verbatim_decoder R.source.order width block_size)
+        reader.old (result_map (λ found. found.items) result) reader.new }
+{
+    Ok(read_samples(reader, alloc, width, block_size)?)
+}
+
+/// Reads the first samples, and the residual of the others after a fixed prediction.
+fn read_fixed<R: BitRead>(
+    reader: &mut R,
+    alloc: Global,
+    width: u32,
+    block_size: u32,
+    order: u32,
+) -> Result<Vec<i64>, FlacError>
+    requires { order ≤ 4 }
+    ensures { GrowsOwn R.source becomes_flac (fixed_decoder R.source.order width block_size order)
+        reader.old (result_map (λ found. found.items) result) reader.new }
+{
+    if block_size < order {
+        return Err(FlacError::ShortBlock);
+    }
+    let mut samples = read_samples(reader, alloc, width, order)?;
+    let residual = read_residual(reader, alloc, block_size - order)?;
+    restore_fixed(&mut samples, residual.as_slice(), order)?;
+    Ok(samples)
+}
+
+/// Reads a residual of `count` numbers.
+fn read_residual<R: BitRead>(
+    reader: &mut R,
+    alloc: Global,
+    count: u32,
+) -> Result<Vec<i64>, FlacError>
+    ensures { GrowsOwn R.source becomes_flac (residual_decoder R.source.order count)
+        reader.old (result_map (λ found. found.items) result) reader.new }
+{
+    let coding = reader.read::<Bits<2>, u8>()?;
+    if coding == 0 {
+        let partition_order = reader.read::<Bits<4>, u32>()?;
+        return read_partition(reader, alloc, count, partition_order);
+    }
+    Err(FlacError::ReservedResidual)
+}
+
+/// Reads the one partition of a residual.
+fn read_partition<R: BitRead>(
+    reader: &mut R,
+    alloc: Global,
+    count: u32,
+    partition_order: u32,
+) -> Result<Vec<i64>, FlacError>
+    ensures { GrowsOwn R.source becomes_flac (partition_decoder R.source.order count partition_order)
+        reader.old (result_map (λ found. found.items) result) reader.new }
+{
+    if partition_order == 0 {
+        let parameter = reader.read::<Bits<4>, u32>()?;
+        return read_coded(reader, alloc, count, parameter);
+    }
+    Err(FlacError::ReservedResidual)
+}
+
+/// Reads the numbers of a partition after its parameter.
+fn read_coded<R: BitRead>(
+    reader: &mut R,
+    alloc: Global,
+    count: u32,
+    parameter: u32,
+) -> Result<Vec<i64>, FlacError>
+    requires { parameter ≤ 15 }
+    ensures { GrowsOwn R.source becomes_flac (numbers_decoder R.source.order count parameter)
+        reader.old (result_map (λ found. found.items) result) reader.new }
+{
+    if parameter == 15 {
+        return Err(FlacError::ReservedResidual);
+    }
+    Ok(read_numbers(reader, alloc, parameter, count)?)
+}
