@@ -1,4 +1,4 @@
--- What bytes that a size states say, by the code before it.
+-- The value in the bytes of an option, by the code before them.
 use Rattle.std.proofs.Common.{◌≡◌, ◌∙◌, ℕ, ◌*◌, List, length, take, Result, Ok, Err, refl, ap, sym, arith}
 use Rattle.std.proofs.Math.Seq.{take-length}
 use Rattle.std.proofs.lemmas.Bool.{ne_eqb}
@@ -15,7 +15,7 @@ use Rattle.bitstream_format.specs.declared.examples.dhcp_option.DhcpOption.TheVa
 use Rattle.bitstream_format.specs.declared.examples.dhcp_option.DhcpError.{DhcpError}
 use Rattle.bitstream_format.specs.declared.examples.dhcp_option.DhcpError.TheVariants.{Reader, UnknownOption, WrongSize}
 
--- what these bytes say behind this code
+-- the value in these bytes after this code
 abbrev pub said : ℕ → List ℕ → Result DhcpOption DhcpError
 said code xs = only (format_if_made (inside code)) WrongSize (λ x. Reader x) High (bits High xs)
 

@@ -1,4 +1,4 @@
--- Test vectors of the formats by hand. The bytes are of captures and of the documents that the comments name.
+-- Test vectors of the formats by hand. The bytes are from captures, and from the documents that the comments name.
 use Rattle.std.proofs.Common.{◌≡◌, ◌*◌, ◌++◌, ◌∷◌, [], ℕ, true, false, List, Some, None, Ok, Err, length, refl}
 use Rattle.std.specs.Prelude.{negsuc}
 use Rattle.bitstream_io.specs.Codec.{and_then}
@@ -62,7 +62,7 @@ rtp_other : Refuses rtp_header (64 ∷ 64 ∷ 241 ∷ 123 ∷ []) WrongVersion
 unfolding and_then digits digits_number bytes_of unsigned signed unsigned_decoder signed_decoder const_decoder bytes_decoder skip_decoder items_decoder
 rtp_other = refl
 
--- the first four bytes are those of RFC 7637, 3.2: a key, and Ethernet behind it
+-- a key, and Ethernet; the first four bytes are of RFC 7637, 3.2
 gre_row : IsRow gre
     (record { protocol = 25944; checksum = None; key = Some 1193046; sequence = None })
     (32 ∷ 0 ∷ 101 ∷ 88 ∷ 0 ∷ 18 ∷ 52 ∷ 86 ∷ [])

@@ -71,7 +71,7 @@ pad n = record {
   packs = λ o x fits. one-packs (zeros-written n);
 }
 
--- a unary number: so many bits, and then the stop bit
+-- a unary number: k bits, and then the stop bit
 abbrev pub unary : Bool → Plain ℕ
 unary stop = record {
   read = λ o. unary_decoder stop;

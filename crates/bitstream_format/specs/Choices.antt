@@ -1,4 +1,4 @@
--- One of several formats, as a part before says.
+-- One of several formats, chosen by a part before them.
 use Rattle.std.proofs.Common.{◌≡◌, Bool, true, false, [], ◌∷◌, Option, Some, None, Result, Ok, Err, subst}
 use Rattle.std.specs.Prelude.{if◌then◌else◌}
 use Rattle.bitstream_io.specs.Callers.{and_then, pure, Order, part_then, optional_writes, optional_size}
@@ -68,7 +68,7 @@ plain_case F wrap payload = record {
   packs = λ o s fits is. plain_case-packs F o wrap s (payload s) fits is;
 }
 
--- no case at all: the error that a read answers
+-- no case at all, and the error that a read returns
 abbrev pub refused : {S E : Type 0} → E → Parts S (Result S E) (λ s. Ok s)
 refused err = record {
   read = λ o. pure (Err err);

@@ -1,6 +1,6 @@
--- Formats as values: what is read, what is written, what fits, how many bits it takes, and the two laws. The law of round
--- trip says that what was written is read back; the law of length, that each call is accepted and how many bits they append.
--- A format is made of parts in a `do` block, and its laws come with it.
+-- Formats as values: what is read, what is written, what must fit, the number of bits, and two laws. By the law of round trip
+-- what was written is read back. By the law of length each call is accepted, and the calls append the stated number of bits.
+-- A format is made of parts in a `do` block, and its laws are proved with it.
 use Rattle.std.proofs.Common.{◌≡◌, ℕ, ◌+◌, ◌^◌, Bool, true, List, [], ◌∷◌, ◌++◌, length, Result, Ok, Err, refl, arith, subst}
 use Rattle.std.specs.Prelude.{nat_lt, if◌then◌else◌}
 use Rattle.bitstream_io.specs.Callers.{Decoder, Encoder, Done, and_then, pure, Order, High, align, word, const_decoder, plain, write_sequence, part_then}
@@ -32,7 +32,7 @@ others_of_facts (P ∷ Q ∷ Ps) Qs h = others_of_facts (Q ∷ Ps) Qs h.1
 
 -- ---- formats
 
--- a format of the values of A: `ok a` is what its read answers of the value a that was written
+-- a format of the values of A; its read returns `ok a` for the value a that was written
 pub record Format (A V : Type 0) (ok : A → V) : Type 1 where
   -- what is read
   pub read : Order → Decoder V
@@ -42,9 +42,9 @@ pub record Format (A V : Type 0) (ok : A → V) : Type 1 where
   pub size : A → ℕ
   -- what must fit
   pub facts : A → Facts
-  -- what was written is read back, wherever it stands, and just its bits are taken
+  -- what was written is read back at any place, and only its bits are taken
   pub round_trip : (o : Order) (a : A) → AllOf (facts a) → RoundTrip (read o) (write o a) (ok a)
-  -- each call is accepted, and together they append so many bits
+  -- each call is accepted, and together they append `size` bits
   pub packs : (o : Order) (a : A) → AllOf (facts a) → Packs (write o a) (size a)
 
 -- a format whose read has no error but the reader's
@@ -70,7 +70,7 @@ named Named F facts = record F {
 
 -- ---- parts
 
--- one part of a value of S: its read gives an A to the parts after it, and the whole read answers a W
+-- one part of a value of S; its read hands an A to the parts after it, and the whole read returns a W
 pub record Part (S W A : Type 0) : Type 1 where
   pub read : Order → (A → Decoder W) → Decoder W
   pub get : S → A
@@ -78,7 +78,7 @@ pub record Part (S W A : Type 0) : Type 1 where
   pub size : S → ℕ
   -- what must fit
   pub facts : S → Facts
-  -- what holds by how the value is made, as a count that is a length
+  -- what holds by the way the value is made: a count is a length
   pub made : S → Facts
   pub round_trip : (o : Order) (s : S) (f : A → Decoder W) (es : List Encoder) (w : W) → AllOf (facts s)
       → AllOf (made s) → RoundTrip (f (get s)) es w → RoundTrip (read o f) (write o s ++ es) w
@@ -156,7 +156,7 @@ format p made = record {
   packs = λ o s fits. p.packs o s fits (made s);
 }
 
--- the same where it is a fact that what the parts make is the value, as of a case whose tag stands further before
+-- the same, but the facts state that the parts make the value: for a case whose tag is read before its size
 abbrev pub format_if_made : {S W : Type 0} {ok : S → W} → Parts S W ok → Format S W ok
 format_if_made p = record {
   read = p.read;
@@ -217,14 +217,14 @@ const n v fit err = record {
 -- ---- the laws of a format, in one piece each
 
 module _ {A V : Type 0} {ok : A → V} (F : Format A V ok) where
-  -- what was written is read back as it was, wherever it stands, and no more bits are taken
+  -- what was written is read back as it was, at any place, and only its bits are taken
   abbrev pub RoundTripLaw : Type 0
   RoundTripLaw =
       (o : Order) (value : A) (at from : ℕ) (more : List Bool) → Fits F value
       → let written = write_sequence (F.write o value) at in
       (F.read o).reads from (written ++ more) ≡ Done (length written) (Ok (ok value))
 
-  -- its bits are as many as the format says
+  -- a value has as many bits as the format states
   abbrev pub LengthLaw : Type 0
   LengthLaw = (o : Order) (value : A) (at : ℕ) → Fits F value → length (write_sequence (F.write o value) at) ≡ F.size value
 
@@ -238,7 +238,7 @@ module _ {A V : Type 0} {ok : A → V} (F : Format A V ok) where
   unfoldable pub packed_bits : A → List Bool
   packed_bits a = write_sequence (F.write High a ++ align ∷ []) 0
 
-  -- of which a search is to see no part
+  -- the same, as an equation for proofs: a search sees no part of the bits
   pub packed_told : (a : A) → write_sequence (F.write High a ++ align ∷ []) 0 ≡ packed_bits a
   unfolding packed_bits
   packed_told a = refl

@@ -119,7 +119,7 @@ pub own-goes : {A E : Type 0} (F : Plain A) (o : Order) (a : A) → Fits F a
 own-goes F o a fits =
     record { back = mapped-read (λ value. Ok value) (F.write o a) (F.read o) a (F.round_trip o a fits).back }
 
--- a format with no error of its own, where one with such errors is asked for
+-- the same format as one with errors of its own, of which it returns none
 abbrev pub own : {A E : Type 0} → Plain A → Own E A
 own F = record {
   read = λ o. and_then (F.read o) (λ value. pure (Ok value));
@@ -143,7 +143,7 @@ array n F = record {
 
 -- ---- parts
 
--- items, of which a part before gives the number; each is stored once it is read, for which memory may be asked
+-- items, whose number a part before gives; each is stored once it is read, which may allocate
 abbrev pub list : {S W A : Type 0} → ℕ → Plain A → (S → List A) → Part S W (List A)
 list n F get = record {
   read = λ o f. and_then (items_decoder (list_item (F.read o)) n) f;
@@ -173,7 +173,7 @@ own_list n F get = record {
   packs = λ o s fits is. packs_each F o (get s) fits;
 }
 
--- bytes, of which a part before gives the number; memory may be asked for as they come
+-- bytes, whose number a part before gives; the read may allocate as they come
 abbrev pub byte_list : {S W : Type 0} → ℕ → (S → List ℕ) → Part S W (List ℕ)
 byte_list n get = record {
   read = λ o f. and_then (vec_decoder o n) f;

@@ -1,5 +1,5 @@
--- Formats of a fixed width: beside the laws of each format, each value stands in a place of the bits. If the bits are there, the
--- read answers the values in their places, and else they are too few. Write the `do` block with `place` in place of `field`.
+-- Formats of a fixed width. They have a second law: each field is at its place among the bits. If the bits are there, the read
+-- returns the fields at their places; else it is incomplete. In the `do` block, write `place` for `field`.
 use Rattle.std.proofs.Common.{◌≡◌, ◌∙◌, ℕ, ◌+◌, ◌*◌, ◌≤◌, ◌<◌, Bool, true, ℤ, List, length, take, drop, Ok, Err, refl, ap, arith}
 use Rattle.std.specs.Prelude.{nat_le, map}
 use Rattle.std.proofs.Math.Seq.{drop-append_seam, take-append_seam}
@@ -49,7 +49,7 @@ skip-word n = record { reads = λ p b. refl }
 
 -- ---- formats of a fixed width
 
--- a format of n bits, and the value that they say
+-- a format of n bits, and the value that n bits encode
 pub record Fixed (n : ℕ) (A : Type 0) : Type 1 where
   pub format : Plain A
   pub at : Order → List Bool → A
@@ -77,7 +77,7 @@ abbrev pub ◌>>=◌ : {S A : Type 0} {m n : ℕ} → FixedPart S A m → (A →
       (λ a. (k a).is_word o);
 }
 
--- a field, which stands behind those before it
+-- a field, at the place after those before it
 abbrev pub place : {S A : Type 0} {n : ℕ} → Fixed n A → (S → A) → FixedPart S A n
 place F get = record { of = F; get = get }
 
@@ -130,12 +130,12 @@ array {n = n} k F = record {
 -- ---- the second law
 
 module _ {A : Type 0} {n : ℕ} (F : Fixed n A) where
-  -- If n bits are there, the read takes just them, and answers the values in their places.
+  -- if n bits are there, the read takes only them, and returns the fields at their places
   abbrev pub ThereLaw : Type 0
   ThereLaw = (o : Order) (p : ℕ) (bits : List Bool) → n ≤ length bits
       → (F.format.read o).reads p bits ≡ Done n (Ok (F.at o (take n bits)))
 
-  -- If fewer are left, they are too few.
+  -- if fewer are left, the read is incomplete
   abbrev pub ShortLaw : Type 0
   ShortLaw = (o : Order) (p : ℕ) (bits : List Bool) → length bits < n → (F.format.read o).reads p bits ≡ Incomplete
 

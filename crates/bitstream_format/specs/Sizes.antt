@@ -1,6 +1,6 @@
--- Parts of a size in bytes: a part that fills it, and a list that does. The size limits the reader. The part is read over
--- the bits of these bytes alone, and no bit after them is read. What does not fill them is the error that the size names, and the
--- reader has taken just these bytes.
+-- Parts of a stated size in bytes: a part that fills it, and a list that fills it. The size limits the reader: the part is read
+-- over the bits of these bytes alone, and no bit after them is read. If the value does not fill them, the read returns the error
+-- that the size names. The reader has then taken these bytes and no more.
 use Rattle.std.proofs.Common.{◌≡◌, ◌∙◌, ℕ, zero, suc, take, drop, length-take-le, ◌+◌, ◌*◌, ◌<◌, ◌≤◌, ◌==◌, Bool, true, false, List, [], ◌∷◌, ◌++◌, length, length-append, Result, Ok, Err, refl, subst, sym, ap, append-nil, arith, le_refl}
 use Rattle.std.specs.Prelude.{if◌then◌else◌, nat_le, flat_map, ◌&&◌, ◌≢◌}
 use Rattle.std.specs.List.{All, AllByRecursion}
@@ -20,13 +20,13 @@ use Rattle.bitstream_io.proofs.CallerLemmas.{RoundTrip, Packs, IsWord}
 use Rattle.bitstream_format.specs.Format.{Fits, Own, AllOf}
 use Rattle.bitstream_format.specs.Lists.{packs_each}
 
--- ---- what so many bytes are read as
+-- ---- what n bytes are read as
 
--- an answer that is given once the bytes are taken; `stored` says that memory may be asked for then
+-- a result that is returned once the bytes are taken; if `stored`, the call may allocate then
 abbrev pub answered : {A : Type 0} → Bool → A → Decoder A
 answered stored a = record (pure a) { allocates = λ _ bits. stored && is_empty bits }
 
--- n bytes, for which memory may be asked as they come if they are stored
+-- n bytes; if they are stored, the read may allocate as they come
 abbrev pub bytes_read : Bool → Order → ℕ → Decoder (List ℕ)
 bytes_read true o n = vec_decoder o n
 bytes_read false o n = bytes_decoder o n
@@ -35,15 +35,14 @@ bytes_read false o n = bytes_decoder o n
 abbrev pub limited : {A : Type 0} → Bool → ℕ → (List Bool → A) → Order → Decoder A
 limited stored n make o = and_then (bytes_read stored o n) (λ xs. answered stored (make (bits o xs)))
 
--- a part must fill `size` bits: `err` if it does not, or if they are too few for it; `other` makes an error of the reader
--- one's own
+-- a part that must fill `size` bits: `err` if it does not, or if it needs more; `other` makes an own error of the reader's
 abbrev pub filled : {A E : Type 0} → ℕ → E → (Error → E) → Prefix (Result A E) → Result A E
 filled size err other Incomplete = Err err
 filled size err other (Done n (Ok (Ok a))) = if n == size then Ok a else Err err
 filled size err other (Done n (Ok (Err x))) = Err x
 filled size err other (Done n (Err x)) = Err (other x)
 
--- what a part answers whose bits are these alone
+-- what the read of a part returns whose bits are these alone
 abbrev pub only : {A E : Type 0} → Own E A → E → (Error → E) → Order → List Bool → Result A E
 only F err other o w = filled (length w) err other ((F.read o).reads 0 w)
 
@@ -52,15 +51,14 @@ abbrev pub item_and : {A E : Type 0} → A → Result (List A) E → Result (Lis
 item_and x (Ok xs) = Ok (x ∷ xs)
 item_and x (Err e) = Err e
 
--- an item, and the others behind its bits
+-- an item, and the others after its bits
 abbrev pub item_then : {A E : Type 0} → E → (Error → E) → Prefix (Result A E) → (ℕ → Result (List A) E) → Result (List A) E
 item_then err other Incomplete rest = Err err
 item_then err other (Done n (Ok (Ok x))) rest = item_and x (rest n)
 item_then err other (Done n (Ok (Err y))) rest = Err y
 item_then err other (Done n (Err y)) rest = Err (other y)
 
--- items up to the end of the bits, at most `most`; an item for which too few bits are left is `err`, and so is one that
--- takes none
+-- items up to the end of the bits, at most `most`; an item that needs more bits is `err`, and so is one that takes none
 abbrev pub items_in : {A E : Type 0} → Decoder (Result A E) → E → (Error → E) → ℕ → List Bool → ℕ → Result (List A) E
 items_in e err other p [] most = Ok []
 items_in e err other p (b ∷ bs) zero = Err err
@@ -85,7 +83,7 @@ bytes_of-prefix stored o n p w more size =
     bytes-prefix stored o n p (w ++ more)
     ∙ word_prefix-some (8 * n) (λ v. Ok (bytes_of o n v)) w more size ∙ rw size refl
 
--- what writes just n bytes is read back by what their bits are read as
+-- what writes n bytes is read back, if their bits are read as the value
 pub limited-goes : {A : Type 0} (stored : Bool) (n : ℕ) (make : List Bool → A) (o : Order) (es : List Encoder) (a : A)
     → Packs es (8 * n) → ((at : ℕ) → make (write_sequence es at) ≡ a) → RoundTrip (limited stored n make o) es a
 limited-goes stored n make o es a packs made = record {
@@ -160,11 +158,11 @@ sized_part stored n F err other = record {
   packs = λ o a fits. F.packs o a fits.1;
 }
 
--- a part that fills n bytes, whose read asks for no memory
+-- a part that fills n bytes, whose read does not allocate
 abbrev pub sized : {A E : Type 0} → ℕ → Own E A → E → (Error → E) → Own E A
 sized = sized_part false
 
--- and one whose read may ask for memory
+-- the same, whose read may allocate
 abbrev pub growing_sized : {A E : Type 0} → ℕ → Own E A → E → (Error → E) → Own E A
 growing_sized = sized_part true
 
@@ -211,14 +209,14 @@ limits-by stored n make o p b true is =
     rw (bytes-prefix stored o n p b, is, bits-bytes_of o n (take (8 * n) b) long, no_more) refl
 limits-by stored n make o p b false is = rw (bytes-prefix stored o n p b, is) refl
 
--- If fewer than n bytes are left, they are too few. Else just they are taken, and the answer is what their bits alone are read as.
+-- If fewer than n bytes are left, the read is incomplete. Else it takes them alone, and returns what their bits are read as.
 pub size-limits : {A : Type 0} (stored : Bool) (n : ℕ) (make : List Bool → A) (o : Order) (p : ℕ) (b : List Bool)
     → (limited stored n make o).reads p b
     ≡ (if nat_le (8 * n) (length b) then Done (8 * n) (Ok (make (take (8 * n) b))) else Incomplete)
 size-limits stored n make o p b = limits-by stored n make o p b (nat_le (8 * n) (length b)) refl
 
 module _ {A E : Type 0} (n : ℕ) (F : Own E A) (err : E) (other : Error → E) where
-  -- a part of n bytes: too few bytes are too few, and else just they are taken, and the part is read of their bits alone
+  -- a part of n bytes: with fewer the read is incomplete; else it takes them alone, and reads the part over their bits alone
   abbrev pub PartLimitLaw : Type 0
   PartLimitLaw =
       (o : Order) (p : ℕ) (b : List Bool) → ((sized n F err other).read o).reads p b

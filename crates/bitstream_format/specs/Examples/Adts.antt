@@ -8,7 +8,7 @@ use Rattle.bitstream_io.specs.Callers.{Error}
 use Rattle.bitstream_format.specs.Format.{◌>>=◌, Own, format, named, field, const, own_done}
 use Rattle.bitstream_format.specs.Atoms as atom
 
--- an error of the reader is one of the type's
+-- an error of the reader becomes one of the type
 abbrev pub becomes_adts : Error → AdtsError → Type 0
 becomes_adts error own = own ≡ Reader error
 

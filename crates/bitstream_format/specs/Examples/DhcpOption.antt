@@ -11,7 +11,7 @@ use Rattle.bitstream_format.specs.Atoms as atom
 use Rattle.bitstream_format.specs.Choices.{plain_case, choose, refused}
 use Rattle.bitstream_format.specs.Sizes.{sized}
 
--- an error of the reader is one of the type's
+-- an error of the reader becomes one of the type
 abbrev pub becomes_dhcp : Error → DhcpError → Type 0
 becomes_dhcp error own = own ≡ Reader error
 
@@ -20,7 +20,7 @@ abbrev pub code_of : DhcpOption → ℕ
 code_of (MessageType kind) = 53
 code_of (LeaseTime seconds) = 51
 
--- the bytes behind the size
+-- the bytes after the size
 abbrev pub count_of : DhcpOption → ℕ
 count_of (MessageType kind) = 1
 count_of (LeaseTime seconds) = 4

@@ -7,7 +7,7 @@ use Rattle.bitstream_format.specs.Format.{◌>>=◌, Plain, Own, format, named, 
 use Rattle.bitstream_format.specs.Atoms as atom
 use Rattle.bitstream_format.specs.Lists.{optional}
 
--- why a header is not read
+-- the errors of reading a header
 pub data GreError : Type 0 where
   Reader : Error → GreError
   OtherVersion : GreError
@@ -19,7 +19,7 @@ pub record Gre : Type 0 where
   pub key : Option ℕ
   pub sequence : Option ℕ
 
--- a checksum, and 16 bits without a meaning behind it
+-- a checksum, and 16 bits without a meaning after it
 abbrev pub checksum : Plain ℕ
 checksum = format (do
   sum ← field (atom.unsigned 16 16 refl) (λ s. s)

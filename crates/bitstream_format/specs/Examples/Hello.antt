@@ -12,7 +12,7 @@ use Rattle.bitstream_format.specs.Lists.{own, byte_list}
 use Rattle.bitstream_format.specs.Choices.{case, choose}
 use Rattle.bitstream_format.specs.Sizes.{growing_sized, fill}
 
--- why a message is not read
+-- the errors of reading a message
 pub data HelloError : Type 0 where
   Reader : Error → HelloError
   OtherMessage : HelloError
@@ -53,13 +53,13 @@ bytes_in (Algorithms xs) = []
 bytes_in ExtendedSecret = []
 bytes_in (Other type bytes) = bytes
 
--- the bytes behind the size
+-- the bytes after the size
 abbrev pub count_of : Extension → ℕ
 count_of (Algorithms xs) = 2 + 2 * length xs
 count_of ExtendedSecret = 0
 count_of (Other type bytes) = length bytes
 
--- numbers of 16 bits, behind the number of their bytes
+-- numbers of 16 bits, after the number of their bytes
 abbrev pub numbers : Own HelloError (List ℕ)
 numbers = format (do
   size ← field (atom.unsigned 64 16 refl) (λ s. 2 * length s)

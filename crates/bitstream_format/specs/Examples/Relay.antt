@@ -8,7 +8,7 @@ use Rattle.bitstream_format.specs.Lists.{byte_list}
 use Rattle.bitstream_format.specs.Sizes.{fill}
 use Rattle.std.specs.Prelude.{◌/◌}
 
--- why the option is not read
+-- the errors of reading the option
 pub data RelayError : Type 0 where
   Reader : Error → RelayError
   OtherOption : RelayError

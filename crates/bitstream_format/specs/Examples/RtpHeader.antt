@@ -10,7 +10,7 @@ use Rattle.bitstream_format.specs.Format.{◌>>=◌, Own, format, named, field, 
 use Rattle.bitstream_format.specs.Atoms as atom
 use Rattle.bitstream_format.specs.Lists.{list}
 
--- an error of the reader is one of the type's
+-- an error of the reader becomes one of the type
 abbrev pub becomes_rtp_header : Error → RtpError → Type 0
 becomes_rtp_header error own = own ≡ Reader error
 

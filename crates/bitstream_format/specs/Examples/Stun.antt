@@ -1,5 +1,5 @@
 -- The attribute XOR-MAPPED-ADDRESS of STUN: an address of one of two families, in a part of a stated size (RFC 5389, 15.2).
--- The port and the address are the numbers that stand in the message.
+-- The port and the address are the numbers as they are in the message.
 use Rattle.std.proofs.Common.{ℕ, ◌/◌, ◌==◌, Option, Some, None, Result, Ok, refl}
 use Rattle.bitstream_io.specs.Callers.{Error}
 use Rattle.bitstream_format.specs.Format.{◌>>=◌, Own, Parts, AllOf, format, field, own_field, const, own_done}
@@ -7,7 +7,7 @@ use Rattle.bitstream_format.specs.Atoms as atom
 use Rattle.bitstream_format.specs.Choices.{plain_case, choose, refused}
 use Rattle.bitstream_format.specs.Sizes.{sized}
 
--- why an attribute is not read
+-- the errors of reading an attribute
 pub data StunError : Type 0 where
   Reader : Error → StunError
   OtherAttribute : StunError

@@ -8,9 +8,9 @@ use bitstream_io::{BitRead, BitReadExt, BitWrite, BitWriteExt, Bits, Error};
 /// The header of an ADTS frame of AAC.
 #[derive(Clone, Copy, Debug, PartialEq)]
 pub struct AdtsHeader {
-    /// Whether the frame is of MPEG-2, and not of MPEG-4.
+    /// True for MPEG-2, false for MPEG-4.
     pub mpeg_2: bool,
-    /// Whether no checksum follows.
+    /// True if no checksum follows.
     pub protection_absent: bool,
     /// The profile. Below 2^2.
     pub profile: u8,
@@ -20,23 +20,23 @@ pub struct AdtsHeader {
     pub private: bool,
     /// The channel configuration. Below 2^3.
     pub channels: u8,
-    /// Whether the work is an original.
+    /// True if the work is an original.
     pub original: bool,
-    /// Whether the work is for the home.
+    /// True if the work is for the home.
     pub home: bool,
     /// A bit of the number that is registered for the work.
     pub copyright_id: bool,
-    /// Whether that number starts here.
+    /// True if that number starts here.
     pub copyright_start: bool,
     /// The bytes of the frame with this header. Below 2^13.
     pub frame_length: u16,
-    /// How full the buffer is. Below 2^11.
+    /// The fullness of the buffer. Below 2^11.
     pub fullness: u16,
     /// The blocks of the frame but one. Below 2^2.
     pub blocks: u8,
 }
 
-/// Why an `AdtsHeader` is not read.
+/// The errors of reading an `AdtsHeader`.
 #[derive(Debug, Drop)]
 pub enum AdtsError {
     /// An error of the reader.
@@ -60,7 +60,7 @@ impl AdtsHeader {
     ///
     /// # Errors
     ///
-    /// `NoSync`, `UnknownLayer`, after the bits that say so. Else the errors of the reader: after each of
+    /// `NoSync`, `UnknownLayer`, after the bits that differ. Else the errors of the reader: after each of
     /// them it has failed.
     pub fn read<R: BitRead>(reader: &mut R) -> Result<AdtsHeader, AdtsError>
         ensures { ReadsOwn R.source becomes_adts (adts.read R.source.order) reader.old result reader.new }
@@ -125,8 +125,8 @@ impl AdtsHeader {
     }
 }
 
-/// What was written is read back as it was, in either order of bits, wherever it stands, and no more bits
-/// are taken: 56.
+/// What was written is read back as it was, in either order of bits, at any place, and only its bits are
+/// taken: 56.
 pub fn adts_laws()
     ensures round_trip { RoundTripLaw adts }
     ensures length { LengthLaw adts }

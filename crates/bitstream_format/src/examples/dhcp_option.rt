@@ -13,11 +13,11 @@ use bitstream_io::{BE, BitRead, BitReadExt, BitWrite, BitWriteExt, Bits, Error, 
 pub enum DhcpOption {
     /// The kind of the message (9.6).
     MessageType(u8),
-    /// For how many seconds an address is lent (9.2).
+    /// The number of seconds of a lease (9.2).
     LeaseTime(u32),
 }
 
-/// Why an option is not read.
+/// The errors of reading an option.
 #[derive(Debug, Drop)]
 pub enum DhcpError {
     /// An error of the reader.
@@ -96,8 +96,8 @@ impl DhcpOption {
     }
 }
 
-/// What was written is read back as it was, in either order of bits, wherever it stands, and no more bits
-/// are taken. The value is read of the bytes alone that its size states.
+/// What was written is read back as it was, in either order of bits, at any place, and only its bits are
+/// taken. The value is read over the bytes alone that its size states.
 pub fn dhcp_option_laws()
     ensures round_trip { RoundTripLaw dhcp_option }
     ensures length { LengthLaw dhcp_option }

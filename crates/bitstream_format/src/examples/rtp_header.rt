@@ -13,17 +13,17 @@ use std::marker::Model;
 /// The fixed header of an RTP packet, and the sources that contributed to it.
 #[derive(Debug, Drop)]
 pub struct RtpHeader {
-    /// Whether padding stands at the end of the packet.
+    /// True if padding ends the packet.
     pub padding: bool,
-    /// Whether one extension of the header follows.
+    /// True if an extension of the header follows.
     pub extension: bool,
     /// A mark of the profile's own, as the end of a frame.
     pub marker: bool,
-    /// What the payload is. Below 2^7.
+    /// The type of the payload. Below 2^7.
     pub payload_type: u8,
     /// The number of the packet in its stream.
     pub sequence: u16,
-    /// When the first byte of the payload was sampled.
+    /// The time at which the first byte of the payload was sampled.
     pub timestamp: u32,
     /// The source that the packet is synchronized to.
     pub ssrc: u32,
@@ -48,7 +48,7 @@ impl Model for RtpHeader {
     } };
 }
 
-/// Why a `RtpHeader` is not read.
+/// The errors of reading a `RtpHeader`.
 #[derive(Debug, Drop)]
 pub enum RtpError {
     /// An error of the reader.
@@ -93,7 +93,7 @@ impl RtpHeader {
     ///
     /// # Errors
     ///
-    /// `WrongVersion`, after the bits that say so. `Reader(OutOfMemory)` if an allocation fails, after the
+    /// `WrongVersion`, after the bits that differ. `Reader(OutOfMemory)` if an allocation fails, after the
     /// items before. Else the errors of the reader: after each of them it has failed.
     pub fn read<R: BitRead>(reader: &mut R, alloc: Global) -> Result<RtpHeader, RtpError>
         ensures { GrowsOwn R.source becomes_rtp_header (rtp_header.read R.source.order) reader.old result reader.new }
@@ -143,8 +143,8 @@ impl RtpHeader {
     }
 }
 
-/// What was written is read back as it was, in either order of bits, wherever it stands, and no more bits
-/// are taken.
+/// What was written is read back as it was, in either order of bits, at any place, and only its bits are
+/// taken.
 pub fn rtp_header_laws()
     ensures round_trip { RoundTripLaw rtp_header }
     ensures length { LengthLaw rtp_header }

@@ -13,7 +13,7 @@ use bitstream_io::{BE, BitRead, BitReadExt, BitReader, BitWrite, BitWriteExt, Bi
 pub struct Sample {
     /// Seconds since the start. Below 2^20.
     pub seconds: u32,
-    /// Whether the engine runs.
+    /// True if the engine runs.
     pub running: bool,
     /// Degrees Celsius. From -256 to 255.
     pub temperature: i16,
@@ -74,8 +74,8 @@ impl Sample {
     }
 }
 
-/// What was written is read back as it was, in either order of bits, wherever it stands, and no more bits
-/// are taken. If 48 bits are there, the fields are read from their places; fewer are too few.
+/// What was written is read back as it was, in either order of bits, at any place, and only its bits are
+/// taken. If 48 bits are there, the fields are read from their places; fewer are too few.
 pub fn sample_laws()
     ensures round_trip { RoundTripLaw sample }
     ensures length { LengthLaw sample }

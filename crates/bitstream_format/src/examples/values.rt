@@ -9,8 +9,8 @@ ghost use Rattle.bitstream_format.specs.Examples.Relay.{relay, sub_option, Reade
 ghost use Rattle.bitstream_format.specs.Examples.Stun.{xor_mapped_address};
 ghost use Rattle.std.specs.Prelude.{ℕ};
 
-/// What was written is read back as it was, in either order of bits, wherever it stands, and no more bits
-/// are taken. This and the next three functions state that of their formats.
+/// What was written is read back as it was, in either order of bits, at any place, and only its bits are
+/// taken. The next three functions state the same of their formats.
 pub fn gre_laws()
     ensures round_trip { RoundTripLaw gre }
     ensures length { LengthLaw gre }
@@ -22,7 +22,7 @@ pub fn stun_laws()
     ensures length { LengthLaw xor_mapped_address }
 {}
 
-/// The laws of what a relay adds. Its list is read of the bytes alone that its size states.
+/// The laws of what a relay adds. Its list is read over the bytes alone that its size states.
 pub fn relay_laws()
     ensures round_trip { RoundTripLaw relay }
     ensures length { LengthLaw relay }

@@ -1,4 +1,3 @@
--- Made by `./format` from formats/adts_header.fields: edit that file and make this one anew.
 use Rattle.std.proofs.Common.{refl}
 use Rattle.bitstream_io.proofs.CallerLemmas.{next_own_read as next, next_own_const as next_const, exit_own_read as exit, exit_own_const as exit_const}
 use Rattle.bitstream_io.proofs.OwnSteps.{own_end}

@@ -1,4 +1,3 @@
--- Made by `./format` from formats/adts_header.fields: edit that file and make this one anew.
 use Rattle.bitstream_io.proofs.WriteParts.{all_none}
 use Rattle.bitstream_io.proofs.WriteSteps.{next_call, next_write, stop_call, stop_write}
 use Rattle.bitstream_format.proofs.examples.adts.AdtsHeader.write.Goals as goal
