@@ -1,3 +1,4 @@
+-- Made by `./answers` from src/examples/adts.rt: when that changes make this one anew.
 use Rattle.std.proofs.Common.{refl}
 use Rattle.bitstream_io.proofs.CallerLemmas.{next_own_read as next, next_own_const as next_const, exit_own_read as exit, exit_own_const as exit_const}
 use Rattle.bitstream_io.proofs.OwnSteps.{own_end}

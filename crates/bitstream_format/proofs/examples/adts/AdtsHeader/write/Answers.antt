@@ -1,3 +1,4 @@
+-- Made by `./answers` from src/examples/adts.rt: when that changes make this one anew.
 use Rattle.bitstream_io.proofs.WriteParts.{all_none}
 use Rattle.bitstream_io.proofs.WriteSteps.{next_call, next_write, stop_call, stop_write}
 use Rattle.bitstream_format.proofs.examples.adts.AdtsHeader.write.Goals as goal

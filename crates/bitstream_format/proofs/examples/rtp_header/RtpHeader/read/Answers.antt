@@ -1,3 +1,4 @@
+-- Made by `./answers` from src/examples/rtp_header.rt: when that changes make this one anew.
 use Rattle.std.proofs.Common.{refl}
 use Rattle.bitstream_io.proofs.CallerLemmas.{next_grown_const, exit_grown_const}
 use Rattle.bitstream_io.proofs.GrowsLemmas.{go_grown, stop_grown, grown, grown_end}

@@ -1,3 +1,4 @@
+-- Made by `./answers` from src/examples/rtp_header.rt: when that changes make this one anew.
 use Rattle.std.proofs.Common.{◌∙◌}
 use Rattle.bitstream_io.proofs.OwnLemmas.{is_error}
 use Rattle.bitstream_io.proofs.WriteParts.{all_append, all_none, all_stop}

@@ -1,3 +1,4 @@
+-- Made by `./answers` from src/examples/sample.rt: when that changes make this one anew.
 use borrow.Author.Rules.{sfits_of}
 use Rattle.bitstream_io.proofs.ReadSteps.{next_signed_read}
 use Rattle.bitstream_io.proofs.ReadsLemmas.{Reads-and_then-ok as next, Reads-pure, exit}

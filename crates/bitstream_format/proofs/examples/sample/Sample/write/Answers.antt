@@ -1,3 +1,4 @@
+-- Made by `./answers` from src/examples/sample.rt: when that changes make this one anew.
 use borrow.Author.Rules.{sfits_of}
 use Rattle.std.proofs.Common.{w16}
 use Rattle.bitstream_io.proofs.WriteParts.{all_none}
