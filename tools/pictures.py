@@ -192,6 +192,7 @@ HOLDS = {
     "bitstream_sink": "counters and recorders",
     "bitstream_value": "typed values; types of your own; prefix codes",
     "bitstream_io": "all public names; call sequences; the theorem",
+    "bitstream_format": "formats as values, with their laws",
     "bitstream_callers": "callers that the guide shows",
     "bitstream_formats": "FLAC, H.264, AV1 and others",
     "bitfields_core": "layouts of bit fields",

@@ -1,0 +1,2 @@
+mod DhcpLemmas
+mod Rows

@@ -1,0 +1,9 @@
+use Rattle.bitstream_format.specs.Format.{round_trip_law, length_law}
+use Rattle.bitstream_format.specs.Examples.RtpHeader.{rtp_header}
+use Rattle.bitstream_format.proofs.examples.rtp_header.rtp_header_laws.Goals as goal
+
+pub returns-clause-round_trip : goal.returns-clause-round_trip
+returns-clause-round_trip c = round_trip_law rtp_header
+
+pub returns-clause-length : goal.returns-clause-length
+returns-clause-length c = length_law rtp_header

@@ -1,0 +1,9 @@
+use Rattle.bitstream_format.specs.Format.{round_trip_law, length_law}
+use Rattle.bitstream_format.specs.Examples.Stun.{xor_mapped_address}
+use Rattle.bitstream_format.proofs.examples.values.stun_laws.Goals as goal
+
+pub returns-clause-round_trip : goal.returns-clause-round_trip
+returns-clause-round_trip c = round_trip_law xor_mapped_address
+
+pub returns-clause-length : goal.returns-clause-length
+returns-clause-length c = length_law xor_mapped_address

@@ -1,0 +1,9 @@
+pub mod Adts
+pub mod DhcpOption
+pub mod Gre
+pub mod Hello
+pub mod Relay
+pub mod RtpHeader
+pub mod RtpHeaderFields
+pub mod Sample
+pub mod Stun

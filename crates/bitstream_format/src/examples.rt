@@ -1,0 +1,5 @@
+pub mod adts;
+pub mod dhcp_option;
+pub mod rtp_header;
+pub mod sample;
+pub mod values;

@@ -1,0 +1,36 @@
+//! Formats that are values alone, with their laws: GRE (parts behind flags), an address of STUN (a choice
+//! in a part of a stated size), what a relay adds to a DHCP message (a list that fills a size), and the
+//! first message of TLS (extensions as a choice, in such a list).
+ghost use Rattle.bitstream_format.specs.Format.{RoundTripLaw, LengthLaw};
+ghost use Rattle.bitstream_format.specs.Sizes.{ListLimitLaw};
+ghost use Rattle.bitstream_format.specs.Examples.Gre.{gre};
+ghost use Rattle.bitstream_format.specs.Examples.Hello.{hello};
+ghost use Rattle.bitstream_format.specs.Examples.Relay.{relay, sub_option, Reader, WrongSize};
+ghost use Rattle.bitstream_format.specs.Examples.Stun.{xor_mapped_address};
+ghost use Rattle.std.specs.Prelude.{ℕ};
+
+/// What was written is read back as it was, in either order of bits, at any place, and only its bits are
+/// taken. The next three functions state the same of their formats.
+pub fn gre_laws()
+    ensures round_trip { RoundTripLaw gre }
+    ensures length { LengthLaw gre }
+{}
+
+/// The laws of an address of STUN.
+pub fn stun_laws()
+    ensures round_trip { RoundTripLaw xor_mapped_address }
+    ensures length { LengthLaw xor_mapped_address }
+{}
+
+/// The laws of what a relay adds. Its list is read over the bytes alone that its size states.
+pub fn relay_laws()
+    ensures round_trip { RoundTripLaw relay }
+    ensures length { LengthLaw relay }
+    ensures limit { (size : ℕ) → ListLimitLaw size sub_option WrongSize Reader }
+{}
+
+/// The laws of the first message of TLS.
+pub fn hello_laws()
+    ensures round_trip { RoundTripLaw hello }
+    ensures length { LengthLaw hello }
+{}
