@@ -34,7 +34,7 @@ abbrev pub positive : Result ℕ Reason → Result ℤ Reason
 positive (Ok n) = Ok (pos n)
 positive (Err why) = Err why
 
--- the negative of a number that a text spells behind its sign, which 0 has not
+-- the negative of a number that a text spells after its sign; 0 has none
 abbrev pub negative : Result ℕ Reason → Result ℤ Reason
 negative (Ok zero) = Err ValueMisspelt
 negative (Ok (suc n)) = Ok (negsuc n)
@@ -56,7 +56,7 @@ signed_within n (first ∷ rest) = signed_after n first rest
 abbrev pub split_spaces : List ℕ → List (List ℕ)
 split_spaces text = slice_split (λ b. b == 32) text
 
--- whether the number of a decimal is a byte
+-- true if the number of a decimal is a byte
 abbrev pub is_byte : List ℕ → Bool
 is_byte text = nat_lt (decimal_value text) 256
 

@@ -37,7 +37,7 @@ field_write o (Constant n v) vs = unsigned o 32 n v
 field_write o (Padding n) vs = zeros n
 field_write o Align vs = align
 
--- the word of a field whose value is the first of these, behind this many bits
+-- the word of a field whose value is the first of these, after this many bits
 abbrev pub field_word : Order → Field → List FieldValue → ℕ → List Bool
 field_word o (Unsigned n) vs at = word o n (first_unsigned vs)
 field_word o (Signed n) vs at = signed_word o n (first_signed vs)
@@ -55,7 +55,7 @@ abbrev pub field_writes : Order → List Field → List FieldValue → List Enco
 field_writes o [] vs = []
 field_writes o (field ∷ fields) vs = field_write o field vs ∷ field_writes o fields (drop (value_count field) vs)
 
--- what the write calls of the fields append from a place on, and a last alignment
+-- the bits that the write calls of the fields append from a place on, and a last alignment
 abbrev pub packed_bits : Order → List Field → List FieldValue → ℕ → List Bool
 packed_bits o fields vs at = write_sequence (field_writes o fields vs ++ align ∷ []) at
 
@@ -99,8 +99,8 @@ PacksValues O o fields vs old (Ok done) new = PackedBytes o fields vs (O.content
 PacksValues O o fields vs old (Err f) new =
     PackingRefused (MayRefuseWrite O) o fields vs (O.contents old) f (O.contents new)
 
--- The values were packed, or the first fault of the input was answered and the stream is as it was. Else memory was
--- refused and the stream is as it was, or the stream refused a request.
+-- The values were packed, or the first fault of the input was returned and the stream is unchanged. Else memory
+-- was refused and the stream is unchanged, or the stream refused a request.
 abbrev pub Packs : {W : Type 0} → OutputStream W → Order → List Field → Result (List FieldValue) Fault → W → Result (Unit {0}) Fault → W → Type 0
 Packs O o fields (Ok vs) old (Ok done) new = PackedBytes o fields vs (O.contents old) (O.contents new)
 Packs O o fields (Ok vs) old (Err f) new = ((f ≡ fault 0 OutOfMemory) × (new ≡ old))

@@ -1,4 +1,4 @@
--- Sizes: how many bits the values of fields take.
+-- Sizes: the number of bits of the values of fields.
 use Rattle.std.specs.Prelude.{ℕ, List, length, Result, Ok, Err}
 use Rattle.bitstream_io.specs.Word.{Order}
 use Rattle.bitstream_io.specs.Sequence.{write_sequence}

@@ -64,7 +64,7 @@ pub fn packing_is_a_write_sequence()
         → All (λ r. r ≡ None) (write_refusals (field_writes o fields vs ++ align ∷ []) at) }
 {}
 
-/// The packed bits are as many as their size says, and then zeros up to a whole byte. Values that fit
+/// The number of packed bits is the size, and then zeros follow up to a whole byte. Values that fit
 /// have one size in both orders of bits, and at most 2^40 bits.
 pub fn packed_values_have_their_size()
     ensures bits { (o : Order) (fields : List Field) (vs : List FieldValue)
@@ -86,7 +86,7 @@ pub fn unpacking_is_a_read_sequence()
         ≡ unpack_answers k fields at (read_sequence (map (field_read o) fields) at bits) }
 {}
 
-/// The packed bits are the words of the fields, one behind the other, with zeros up to the next byte
+/// The packed bits are the words of the fields, one after the other, with zeros up to the next byte
 /// boundary at the end.
 pub fn packing_goes_by_fields()
     ensures word { (o : Order) (f : Field) (fields : List Field) (vs : List FieldValue) (at : ℕ)
@@ -103,10 +103,10 @@ pub fn packing_goes_by_fields()
     ensures end { (o : Order) (at : ℕ) → packed_bits o [] [] at ≡ replicate (to_boundary at) false }
 {}
 
-/// A field's value is that of its word, which its read call finds. If the call finds no value, its
-/// error or its own reason is the fault, and if it has too few bits left, the bits ended. A field's
-/// number is that of its word. The bits of an alignment say nothing. Those of a constant must hold
-/// its number.
+/// The value of a field is the value of its word, which its read call finds. If the call finds no
+/// value, its error or its own reason is the fault, and if it has too few bits left, the bits
+/// ended. The number of a field is the number of its word. The bits of an alignment mean nothing.
+/// The bits of a constant must hold its number.
 pub fn unpacking_goes_by_fields()
     ensures word { (o : Order) (k : ℕ) (f : Field) (fields : List Field) (vs : List FieldValue) (at : ℕ)
         (rest : List Bool) → IsField f → FitsField f vs → (let written = field_word o f vs at in
@@ -150,14 +150,14 @@ pub fn unpacking_goes_by_fields()
         → unpack_bits o k (Field.Constant n v ∷ fields) at bits ≡ Stops (fault k Reason.BitsEnded) }
 {}
 
-/// What repacking accepts of a layout whose values have one word each is exactly what packing writes
-/// for some input.
+/// If the values of a layout have one word each, repacking accepts exactly the bytes that packing
+/// writes for some input.
 pub fn repacked_bytes_are_packed()
-    ensures packed_bits { (o : Order) (fields : List Field) (bytes : List ℕ) (vs : List FieldValue)
+    ensures packed { (o : Order) (fields : List Field) (bytes : List ℕ) (vs : List FieldValue)
         → IsLayout fields → All HasOneWord fields
         → unpack_aligned o fields (bits o bytes) ≡ Unpacks vs (8 * length bytes)
         → (input : List ℕ) × (values 1 fields (lines input) ≡ Ok vs) × (bits o bytes ≡ packed_bits o fields vs 0) }
-    ensures unpack_aligned { (o : Order) (fields : List Field) (bytes input : List ℕ) (vs : List FieldValue)
+    ensures repacked { (o : Order) (fields : List Field) (bytes input : List ℕ) (vs : List FieldValue)
         → IsLayout fields → values 1 fields (lines input) ≡ Ok vs → bits o bytes ≡ packed_bits o fields vs 0
         → unpack_aligned o fields (bits o bytes) ≡ Unpacks vs (8 * length bytes) }
 {}

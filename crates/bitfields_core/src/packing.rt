@@ -21,10 +21,10 @@ use std::alloc::Global;
 /// # Errors
 ///
 /// At the first value field with a fault: `ValueMissing` if its line is missing, `ValueMisspelt` if
-/// the line spells no value of the field's kind, `ValueDoesNotFit` if the number needs more bits. Else
-/// `ValueLeftOver` (field 0) if lines remain, or `OutOfMemory` (field 0). The stream is as it was
-/// then, since all values are read before the first byte is written. Else `StreamFault` or
-/// `OutOfMemory` (field 0), as the stream refuses; the stream is as the refusal left it.
+/// the line spells no value of the field's kind, `ValueDoesNotFit` if the number needs more bits.
+/// Else `ValueLeftOver` (field 0) if lines remain, or `OutOfMemory` (field 0). The stream is
+/// unchanged then, since all values are read before the first byte is written. Else `StreamFault`
+/// or `OutOfMemory` (field 0), as the stream refuses; the stream is as the refusal left it.
 pub fn pack<E: Endianness, W: Target>(
     alloc: Global,
     layout: &Layout,
@@ -64,8 +64,8 @@ pub fn pack_values<E: Endianness, W: Target>(
 ///
 /// # Errors
 ///
-/// The error of the first call that answers one. No call is made after it. A sink without a limit
-/// answers none, unless its stream refuses or it has failed.
+/// The error of the first call that returns one. No call is made after it. A sink without a limit
+/// returns none, unless its stream refuses or it has failed.
 pub fn pack_to<W: BitWrite>(
     layout: &Layout,
     values: &[FieldValue],
@@ -86,7 +86,7 @@ pub fn pack_to<W: BitWrite>(
 ///
 /// # Errors
 ///
-/// The error of the first call that answers one. No call is made after it.
+/// The error of the first call that returns one. No call is made after it.
 pub fn append_fields<W: BitWrite>(
     fields: &[Field],
     values: &[FieldValue],

@@ -22,11 +22,11 @@ use std::io::ErrorKind;
 ///
 /// # Errors
 ///
-/// Those of [`unpack`](crate::unpack), and `PaddingNotZero` at the first field `pN` or
-/// `a` whose bits are not all 0 (field 0 for those behind the last field). Then `BytesLeftOver` (field
-/// 0) if there is a byte behind the last field's, or `StreamFault` or `OutOfMemory` (field 0) as the
-/// input refuses the request for that byte. The output is as it was then. Else `StreamFault` or
-/// `OutOfMemory` (field 0), as the output refuses.
+/// The errors of [`unpack`](crate::unpack), and `PaddingNotZero` at the first field `pN` or `a`
+/// whose bits are not all 0 (field 0 for the bits after the last field). Then `BytesLeftOver`
+/// (field 0) if there is a byte after the last field, or `StreamFault` or `OutOfMemory` (field 0)
+/// as the input refuses the request for that byte. The output is unchanged then. Else `StreamFault`
+/// or `OutOfMemory` (field 0), as the output refuses.
 pub fn repack<E: Endianness, R: Source, W: Target>(
     alloc: Global,
     layout: &Layout,

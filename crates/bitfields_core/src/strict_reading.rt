@@ -1,4 +1,4 @@
-//! Packed fields, read so that no other bits would say the same.
+//! Packed fields, read strictly: only the bits that packing writes are accepted.
 
 ghost use Rattle.std.specs.Prelude.{◌≡◌, ◌≤◌, IfOk, None, length};
 ghost use Rattle.bitstream_io.specs.Alignment.{to_boundary};
@@ -20,8 +20,8 @@ use std::alloc::Global;
 ///
 /// # Errors
 ///
-/// As [`unpack_from`](crate::unpacking::unpack_from) has them, and `PaddingNotZero` at the first
-/// field `pN` or `a` whose bits are not all 0. Of the last alignment the fault names no field.
+/// The errors of [`unpack_from`](crate::unpacking::unpack_from), and `PaddingNotZero` at the first
+/// field `pN` or `a` whose bits are not all 0. For the last alignment the fault names no field.
 pub fn read_packed_from<R: BitRead>(
     alloc: Global,
     fields: &[Field],

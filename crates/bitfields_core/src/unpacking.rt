@@ -23,12 +23,12 @@ use std::alloc::{AllocError, Global};
 ///
 /// # Errors
 ///
-/// `BitsEnded` at the first field whose bits are not all there, `ConstantDiffers` at the first
-/// constant whose bits hold another number, `LimitPassed` at the first whose number passes its
-/// limit or ends in a redundant group, `StreamFault` or `OutOfMemory` at the field for which the
-/// stream refused a request,
-/// `OutOfMemory` at the field for whose bytes or line memory was refused. If each refusal of the
-/// stream is a true end, as of a `Slice`, the bits alone decide the answer, memory aside.
+/// `BitsEnded` at the first field whose bits are not all there. `ConstantDiffers` at the first
+/// constant whose bits hold another number. `LimitPassed` at the first field whose number passes
+/// its limit or ends in a redundant group. `StreamFault` or `OutOfMemory` at the field for which
+/// the stream refused a request. `OutOfMemory` at the field for whose bytes or line memory was
+/// refused. If each refusal of the stream is a true end, as with a `Slice`, the bits alone decide
+/// the result, memory aside.
 pub fn unpack<E: Endianness, R: Source>(
     alloc: Global,
     layout: &Layout,
@@ -50,8 +50,9 @@ pub fn unpack<E: Endianness, R: Source>(
 ///
 /// # Errors
 ///
-/// At the first field whose call answers an error, at the first constant whose bits hold another
-/// number, or at the first field for whose bytes or line memory is refused. No call is made after it.
+/// At the first field whose call returns an error, at the first constant whose bits hold another
+/// number, or at the first field for whose bytes or line memory is refused. No call is made after
+/// it.
 pub fn unpack_from<R: BitRead>(
     alloc: Global,
     fields: &[Field],

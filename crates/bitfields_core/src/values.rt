@@ -18,7 +18,7 @@ use std::alloc::Global;
 ///
 /// # Errors
 ///
-/// Those of [`pack`](crate::pack), before it writes.
+/// The errors of [`pack`](crate::pack), before it writes.
 pub fn values(alloc: Global, layout: &Layout, input: &[u8]) -> Result<Vec<FieldValue>, Fault>
     ensures values { IsUnlessMemory (values_of 1 layout.now (lines_of input.now))
         (result_map (λ v. v.items) result) }
@@ -75,7 +75,7 @@ pub fn value_count(field: Field) -> usize
     }
 }
 
-/// Returns the items behind those of the field: lines, or values.
+/// Returns the items after the items of the field: lines, or values.
 pub fn behind_value<T>(field: Field, items: &[T]) -> &[T]
     requires { value_count_of field ≤ length items.now }
     ensures { result.now ≡ drop (value_count_of field) items.now }

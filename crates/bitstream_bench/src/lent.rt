@@ -1,5 +1,5 @@
-//! Readers and writers that are lent to a function which takes one by value: what they move, that the lender
-//! goes on behind it, and that many bytes are one request.
+//! Readers and writers that are lent to a function which takes one by value: the bytes that they
+//! move, that the lender continues after them, and that many bytes are one request.
 use crate::asserts::{are, each_holds, gives};
 use bitstream_io::{
     BE, BitRead, BitReader, BitWrite, BitWriter, ByteRead, ByteReader, ByteWrite, ByteWriter,
@@ -20,7 +20,8 @@ fn counted<S>(inner: S) -> Count<S> {
     }
 }
 
-/// Takes a reader by value, and tells whether it reads this number in so many bits, and fills a buffer.
+/// Takes a reader by value, and returns true if it reads this number in `bits` bits, and fills a
+/// buffer.
 fn reads<R: BitRead + Drop>(mut reader: R, bits: u32, number: u8, buf: &mut [u8]) -> bool {
     gives(reader.read_unsigned_var(bits), number) & reader.read_bytes(buf).is_ok()
 }
@@ -40,7 +41,8 @@ fn lent_readers_read(rt: HostRuntime) {
     are(&rt, &many, &MANY);
 }
 
-/// Takes a writer by value, and tells whether it writes this number in so many bits, and these bytes.
+/// Takes a writer by value, and returns true if it writes this number in `bits` bits, and these
+/// bytes.
 fn writes<W: BitWrite + Drop>(mut writer: W, bits: u32, number: u8, bytes: &[u8]) -> bool {
     writer.write_unsigned_var(bits, number).is_ok() & writer.write_bytes(bytes).is_ok()
 }
@@ -60,12 +62,12 @@ fn lent_writers_write(rt: HostRuntime) {
     are(&rt, &stream.inner, &MANY);
 }
 
-/// Takes a reader of bytes by value, and tells whether it reads this byte, and fills a buffer.
+/// Takes a reader of bytes by value, and returns true if it reads this byte, and fills a buffer.
 fn reads_whole<R: ByteRead + Drop>(mut reader: R, byte: u8, buf: &mut [u8]) -> bool {
     gives(reader.read(), byte) & reader.read_bytes(buf).is_ok()
 }
 
-/// Takes a writer of bytes by value, and tells whether it writes this byte, and these.
+/// Takes a writer of bytes by value, and returns true if it writes this byte, and these.
 fn writes_whole<W: ByteWrite + Drop>(mut writer: W, byte: u8, bytes: &[u8]) -> bool {
     writer.write(byte).is_ok() & writer.write_bytes(bytes).is_ok()
 }

@@ -1,5 +1,5 @@
 -- Made by `./format` from formats/client_hello.fields: edit that file and make this one anew.
--- What was written of a `ClientHello` is read back, and how many bits it takes.
+-- A written `ClientHello` is read back, and its number of bits.
 use Rattle.bitstream_callers.specs.ClientHello.{client_hello_decoder, client_hello_writes, client_hello_size, client_hello_bits, Fits, compression_of, compression_number, compression_read}
 use Rattle.bitstream_callers.specs.declared.client_hello.ClientHello.{ClientHello}
 use Rattle.bitstream_callers.specs.declared.client_hello.Compression.{Compression}
@@ -9,7 +9,7 @@ use Rattle.bitstream_io.proofs.CallerLemmas.{RoundTrip, Packs, unsigned-back, by
 use Rattle.bitstream_io.proofs.EachLemmas.{all-made, each_part-back, made-each, packs-made}
 use Rattle.bitstream_io.specs.Callers.{Order, High, unsigned, align, write_sequence}
 
--- the number of each case fits its bits, and says that case
+-- the number of each case fits its bits, and decodes to that case
 compression_small : (it : Compression) → compression_number it < 2 ^ 8
 compression_small Null = omega arith
 compression_small Deflate = omega arith
@@ -18,7 +18,7 @@ compression_again : (it : Compression) → compression_of (compression_number it
 compression_again Null = refl
 compression_again Deflate = refl
 
--- what was written is read back
+-- a written value is read back
 pub client_hello_goes : (o : Order) (value : ClientHello) → Fits value
     → RoundTrip (client_hello_decoder o) (client_hello_writes o value) (Ok value)
 client_hello_goes o value fits =
@@ -34,7 +34,7 @@ client_hello_goes o value fits =
     refl fits.extensions_count (vec-back _ _ o (length value.extensions) value.extensions _ refl fits.extensions
     (pure-back _))))))))))))
 
--- each write is accepted, and so many bits are written
+-- each write is accepted, and the value's size is the number of bits written
 pub client_hello_packs : (o : Order) (value : ClientHello) → Fits value
     → Packs (client_hello_writes o value) (client_hello_size o value)
 client_hello_packs o value fits =

@@ -1,12 +1,12 @@
 -- Made by `./format` from formats/header.fields: edit that file and make this one anew.
--- What was written of a `Header` is read back, and how many bits it takes.
+-- A written `Header` is read back, and its number of bits.
 use Rattle.bitstream_callers.specs.Header.{header_decoder, header_writes, header_size, header_bits, Fits}
 use Rattle.bitstream_callers.specs.declared.header.Header.{Header}
 use Rattle.std.proofs.Common.{◌≡◌, ◌++◌, ◌∷◌, [], ℕ, refl}
 use Rattle.bitstream_io.proofs.CallerLemmas.{RoundTrip, Packs, unsigned-accepted, signed-accepted, bit-back, signed-back, unsigned-back, pure-back, bit-written, signed-written, unsigned-written, packs-none, packs-more}
 use Rattle.bitstream_io.specs.Callers.{Order, High, align, write_sequence, AllAccepted}
 
--- what was written is read back
+-- a written value is read back
 pub header_goes : (o : Order) (value : Header) → Fits value
     → RoundTrip (header_decoder o) (header_writes o value) value
 header_goes o value fits =
@@ -14,7 +14,7 @@ header_goes o value fits =
     value.priority _ refl refl fits.priority (unsigned-back o 16 _ _ 16 value.length _ refl fits.length (pure-back
     _))))
 
--- each write is accepted, and so many bits are written
+-- each write is accepted, and the value's size is the number of bits written
 pub header_packs : (o : Order) (value : Header) → Fits value
     → Packs (header_writes o value) (header_size o value)
 header_packs o value fits =

@@ -1,12 +1,12 @@
 -- Made by `./format` from formats/primary_header.fields: edit that file and make this one anew.
--- What was written of a `PrimaryHeader` is read back, and how many bits it takes.
+-- A written `PrimaryHeader` is read back, and its number of bits.
 use Rattle.bitstream_callers.specs.PrimaryHeader.{primary_header_decoder, primary_header_writes, primary_header_size, primary_header_bits, Fits}
 use Rattle.bitstream_callers.specs.declared.primary_header.PrimaryHeader.{PrimaryHeader}
 use Rattle.std.proofs.Common.{◌≡◌, ◌++◌, ◌∷◌, [], ℕ, Ok, refl}
 use Rattle.bitstream_io.proofs.CallerLemmas.{RoundTrip, Packs, unsigned-accepted, bit-back, unsigned-back, pure-back, literal-back, bit-written, unsigned-written, const-written, packs-none, packs-more}
 use Rattle.bitstream_io.specs.Callers.{Order, High, align, write_sequence, AllAccepted}
 
--- what was written is read back
+-- a written value is read back
 pub primary_header_goes : (o : Order) (value : PrimaryHeader) → Fits value
     → RoundTrip (primary_header_decoder o) (primary_header_writes o value) (Ok value)
 primary_header_goes o value fits =
@@ -15,7 +15,7 @@ primary_header_goes o value fits =
     14 _ _ 16 value.count _ refl fits.count (unsigned-back o 16 _ _ 16 value.length _ refl fits.length (pure-back
     _)))))))
 
--- each write is accepted, and so many bits are written
+-- each write is accepted, and the value's size is the number of bits written
 pub primary_header_packs : (o : Order) (value : PrimaryHeader) → Fits value
     → Packs (primary_header_writes o value) (primary_header_size o value)
 primary_header_packs o value fits =

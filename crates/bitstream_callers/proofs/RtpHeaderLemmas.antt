@@ -1,5 +1,5 @@
 -- Made by `./format` from formats/rtp_header.fields: edit that file and make this one anew.
--- What was written of a `RtpHeader` is read back, and how many bits it takes.
+-- A written `RtpHeader` is read back, and its number of bits.
 use Rattle.bitstream_callers.specs.RtpHeader.{rtp_header_decoder, rtp_header_writes, rtp_header_size, rtp_header_bits, Fits}
 use Rattle.bitstream_callers.specs.declared.rtp_header.RtpHeader.{RtpHeader}
 use Rattle.std.proofs.Common.{◌≡◌, ◌++◌, ◌∷◌, [], ℕ, Ok, length, refl, arith}
@@ -7,7 +7,7 @@ use Rattle.bitstream_io.proofs.CallerLemmas.{RoundTrip, Packs, unsigned-accepted
 use Rattle.std.specs.List.{flat_map}
 use Rattle.bitstream_io.specs.Callers.{list_item, Order, High, unsigned_decoder, unsigned, align, write_sequence, AllAccepted}
 
--- what was written is read back
+-- a written value is read back
 pub rtp_header_goes : (o : Order) (value : RtpHeader) → Fits value
     → RoundTrip (rtp_header_decoder o) (rtp_header_writes o value) (Ok value)
 rtp_header_goes o value fits =
@@ -18,7 +18,7 @@ rtp_header_goes o value fits =
     fits.ssrc (each-back _ _ (list_item (unsigned_decoder o 32 32)) (λ x. unsigned o 32 32 x ∷ []) (length
     value.csrc) value.csrc _ refl (unsigned-each o 32 32 value.csrc refl fits.csrc) (pure-back _))))))))))
 
--- each write is accepted, and so many bits are written
+-- each write is accepted, and the value's size is the number of bits written
 pub rtp_header_packs : (o : Order) (value : RtpHeader) → Fits value
     → Packs (rtp_header_writes o value) (rtp_header_size o value)
 rtp_header_packs o value fits =

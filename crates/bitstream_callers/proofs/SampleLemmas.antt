@@ -1,12 +1,12 @@
 -- Made by `./format` from formats/sample.fields: edit that file and make this one anew.
--- What was written of a `Sample` is read back, and how many bits it takes.
+-- A written `Sample` is read back, and its number of bits.
 use Rattle.bitstream_callers.specs.Sample.{sample_decoder, sample_writes, sample_size, sample_bits, Fits}
 use Rattle.bitstream_callers.specs.declared.sample.Sample.{Sample}
 use Rattle.std.proofs.Common.{◌≡◌, ◌++◌, ◌∷◌, [], ℕ, refl}
 use Rattle.bitstream_io.proofs.CallerLemmas.{RoundTrip, Packs, unsigned-accepted, signed-accepted, bit-back, signed-back, unsigned-back, pure-back, bit-written, signed-written, unsigned-written, packs-none, packs-more}
 use Rattle.bitstream_io.specs.Callers.{Order, High, align, write_sequence, AllAccepted}
 
--- what was written is read back
+-- a written value is read back
 pub sample_goes : (o : Order) (value : Sample) → Fits value
     → RoundTrip (sample_decoder o) (sample_writes o value) value
 sample_goes o value fits =
@@ -14,7 +14,7 @@ sample_goes o value fits =
     value.temperature _ refl refl fits.temperature (unsigned-back o 18 _ _ 32 value.pressure _ refl fits.pressure
     (pure-back _))))
 
--- each write is accepted, and so many bits are written
+-- each write is accepted, and the value's size is the number of bits written
 pub sample_packs : (o : Order) (value : Sample) → Fits value
     → Packs (sample_writes o value) (sample_size o value)
 sample_packs o value fits =

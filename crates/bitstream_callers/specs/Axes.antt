@@ -1,4 +1,4 @@
--- What an accelerometer measured.
+-- The measurement of an accelerometer.
 use Rattle.bitstream_io.specs.Callers.{Decoder, High, pure, unsigned_decoder, ◌>>=◌}
 use Rattle.bitstream_callers.specs.declared.axes.Axes.{Axes}
 

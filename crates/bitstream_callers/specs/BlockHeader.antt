@@ -5,7 +5,7 @@ use Rattle.bitstream_io.specs.Callers.{◌>>=◌, Decoder, Encoder, pure, Order,
 
 -- Made by `./format` from formats/block_header.fields: edit that file and make this one anew.
 
--- n bits behind the first k
+-- n bits after the first k
 abbrev pub bits_at : ℕ → ℕ → List Bool → List Bool
 bits_at k n bits = take n (drop k bits)
 
@@ -38,7 +38,7 @@ block_header_size o value = 32
 unfoldable pub block_header_bits : BlockHeader → List Bool
 block_header_bits value = write_sequence (block_header_writes High value ++ align ∷ []) 0
 
--- the fields that bits say, each by its place
+-- the fields in bits, each by its place
 abbrev pub block_header_at : List Bool → BlockHeader
 block_header_at bits = record {
   last = first_bit (bits_at 0 1 bits);

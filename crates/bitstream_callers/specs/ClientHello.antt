@@ -14,20 +14,20 @@ use Rattle.bitstream_io.specs.Callers.{◌>>=◌, Decoder, Encoder, pure, Error,
 abbrev pub becomes_client_hello : Error → ClientHelloError → Type 0
 becomes_client_hello error own = own ≡ Reader error
 
--- what a number says
+-- the case of a number
 abbrev pub compression_of : ℕ → (Result Compression ClientHelloError)
 compression_of n = if n == 0 then Ok Null else if n == 1 then Ok Deflate else Err NoCompression
 
--- and back
+-- the number of a case
 abbrev pub compression_number : Compression → ℕ
 compression_number Null = 0
 compression_number Deflate = 1
 
--- the read of its number
+-- the read of a case
 abbrev pub compression_read : Order → Decoder (Result Compression ClientHelloError)
 compression_read o = and_then (unsigned_decoder o 8 8) (λ v. pure (compression_of v))
 
--- the reads, in order, behind 2 that may be refused
+-- the reads, in order, after 2 that may be refused
 abbrev pub client_hello_decoder_2 : Order → ℕ → ℕ → List ℕ → ℕ → List ℕ → ℕ → List ℕ → ℕ → List Compression → Decoder
     (Result ClientHello ClientHelloError)
 client_hello_decoder_2 o size version random session_count session suites_count suites compressions_count compressions =
@@ -45,7 +45,7 @@ client_hello_decoder_2 o size version random session_count session suites_count 
         extensions = extensions;
       }))
 
--- the reads, in order, behind 1 that may be refused
+-- the reads, in order, after 1 that may be refused
 abbrev pub client_hello_decoder_1 : Order → Decoder (Result ClientHello ClientHelloError)
 client_hello_decoder_1 o = do
   size ← unsigned_decoder o 32 24

@@ -6,14 +6,14 @@ use Rattle.bitstream_callers.specs.VorbisTexts.{Comment}
 use Rattle.bitstream_callers.specs.declared.vorbis_comment.CommentError.{CommentError}
 use Rattle.bitstream_callers.specs.declared.vorbis_comment.CommentError.TheVariants.{NotText}
 
--- a length in four bytes, the least significant first, and so many bytes, which must be UTF-8
+-- a length in four bytes, the least significant first, and then that number of bytes, which must be UTF-8
 abbrev pub text_reads : Order → Decoder (Result (List ℕ) CommentError)
 text_reads o = do
   size ← bytes_number o Low 4
   text ← vec_decoder o size
   pure (if is_utf8 text then Ok text else Err NotText)
 
--- so many texts behind the vendor's
+-- `count` texts, after the vendor's
 abbrev pub texts_reads : Order → List ℕ → ℕ → Decoder (Result Comment CommentError)
 texts_reads o vendor count = parts_decoder (text_reads o) count >>= part_then (λ comments.
     pure (Ok (record { vendor = vendor; comments = comments })))

@@ -12,7 +12,7 @@ use Rattle.bitstream_io.specs.Callers.{◌>>=◌, Decoder, Encoder, pure, Error,
 abbrev pub becomes_flac_start : Error → FlacStartError → Type 0
 becomes_flac_start error own = own ≡ Reader error
 
--- n bits behind the first k
+-- n bits after the first k
 abbrev pub bits_at : ℕ → ℕ → List Bool → List Bool
 bits_at k n bits = take n (drop k bits)
 
@@ -20,7 +20,7 @@ bits_at k n bits = take n (drop k bits)
 abbrev pub const_at_0 : List Bool → ℕ
 const_at_0 bits = number High (bits_at 0 32 bits)
 
--- the reads, in order, behind 1 that may be refused
+-- the reads, in order, after 1 that may be refused
 abbrev pub flac_start_decoder_1 : Order → Decoder (Result FlacStart FlacStartError)
 flac_start_decoder_1 o = do
   block ← block_header_decoder o
@@ -51,7 +51,7 @@ flac_start_size o value = 64
 unfoldable pub flac_start_bits : FlacStart → List Bool
 flac_start_bits value = write_sequence (flac_start_writes High value ++ align ∷ []) 0
 
--- the fields that bits say, each by its place
+-- the fields in bits, each by its place
 abbrev pub flac_start_at : List Bool → FlacStart
 flac_start_at bits = record {
   block = record {

@@ -1,11 +1,11 @@
--- What stands before a packet's bytes.
+-- The header before a packet's bytes.
 use Rattle.bitstream_callers.specs.declared.header.Header.{Header}
 use Rattle.std.specs.Prelude.{◌^◌, ◌<◌, ◌++◌, ◌∷◌, [], ℕ, Bool, List, length, take, drop}
 use Rattle.bitstream_io.specs.Callers.{◌>>=◌, Decoder, Encoder, pure, Order, High, number, signed_number, FitsSignedBits, first_bit, bit_decoder, unsigned_decoder, signed_decoder, bit, unsigned, signed, align, write_sequence}
 
 -- Made by `./format` from formats/header.fields: edit that file and make this one anew.
 
--- n bits behind the first k
+-- n bits after the first k
 abbrev pub bits_at : ℕ → ℕ → List Bool → List Bool
 bits_at k n bits = take n (drop k bits)
 
@@ -41,7 +41,7 @@ header_size o value = 24
 unfoldable pub header_bits : Header → List Bool
 header_bits value = write_sequence (header_writes High value ++ align ∷ []) 0
 
--- the fields that bits say, each by its place
+-- the fields in bits, each by its place
 abbrev pub header_at : List Bool → Header
 header_at bits = record {
   version = number High (bits_at 0 3 bits);

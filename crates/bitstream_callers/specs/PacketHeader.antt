@@ -13,7 +13,7 @@ use Rattle.bitstream_callers.specs.declared.packet_header.PacketHeader.{PacketHe
 abbrev pub becomes_stream : Error → PacketError → Type 0
 becomes_stream error own = own ≡ Stream error
 
--- what stands behind a version that is supported
+-- the part that follows a supported version
 abbrev pub length_reads : Order → ByteDecoder (Result PacketHeader PacketError)
 length_reads o = do
   length ← number_bytes o 2

@@ -1,4 +1,4 @@
--- A port with bytes of padding behind it.
+-- A port with bytes of padding after it.
 use Rattle.std.specs.Prelude.{ℕ, List, [], ◌∷◌, replicate, Result, Ok}
 use Rattle.bitstream_io.specs.ByteReads.{ByteDecoder, skipped_bytes}
 use Rattle.bitstream_io.specs.ByteSteps.{◌>>=◌, number_bytes}
@@ -12,7 +12,7 @@ abbrev pub port_writes : Order → PaddedPort → ℕ → List (List ℕ)
 port_writes o port padding =
     value_bytes o (λ v. bytes High 2 v) (λ v. bytes Low 2 v) port.number ∷ replicate padding 0 ∷ []
 
--- two bytes, answered as the port's number, and then bytes whatever they are
+-- two bytes, with the port's number as the result, and then bytes whatever they are
 abbrev pub port_reads : Order → ℕ → ByteDecoder (Result PaddedPort Error)
 port_reads o padding = do
   number ← number_bytes o 2

@@ -13,7 +13,7 @@ point_reads o = do
   level ← unsigned_decoder o 8 5
   pure (Ok (record { layers = layers; level = level }))
 
--- so many points, behind the profile
+-- `count` points, after the profile
 abbrev pub points_reads : Order → ℕ → ℕ → Decoder (Result Parameters Error)
 points_reads o profile count = parts_decoder (point_reads o) count >>= part_then (λ points.
     pure (Ok (record { profile = profile; points = points })))

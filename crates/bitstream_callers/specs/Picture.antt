@@ -6,7 +6,7 @@ use Rattle.bitstream_io.specs.Own.{part_then}
 use Rattle.bitstream_callers.specs.declared.picture.Picture.{Picture}
 use Rattle.bitstream_callers.specs.declared.picture.PictureSize.{PictureSize}
 
--- bytes behind their number in 32 bits
+-- bytes after their number in 32 bits
 abbrev pub counted_reads : Order → Decoder (Result (List ℕ) Error)
 counted_reads o = do
   size ← unsigned_decoder o 32 32
@@ -22,7 +22,7 @@ size_reads o = do
   colors ← unsigned_decoder o 32 32
   pure (Ok (record { width = width; height = height; depth = depth; colors = colors }))
 
--- the parts of a picture behind its kind, in order
+-- the parts of a picture after its kind, in order
 abbrev pub parts_reads : Order → ℕ → Decoder (Result Picture Error)
 parts_reads o kind = counted_reads o >>= part_then (λ media.
     counted_reads o >>= part_then (λ description.

@@ -11,7 +11,7 @@ use Rattle.bitstream_io.specs.Callers.{◌>>=◌, Decoder, Encoder, pure, Error,
 abbrev pub becomes_primary_header : Error → PrimaryHeaderError → Type 0
 becomes_primary_header error own = own ≡ Reader error
 
--- n bits behind the first k
+-- n bits after the first k
 abbrev pub bits_at : ℕ → ℕ → List Bool → List Bool
 bits_at k n bits = take n (drop k bits)
 
@@ -19,7 +19,7 @@ bits_at k n bits = take n (drop k bits)
 abbrev pub const_at_0 : List Bool → ℕ
 const_at_0 bits = number High (bits_at 0 3 bits)
 
--- the reads, in order, behind 1 that may be refused
+-- the reads, in order, after 1 that may be refused
 abbrev pub primary_header_decoder_1 : Order → Decoder (Result PrimaryHeader PrimaryHeaderError)
 primary_header_decoder_1 o = do
   telecommand ← bit_decoder
@@ -70,7 +70,7 @@ primary_header_size o value = 48
 unfoldable pub primary_header_bits : PrimaryHeader → List Bool
 primary_header_bits value = write_sequence (primary_header_writes High value ++ align ∷ []) 0
 
--- the fields that bits say, each by its place
+-- the fields in bits, each by its place
 abbrev pub primary_header_at : List Bool → PrimaryHeader
 primary_header_at bits = record {
   telecommand = first_bit (bits_at 3 1 bits);

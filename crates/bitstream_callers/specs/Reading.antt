@@ -1,4 +1,4 @@
--- A sensor's reading, in a width that the context says.
+-- A sensor's reading, in a width from the context.
 use Rattle.std.specs.Prelude.{◌≡◌, ℕ, true, if◌then◌else◌, List, [], ◌∷◌, Result, Ok, Err}
 use Rattle.bitstream_io.specs.Callers.{Decoder, Encoder, pure, Error, bit_decoder, unsigned_decoder, ◌>>=◌, Order, bit, unsigned}
 use Rattle.bitstream_callers.specs.declared.reading.Reading.{Reading}
@@ -9,7 +9,7 @@ use Rattle.bitstream_callers.specs.declared.reading.ReadingError.TheVariants.{Re
 abbrev pub becomes_reader : Error → ReadingError → Type 0
 becomes_reader error own = own ≡ Reader error
 
--- the value, in as many bits as the context says
+-- the value, in the number of bits of the context
 abbrev pub value_reads : Order → ℕ → Decoder (Result Reading ReadingError)
 value_reads o bits = do
   value ← unsigned_decoder o 32 bits

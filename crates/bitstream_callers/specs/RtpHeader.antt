@@ -12,7 +12,7 @@ use Rattle.bitstream_io.specs.Callers.{◌>>=◌, Decoder, Encoder, pure, list_i
 abbrev pub becomes_rtp_header : Error → RtpError → Type 0
 becomes_rtp_header error own = own ≡ Reader error
 
--- the reads, in order, behind 1 that may be refused
+-- the reads, in order, after 1 that may be refused
 abbrev pub rtp_header_decoder_1 : Order → Decoder (Result RtpHeader RtpError)
 rtp_header_decoder_1 o = do
   padding ← bit_decoder

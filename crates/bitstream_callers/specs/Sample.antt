@@ -1,11 +1,11 @@
--- What a vehicle's telemetry measured at one time.
+-- A measurement of a vehicle's telemetry at one time.
 use Rattle.bitstream_callers.specs.declared.sample.Sample.{Sample}
 use Rattle.std.specs.Prelude.{◌^◌, ◌<◌, ◌++◌, ◌∷◌, [], ℕ, Bool, List, take, drop}
 use Rattle.bitstream_io.specs.Callers.{◌>>=◌, Decoder, Encoder, pure, Order, High, number, signed_number, FitsSignedBits, first_bit, bit_decoder, unsigned_decoder, signed_decoder, bit, unsigned, signed, align, write_sequence}
 
 -- Made by `./format` from formats/sample.fields: edit that file and make this one anew.
 
--- n bits behind the first k
+-- n bits after the first k
 abbrev pub bits_at : ℕ → ℕ → List Bool → List Bool
 bits_at k n bits = take n (drop k bits)
 
@@ -41,7 +41,7 @@ sample_size o value = 48
 unfoldable pub sample_bits : Sample → List Bool
 sample_bits value = write_sequence (sample_writes High value ++ align ∷ []) 0
 
--- the fields that bits say, each by its place
+-- the fields in bits, each by its place
 abbrev pub sample_at : List Bool → Sample
 sample_at bits = record {
   seconds = number High (bits_at 0 20 bits);

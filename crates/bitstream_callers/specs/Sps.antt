@@ -10,7 +10,7 @@ use Rattle.bitstream_callers.specs.declared.sps.SpsError.TheVariants.{Reader, Ot
 abbrev pub becomes_sps : Error → SpsError → Type 0
 becomes_sps error own = own ≡ Reader error
 
--- what stands behind the order, with the fields before it
+-- the part after the order, with the fields before it
 abbrev pub frames_decoder : Order → ℕ → ℕ → ℕ → ℕ → ℕ → Decoder (Result Sps SpsError)
 frames_decoder o profile constraints level id frame_number_bits = do
   reference_frames ← ue_decoder o
@@ -29,7 +29,7 @@ frames_decoder o profile constraints level id frame_number_bits = do
     height = height_less_1 + 1;
   }))
 
--- what stands behind the byte that names the unit
+-- the part after the byte that names the unit
 abbrev pub unit_decoder : Order → Decoder (Result Sps SpsError)
 unit_decoder o = do
   profile ← unsigned_decoder o 8 8

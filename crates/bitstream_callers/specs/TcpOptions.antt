@@ -2,7 +2,7 @@
 use Rattle.std.specs.Prelude.{ℕ, ◌-◌, ◌==◌, nat_le, Bool, true, false, if◌then◌else◌}
 use Rattle.bitstream_io.specs.Callers.{Decoder, High, pure, unsigned_decoder, whole_bytes_decoder, ◌>>=◌}
 
--- so many bytes of data
+-- n bytes of data
 abbrev pub data_decoder : ℕ → Decoder Bool
 data_decoder count = do
   done ← whole_bytes_decoder count
@@ -14,7 +14,7 @@ long_decoder = do
   length ← unsigned_decoder High 8 8
   if nat_le length 1 then pure false else data_decoder (length - 2)
 
--- whether another option may follow: behind the kind 0 none does, and the kind 1 is an option by itself
+-- true if another option may follow: after the kind 0 none does, and the kind 1 is an option by itself
 abbrev pub option_decoder : Decoder Bool
 option_decoder = do
   kind ← unsigned_decoder High 8 8

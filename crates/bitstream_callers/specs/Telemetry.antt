@@ -1,4 +1,4 @@
--- Heartbeats, and samples of a vehicle's telemetry in a vector and behind their length.
+-- Heartbeats, and samples of a vehicle's telemetry in vectors: plain, or in frames that begin with their length.
 use Rattle.std.specs.Prelude.{◌≡◌, ◌⊎◌, ℕ, Bool, List, [], ◌∷◌, ◌++◌, length, Err}
 use Rattle.bitstream_io.specs.Callers.{Error, OutOfMemory, Encoder, write_sequence, sequence_length, High, align, bit, unsigned}
 use Rattle.bitstream_callers.specs.Sample.{sample_writes}

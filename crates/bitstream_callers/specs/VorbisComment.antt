@@ -15,14 +15,14 @@ use Rattle.bitstream_callers.specs.declared.vorbis_comment.CommentError.TheVaria
 abbrev pub becomes_reader : Error → CommentError → Type 0
 becomes_reader error own = own ≡ Reader error
 
--- a length in four bytes, the least significant first, and so many bytes, which must be UTF-8
+-- a length in four bytes, the least significant first, and then that number of bytes, which must be UTF-8
 abbrev pub text_reads : ByteDecoder (Result (List ℕ) CommentError)
 text_reads = do
   size ← number_bytes Low 4
   text ← vec_bytes size
   byte_pure (if is_utf8 text then Ok text else Err NotText)
 
--- so many texts behind the vendor's
+-- `count` texts, after the vendor's
 abbrev pub texts_reads : List ℕ → ℕ → ByteDecoder (Result Comment CommentError)
 texts_reads vendor count = byte_parts text_reads count >>= byte_part_then (λ comments.
     byte_pure (Ok (record { vendor = vendor; comments = comments })))

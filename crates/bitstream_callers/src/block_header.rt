@@ -24,7 +24,7 @@ use bitstream_io::{
 /// ```
 #[derive(Clone, Copy, Debug, PartialEq)]
 pub struct BlockHeader {
-    /// Whether the block is the last one.
+    /// True if the block is the last one.
     pub last: bool,
     /// The kind of the block. Below 2^7.
     pub kind: u8,
@@ -33,11 +33,14 @@ pub struct BlockHeader {
 }
 
 impl BlockHeader {
+    /// The number of bits before each line of the description.
+    pub const PLACES: [u64; 3] = [0, 1, 8];
+
     /// Reads the fields in order.
     ///
     /// # Errors
     ///
-    /// Those of the reader: after each of them it has failed.
+    /// The errors of the reader: after each of them it has failed.
     pub fn read<R: BitRead>(reader: &mut R) -> Result<BlockHeader, Error>
         ensures { Reads R.source (block_header_decoder R.source.order) reader.old result reader.new }
     {
@@ -47,7 +50,7 @@ impl BlockHeader {
         Ok(BlockHeader { last, kind, size })
     }
 
-    /// Returns what bytes begin with.
+    /// Parses the value at the start of `packet`.
     ///
     /// # Errors
     ///
@@ -69,7 +72,7 @@ impl BlockHeader {
     /// # Errors
     ///
     /// `Checked` for a field that does not fit its bits. The fields before it are written then.
-    /// Else those of the sink.
+    /// Else the errors of the sink.
     pub fn write<W: BitWrite>(&self, writer: &mut W) -> Result<(), Error>
         ensures { WritesAll W.sink (block_header_writes W.sink.order self.now) writer.old result writer.new }
     {
@@ -124,8 +127,8 @@ impl ToBitStream for BlockHeader {
     }
 }
 
-/// What fits its bits is read back as it was written, in either order of bits, wherever it stands.
-/// The read takes the bits that were written, and no more: 32 bits.
+/// A value that fits its bits is read back as it was written, in either order of bits, at any place.
+/// The read takes only the bits that were written: 32 bits.
 pub fn block_header_round_trip()
     ensures back { (o : Order) (value : BlockHeader) (at from : ℕ) (more : List Bool) → Fits value
         → let written = write_sequence (block_header_writes o value) at in

@@ -59,9 +59,9 @@ pub struct ClientHello {
     pub session: Vec<u8>,
     /// The cipher suites, of two bytes each. Fewer than 2^16.
     pub suites: Vec<u8>,
-    /// How the bytes may be compressed. Fewer than 2^8.
+    /// The compression methods that are offered. Fewer than 2^8.
     pub compressions: Vec<Compression>,
-    /// The extensions, as they stand. Fewer than 2^16.
+    /// The extensions, undecoded. Fewer than 2^16.
     pub extensions: Vec<u8>,
 }
 
@@ -81,7 +81,7 @@ impl Model for ClientHello {
     } };
 }
 
-/// Why a `ClientHello` is not read.
+/// The errors of reading a `ClientHello`.
 #[derive(Debug, Drop, thiserror::Error)]
 pub enum ClientHelloError {
     /// An error of the reader.
@@ -103,7 +103,7 @@ impl From<Error> for ClientHelloError {
     }
 }
 
-/// How the bytes may be compressed.
+/// The compression methods that are offered.
 #[derive(Clone, Copy, Debug, PartialEq)]
 pub enum Compression {
     /// 0.
@@ -113,7 +113,7 @@ pub enum Compression {
 }
 
 impl Compression {
-    /// Returns what a number says.
+    /// Decodes a number.
     pub fn of(number: u8) -> Result<Compression, ClientHelloError>
         ensures { result ≡ compression_of number }
     {
@@ -126,7 +126,7 @@ impl Compression {
         Err(ClientHelloError::NoCompression)
     }
 
-    /// Returns its number.
+    /// Returns the number of the case.
     pub fn number(self) -> u8
         ensures { result ≡ compression_number self }
     {
@@ -136,7 +136,7 @@ impl Compression {
         }
     }
 
-    /// Reads its number.
+    /// Reads a number of 8 bits, and decodes it.
     pub fn read<R: BitRead>(reader: &mut R) -> Result<Compression, ClientHelloError>
         ensures { ReadsOwn R.source becomes_client_hello (compression_read R.source.order) reader.old result reader.new }
     {
@@ -153,8 +153,8 @@ impl<T: Drop> From<AllocFailed<T>> for ClientHelloError {
     }
 }
 
-/// Reads so many items of `compressions`. If memory for one is refused, that one is read, and no more.
-/// One that is refused is the last that is read.
+/// Reads `count` items of `compressions`. If memory for one is refused, it is the last one read.
+/// A refused one is the last one read, too.
 fn read_compressions<R: BitRead>(
     reader: &mut R,
     alloc: Global,
@@ -186,9 +186,9 @@ impl ClientHello {
     ///
     /// # Errors
     ///
-    /// `OtherMessage`, `NoCompression`, behind the bits that say so.
-    /// `Reader(OutOfMemory)` if memory for a list is refused, behind the items before.
-    /// Else those of the reader: after each of them it has failed.
+    /// `OtherMessage`, `NoCompression`, after the bits that are refused.
+    /// `Reader(OutOfMemory)` if memory for a list is refused, after the items before.
+    /// Else the errors of the reader: after each of them it has failed.
     pub fn read<R: BitRead>(reader: &mut R, alloc: Global) -> Result<ClientHello, ClientHelloError>
         ensures { GrowsOwn R.source becomes_client_hello (client_hello_decoder R.source.order) reader.old result reader.new }
     {
@@ -215,7 +215,7 @@ impl ClientHello {
         })
     }
 
-    /// Returns what bytes begin with.
+    /// Parses the value at the start of `packet`.
     ///
     /// # Errors
     ///
@@ -240,7 +240,7 @@ impl ClientHello {
     /// # Errors
     ///
     /// `Checked` for a field that does not fit its bits. The fields before it are written then.
-    /// Else those of the sink.
+    /// Else the errors of the sink.
     pub fn write<W: BitWrite>(&self, writer: &mut W) -> Result<(), Error>
         ensures { WritesAll W.sink (client_hello_writes W.sink.order self.now) writer.old result writer.new }
     {
@@ -313,8 +313,8 @@ impl ToBitStream for ClientHello {
     }
 }
 
-/// What fits its bits is read back as it was written, in either order of bits, wherever it stands.
-/// The read takes the bits that were written, and no more: as many as `client_hello_size` says.
+/// A value that fits its bits is read back as it was written, in either order of bits, at any place.
+/// The read takes only the bits that were written: `client_hello_size` is their number.
 pub fn client_hello_round_trip()
     ensures back { (o : Order) (value : ClientHello) (at from : ℕ) (more : List Bool) → Fits value
         → let written = write_sequence (client_hello_writes o value) at in

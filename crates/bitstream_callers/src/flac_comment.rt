@@ -11,12 +11,12 @@ use bitstream_io::{BitRead, FromBitStreamUsing, LE};
 use std::alloc::Global;
 use std::marker::Model;
 
-/// What is said of a file.
+/// The comment of a file.
 #[derive(Drop)]
 pub struct VorbisComment {
     /// The program that wrote the file.
     pub vendor: String,
-    /// What is said, each as a name, `=` and a text.
+    /// The entries, each as a name, `=` and a text.
     pub comment: Vec<String>,
 }
 
@@ -30,11 +30,11 @@ impl Model for VorbisComment {
     ghost view = { λ c. record { vendor = string_bytes c.vendor; comments = map string_bytes c.comment.items } };
 }
 
-/// Reads a text, behind its length in four bytes.
+/// Reads a text, after its length in four bytes.
 ///
 /// # Errors
 ///
-/// Those of the reader, or that the bytes of the text are not UTF-8. They are read then.
+/// The errors of the reader, or an error for bytes that are not UTF-8. They are read then.
 fn read_entry<R: BitRead>(reader: &mut R, alloc: Global) -> Result<String, CommentError>
     ensures reads { GrowsOwn R.source becomes_reader (text_reads R.source.order)
         reader.old (result_map string_bytes result) reader.new }

@@ -33,7 +33,7 @@ pub struct FlacStart {
     pub block: BlockHeader,
 }
 
-/// Why a `FlacStart` is not read.
+/// The errors of reading a `FlacStart`.
 #[derive(Debug, Drop, thiserror::Error)]
 pub enum FlacStartError {
     /// An error of the reader.
@@ -53,12 +53,15 @@ impl From<Error> for FlacStartError {
 }
 
 impl FlacStart {
+    /// The number of bits before each line of the description.
+    pub const PLACES: [u64; 2] = [0, 32];
+
     /// Reads the fields in order.
     ///
     /// # Errors
     ///
-    /// `NoFlac`, behind the bits that say so.
-    /// Else those of the reader: after each of them it has failed.
+    /// `NoFlac`, after the bits that are refused.
+    /// Else the errors of the reader: after each of them it has failed.
     pub fn read<R: BitRead>(reader: &mut R) -> Result<FlacStart, FlacStartError>
         ensures { ReadsOwn R.source becomes_flac_start (flac_start_decoder R.source.order) reader.old result reader.new }
     {
@@ -67,7 +70,7 @@ impl FlacStart {
         Ok(FlacStart { block })
     }
 
-    /// Returns what bytes begin with.
+    /// Parses the value at the start of `packet`.
     ///
     /// # Errors
     ///
@@ -94,7 +97,7 @@ impl FlacStart {
     /// # Errors
     ///
     /// `Checked` for a field that does not fit its bits. The fields before it are written then.
-    /// Else those of the sink.
+    /// Else the errors of the sink.
     pub fn write<W: BitWrite>(&self, writer: &mut W) -> Result<(), Error>
         ensures { WritesAll W.sink (flac_start_writes W.sink.order self.now) writer.old result writer.new }
     {
@@ -148,8 +151,8 @@ impl ToBitStream for FlacStart {
     }
 }
 
-/// What fits its bits is read back as it was written, in either order of bits, wherever it stands.
-/// The read takes the bits that were written, and no more: 64 bits.
+/// A value that fits its bits is read back as it was written, in either order of bits, at any place.
+/// The read takes only the bits that were written: 64 bits.
 pub fn flac_start_round_trip()
     ensures back { (o : Order) (value : FlacStart) (at from : ℕ) (more : List Bool) → Fits value
         → let written = write_sequence (flac_start_writes o value) at in

@@ -1,4 +1,4 @@
-//! What stands before a packet's bytes.
+//! The header before a packet's bytes.
 //!
 //! Made by `./format` from formats/header.fields: edit that file and make this one anew.
 ghost use Rattle.bitstream_callers.specs.Header.{header_decoder, header_writes, header_bits, header_at, Fits};
@@ -13,7 +13,7 @@ use bitstream_io::{
     SliceMut, ToBitStream, pack_into,
 };
 
-/// What stands before a packet's bytes.
+/// The header before a packet's bytes.
 ///
 /// ```text
 ///  0                   1                   2                   3
@@ -26,20 +26,23 @@ use bitstream_io::{
 pub struct Header {
     /// The version of the protocol. Below 2^3.
     pub version: u8,
-    /// Whether the packet is to be acknowledged.
+    /// True if the packet is to be acknowledged.
     pub acknowledge: bool,
-    /// How urgent the packet is. From -8 to 7.
+    /// The urgency of the packet. From -8 to 7.
     pub priority: i8,
     /// The bytes that follow.
     pub length: u16,
 }
 
 impl Header {
+    /// The number of bits before each line of the description.
+    pub const PLACES: [u64; 4] = [0, 3, 4, 8];
+
     /// Reads the fields in order.
     ///
     /// # Errors
     ///
-    /// Those of the reader: after each of them it has failed.
+    /// The errors of the reader: after each of them it has failed.
     pub fn read<R: BitRead>(reader: &mut R) -> Result<Header, Error>
         ensures { Reads R.source (header_decoder R.source.order) reader.old result reader.new }
     {
@@ -55,7 +58,7 @@ impl Header {
         })
     }
 
-    /// Returns what bytes begin with.
+    /// Parses the value at the start of `packet`.
     ///
     /// # Errors
     ///
@@ -76,7 +79,7 @@ impl Header {
     /// # Errors
     ///
     /// `Checked` for a field that does not fit its bits. The fields before it are written then.
-    /// Else those of the sink.
+    /// Else the errors of the sink.
     pub fn write<W: BitWrite>(&self, writer: &mut W) -> Result<(), Error>
         ensures { WritesAll W.sink (header_writes W.sink.order self.now) writer.old result writer.new }
     {
@@ -132,8 +135,8 @@ impl ToBitStream for Header {
     }
 }
 
-/// What fits its bits is read back as it was written, in either order of bits, wherever it stands.
-/// The read takes the bits that were written, and no more: 24 bits.
+/// A value that fits its bits is read back as it was written, in either order of bits, at any place.
+/// The read takes only the bits that were written: 24 bits.
 pub fn header_round_trip()
     ensures back { (o : Order) (value : Header) (at from : ℕ) (more : List Bool) → Fits value
         → let written = write_sequence (header_writes o value) at in

@@ -28,11 +28,11 @@ use bitstream_io::{
 /// ```
 #[derive(Clone, Copy, Debug, PartialEq)]
 pub struct PrimaryHeader {
-    /// Whether the packet is a telecommand, and not telemetry.
+    /// True if the packet is a telecommand, and not telemetry.
     pub telecommand: bool,
-    /// Whether a secondary header follows.
+    /// True if a secondary header follows.
     pub secondary: bool,
-    /// Which application the packet is of. Below 2^11.
+    /// The application of the packet. Below 2^11.
     pub apid: u16,
     /// The sequence flags. Below 2^2.
     pub sequence: u8,
@@ -42,7 +42,7 @@ pub struct PrimaryHeader {
     pub length: u16,
 }
 
-/// Why a `PrimaryHeader` is not read.
+/// The errors of reading a `PrimaryHeader`.
 #[derive(Debug, Drop, thiserror::Error)]
 pub enum PrimaryHeaderError {
     /// An error of the reader.
@@ -62,12 +62,15 @@ impl From<Error> for PrimaryHeaderError {
 }
 
 impl PrimaryHeader {
+    /// The number of bits before each line of the description.
+    pub const PLACES: [u64; 7] = [0, 3, 4, 5, 16, 18, 32];
+
     /// Reads the fields in order.
     ///
     /// # Errors
     ///
-    /// `WrongVersion`, behind the bits that say so.
-    /// Else those of the reader: after each of them it has failed.
+    /// `WrongVersion`, after the bits that are refused.
+    /// Else the errors of the reader: after each of them it has failed.
     pub fn read<R: BitRead>(reader: &mut R) -> Result<PrimaryHeader, PrimaryHeaderError>
         ensures { ReadsOwn R.source becomes_primary_header (primary_header_decoder R.source.order) reader.old result reader.new }
     {
@@ -90,7 +93,7 @@ impl PrimaryHeader {
         })
     }
 
-    /// Returns what bytes begin with.
+    /// Parses the value at the start of `packet`.
     ///
     /// # Errors
     ///
@@ -117,7 +120,7 @@ impl PrimaryHeader {
     /// # Errors
     ///
     /// `Checked` for a field that does not fit its bits. The fields before it are written then.
-    /// Else those of the sink.
+    /// Else the errors of the sink.
     pub fn write<W: BitWrite>(&self, writer: &mut W) -> Result<(), Error>
         ensures { WritesAll W.sink (primary_header_writes W.sink.order self.now) writer.old result writer.new }
     {
@@ -176,8 +179,8 @@ impl ToBitStream for PrimaryHeader {
     }
 }
 
-/// What fits its bits is read back as it was written, in either order of bits, wherever it stands.
-/// The read takes the bits that were written, and no more: 48 bits.
+/// A value that fits its bits is read back as it was written, in either order of bits, at any place.
+/// The read takes only the bits that were written: 48 bits.
 pub fn primary_header_round_trip()
     ensures back { (o : Order) (value : PrimaryHeader) (at from : ℕ) (more : List Bool) → Fits value
         → let written = write_sequence (primary_header_writes o value) at in

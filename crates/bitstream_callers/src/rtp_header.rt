@@ -36,17 +36,17 @@ use std::marker::Model;
 /// ```
 #[derive(Debug, Drop)]
 pub struct RtpHeader {
-    /// Whether padding stands at the end of the packet.
+    /// True if there is padding at the end of the packet.
     pub padding: bool,
-    /// Whether one extension of the header follows.
+    /// True if one extension of the header follows.
     pub extension: bool,
     /// A mark of the profile's own, as the end of a frame.
     pub marker: bool,
-    /// What the payload is. Below 2^7.
+    /// The type of the payload. Below 2^7.
     pub payload_type: u8,
     /// The number of the packet in its stream.
     pub sequence: u16,
-    /// When the first byte of the payload was sampled.
+    /// The time at which the first byte of the payload was sampled.
     pub timestamp: u32,
     /// The source that the packet is synchronized to.
     pub ssrc: u32,
@@ -71,7 +71,7 @@ impl Model for RtpHeader {
     } };
 }
 
-/// Why a `RtpHeader` is not read.
+/// The errors of reading a `RtpHeader`.
 #[derive(Debug, Drop, thiserror::Error)]
 pub enum RtpError {
     /// An error of the reader.
@@ -90,7 +90,7 @@ impl From<Error> for RtpError {
     }
 }
 
-/// Reads so many items of `csrc`. If memory for one is refused, that one is read, and no more.
+/// Reads `count` items of `csrc`. If memory for one is refused, it is the last one read.
 fn read_csrc<R: BitRead>(reader: &mut R, alloc: Global, count: u64) -> Result<Vec<u32>, Error>
     ensures { GrowingOutcome R.source (items_decoder (list_item (unsigned_decoder R.source.order 32 32)) count)
         reader.old (result_map (λ found. found.items) result) reader.new }
@@ -114,13 +114,16 @@ fn write_csrc<W: BitWrite>(writer: &mut W, items: &[u32]) -> Result<(), Error>
 }
 
 impl RtpHeader {
+    /// The number of bits before each line of the description.
+    pub const PLACES: [u64; 10] = [0, 2, 3, 4, 8, 9, 16, 32, 64, 96];
+
     /// Reads the fields in order.
     ///
     /// # Errors
     ///
-    /// `WrongVersion`, behind the bits that say so.
-    /// `Reader(OutOfMemory)` if memory for a list is refused, behind the items before.
-    /// Else those of the reader: after each of them it has failed.
+    /// `WrongVersion`, after the bits that are refused.
+    /// `Reader(OutOfMemory)` if memory for a list is refused, after the items before.
+    /// Else the errors of the reader: after each of them it has failed.
     pub fn read<R: BitRead>(reader: &mut R, alloc: Global) -> Result<RtpHeader, RtpError>
         ensures { GrowsOwn R.source becomes_rtp_header (rtp_header_decoder R.source.order) reader.old result reader.new }
     {
@@ -146,7 +149,7 @@ impl RtpHeader {
         })
     }
 
-    /// Returns what bytes begin with.
+    /// Parses the value at the start of `packet`.
     ///
     /// # Errors
     ///
@@ -171,7 +174,7 @@ impl RtpHeader {
     /// # Errors
     ///
     /// `Checked` for a field that does not fit its bits. The fields before it are written then.
-    /// Else those of the sink.
+    /// Else the errors of the sink.
     pub fn write<W: BitWrite>(&self, writer: &mut W) -> Result<(), Error>
         ensures { WritesAll W.sink (rtp_header_writes W.sink.order self.now) writer.old result writer.new }
     {
@@ -239,8 +242,8 @@ impl ToBitStream for RtpHeader {
     }
 }
 
-/// What fits its bits is read back as it was written, in either order of bits, wherever it stands.
-/// The read takes the bits that were written, and no more: as many as `rtp_header_size` says.
+/// A value that fits its bits is read back as it was written, in either order of bits, at any place.
+/// The read takes only the bits that were written: `rtp_header_size` is their number.
 pub fn rtp_header_round_trip()
     ensures back { (o : Order) (value : RtpHeader) (at from : ℕ) (more : List Bool) → Fits value
         → let written = write_sequence (rtp_header_writes o value) at in

@@ -1,4 +1,4 @@
-//! What a vehicle's telemetry measured at one time.
+//! A measurement of a vehicle's telemetry at one time.
 //!
 //! Made by `./format` from formats/sample.fields: edit that file and make this one anew.
 ghost use Rattle.bitstream_callers.specs.Sample.{sample_decoder, sample_writes, sample_bits, sample_at, Fits};
@@ -13,7 +13,7 @@ use bitstream_io::{
     SliceMut, ToBitStream, pack_into,
 };
 
-/// What a vehicle's telemetry measured at one time.
+/// A measurement of a vehicle's telemetry at one time.
 ///
 /// ```text
 ///  0                   1                   2                   3
@@ -28,7 +28,7 @@ use bitstream_io::{
 pub struct Sample {
     /// Seconds since the start. Below 2^20.
     pub seconds: u32,
-    /// Whether the engine runs.
+    /// True if the engine runs.
     pub running: bool,
     /// Degrees Celsius. From -256 to 255.
     pub temperature: i16,
@@ -37,11 +37,14 @@ pub struct Sample {
 }
 
 impl Sample {
+    /// The number of bits before each line of the description.
+    pub const PLACES: [u64; 4] = [0, 20, 21, 30];
+
     /// Reads the fields in order.
     ///
     /// # Errors
     ///
-    /// Those of the reader: after each of them it has failed.
+    /// The errors of the reader: after each of them it has failed.
     pub fn read<R: BitRead>(reader: &mut R) -> Result<Sample, Error>
         ensures { Reads R.source (sample_decoder R.source.order) reader.old result reader.new }
     {
@@ -57,7 +60,7 @@ impl Sample {
         })
     }
 
-    /// Returns what bytes begin with.
+    /// Parses the value at the start of `packet`.
     ///
     /// # Errors
     ///
@@ -78,7 +81,7 @@ impl Sample {
     /// # Errors
     ///
     /// `Checked` for a field that does not fit its bits. The fields before it are written then.
-    /// Else those of the sink.
+    /// Else the errors of the sink.
     pub fn write<W: BitWrite>(&self, writer: &mut W) -> Result<(), Error>
         ensures { WritesAll W.sink (sample_writes W.sink.order self.now) writer.old result writer.new }
     {
@@ -134,8 +137,8 @@ impl ToBitStream for Sample {
     }
 }
 
-/// What fits its bits is read back as it was written, in either order of bits, wherever it stands.
-/// The read takes the bits that were written, and no more: 48 bits.
+/// A value that fits its bits is read back as it was written, in either order of bits, at any place.
+/// The read takes only the bits that were written: 48 bits.
 pub fn sample_round_trip()
     ensures back { (o : Order) (value : Sample) (at from : ℕ) (more : List Bool) → Fits value
         → let written = write_sequence (sample_writes o value) at in

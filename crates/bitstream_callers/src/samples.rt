@@ -7,12 +7,12 @@ ghost use Rattle.bitstream_callers.specs.Samples.{ReadSome, samples_decoder, sam
 use bitstream_io::{BE, BitRead, BitReadExt, BitReader, BitWrite, BitWriteExt, Bits, Error};
 use std::alloc::Global;
 
-/// Reads the given number of samples.
+/// Reads `count` samples.
 ///
 /// # Errors
 ///
-/// Those of the reader; and `OutOfMemory` if the vector is refused memory. Some of the samples are
-/// read then, and the reader goes on.
+/// The errors of the reader; and `OutOfMemory` if the vector is refused memory. Some of the samples
+/// are read then, and the reader continues.
 pub fn read_samples<R: BitRead>(
     alloc: Global,
     reader: &mut R,
@@ -48,7 +48,8 @@ pub fn parse_samples(alloc: Global, bytes: &[u8], count: usize) -> Result<Vec<u1
 ///
 /// # Errors
 ///
-/// `Checked` for a sample of 2^12 or more. Those before it are written then. Else those of the sink.
+/// `Checked` for a sample of 2^12 or more. The samples before it are written then. Else the errors
+/// of the sink.
 pub fn write_samples<W: BitWrite>(writer: &mut W, samples: &[u16]) -> Result<(), Error>
     ensures { WritesAll W.sink (samples_writes W.sink.order samples.now)
         writer.old result writer.new }
@@ -59,9 +60,9 @@ pub fn write_samples<W: BitWrite>(writer: &mut W, samples: &[u16]) -> Result<(),
     Ok(())
 }
 
-/// Samples that fit their bits are read back as they were written, in either order of bits, wherever
-/// they stand.
-pub fn samples_go_back()
+/// Samples that fit their bits are read back as they were written, in either order of bits, at any
+/// place.
+pub fn samples_round_trip()
     ensures { (o : Order) (samples : List ℕ) (at from : ℕ) (more : List Bool)
         → All (λ sample. sample < 2 ^ 12) samples
         → let word = write_sequence (samples_writes o samples) at in

@@ -9,7 +9,7 @@ use bitstream_io::huffman::HuffmanTree;
 use bitstream_io::{BE, BitRead, BitReadExt, BitReader, BitWrite, BitWriteExt, Bits, Error};
 use std::alloc::{AllocError, Global};
 
-/// How a wheel turns.
+/// The motion of a wheel.
 #[derive(Clone, Copy, Debug, PartialEq, Eq)]
 pub enum State {
     /// Not at all.
@@ -25,16 +25,16 @@ pub enum State {
 /// A code of the states.
 pub type StateCode = HuffmanTree<State, Global>;
 
-/// What is measured at one time.
+/// A measurement at one time.
 #[derive(Clone, Copy, Debug, PartialEq)]
 pub struct Measurement {
     /// The measurements that were lost before this one.
     pub missed: u32,
-    /// How far the wheel turned since the start.
+    /// The distance since the start.
     pub distance: u32,
-    /// How far it turned since the last measurement, backwards if negative.
+    /// The turn since the last measurement, negative if backwards.
     pub turn: i16,
-    /// How it turns.
+    /// The motion of the wheel.
     pub state: State,
 }
 
@@ -59,8 +59,8 @@ impl Measurement {
     ///
     /// # Errors
     ///
-    /// Those of the reader. `VariableWidthOverflow` and `RedundantGroup` for numbers that are not
-    /// written so.
+    /// The errors of the reader. `VariableWidthOverflow` and `RedundantGroup` for numbers in
+    /// another form.
     pub fn read<R: BitRead>(code: &StateCode, reader: &mut R) -> Result<Measurement, Error>
         requires { tree_of code.now ≡ state_tree }
         ensures { Reads R.source (measurement_decoder R.source.order) reader.old result reader.new }
@@ -77,7 +77,7 @@ impl Measurement {
     ///
     /// # Errors
     ///
-    /// Those of `read`, of which `EndOfInput` is the only one of the stream.
+    /// The errors of `read`: `EndOfInput` is the only one of the stream.
     pub fn parse(code: &StateCode, packet: &[u8]) -> Result<Measurement, Error>
         requires { tree_of code.now ≡ state_tree }
         ensures answer { result
@@ -86,7 +86,7 @@ impl Measurement {
             → bits High packet.now ≡ write_sequence (measurement_writes High measurement) 0 ++ more
             → result ≡ Ok measurement }
     {
-        measurements_go_back();
+        measurements_round_trip();
         Measurement::read(code, &mut BitReader::<_, BE>::over(packet))
     }
 
@@ -94,7 +94,7 @@ impl Measurement {
     ///
     /// # Errors
     ///
-    /// Those of the sink.
+    /// The errors of the sink.
     pub fn write<W: BitWrite>(&self, code: &StateCode, writer: &mut W) -> Result<(), Error>
         requires { tree_of code.now ≡ state_tree }
         ensures { WritesAll W.sink (measurement_writes W.sink.order self.now)
@@ -107,8 +107,8 @@ impl Measurement {
     }
 }
 
-/// A measurement is read back as it was written, in either order of bits, wherever it stands.
-pub fn measurements_go_back()
+/// A measurement is read back as it was written, in either order of bits, at any place.
+pub fn measurements_round_trip()
     ensures { (o : Order) (measurement : Measurement) (at from : ℕ) (more : List Bool)
         → Fits measurement
         → let word = write_sequence (measurement_writes o measurement) at in

@@ -1,12 +1,12 @@
 -- Made by `./format` from formats/adts_header.fields: edit that file and make this one anew.
--- What was written of an `AdtsHeader` is read back, and how many bits it takes.
+-- A written `AdtsHeader` is read back, and its number of bits.
 use Rattle.bitstream_formats.specs.AdtsHeader.{adts_header_decoder, adts_header_writes, adts_header_size, adts_header_bits, Fits}
 use Rattle.bitstream_formats.specs.declared.adts_header.AdtsHeader.{AdtsHeader}
 use Rattle.std.proofs.Common.{◌≡◌, ◌++◌, ◌∷◌, [], ℕ, Ok, refl}
 use Rattle.bitstream_io.proofs.CallerLemmas.{RoundTrip, Packs, unsigned-accepted, bit-back, unsigned-back, pure-back, literal-back, bit-written, unsigned-written, const-written, packs-none, packs-more}
 use Rattle.bitstream_io.specs.Callers.{Order, High, align, write_sequence, AllAccepted}
 
--- what was written is read back
+-- a written value is read back
 pub adts_header_goes : (o : Order) (value : AdtsHeader) → Fits value
     → RoundTrip (adts_header_decoder o) (adts_header_writes o value) (Ok value)
 adts_header_goes o value fits =
@@ -18,7 +18,7 @@ adts_header_goes o value fits =
     (unsigned-back o 11 _ _ 16 value.fullness _ refl fits.fullness (unsigned-back o 2 _ _ 8 value.blocks _ refl
     fits.blocks (pure-back _)))))))))))))))
 
--- each write is accepted, and so many bits are written
+-- each write is accepted, and the value's size is the number of bits written
 pub adts_header_packs : (o : Order) (value : AdtsHeader) → Fits value
     → Packs (adts_header_writes o value) (adts_header_size o value)
 adts_header_packs o value fits =

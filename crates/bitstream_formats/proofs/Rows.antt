@@ -23,7 +23,7 @@ rice_numbers :
 unfolding residual and_then unary_decoder unsigned_decoder digits digits_number
 rice_numbers = (refl, refl, refl)
 
--- characters in UTF-8: A, é, € and U+10348; and what UTF-8 does not have: 0 in two bytes, a later byte in prefix, and no
+-- characters in UTF-8: A, é, € and U+10348; and what UTF-8 does not have: 0 in two bytes, a later byte first, and no
 -- later byte
 coded_numbers :
     ((coded_decoder High).reads 0 (bits High (0x41 ∷ [])) ≡ Done 8 (Ok (Ok 0x41)))

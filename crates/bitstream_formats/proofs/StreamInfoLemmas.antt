@@ -1,5 +1,5 @@
 -- Made by `./format` from formats/stream_info.fields: edit that file and make this one anew.
--- What was written of a `StreamInfo` is read back, and how many bits it takes.
+-- A written `StreamInfo` is read back, and its number of bits.
 use Rattle.bitstream_formats.specs.StreamInfo.{stream_info_decoder, stream_info_writes, stream_info_size, stream_info_bits, Fits}
 use Rattle.bitstream_formats.specs.declared.stream_info.StreamInfo.{StreamInfo}
 use Rattle.std.proofs.Common.{◌≡◌, ◌++◌, ◌∷◌, [], refl}
@@ -7,7 +7,7 @@ use Rattle.bitstream_io.proofs.CallerLemmas.{RoundTrip, Packs, unsigned-back, by
 use Rattle.std.specs.Int.NonZero.{non_zero_u8_get}
 use Rattle.bitstream_io.specs.Callers.{Order, High, align, write_sequence, non_zero_u8}
 
--- what was written is read back
+-- a written value is read back
 pub stream_info_goes : (o : Order) (value : StreamInfo) → Fits value
     → RoundTrip (stream_info_decoder o) (stream_info_writes o value) value
 stream_info_goes o value fits =
@@ -21,7 +21,7 @@ stream_info_goes o value fits =
     refl fits.total_samples (bytes-back _ _ o 16 value.checksum _ fits.checksum_count fits.checksum (pure-back
     _)))))))))
 
--- each write is accepted, and so many bits are written
+-- each write is accepted, and the value's size is the number of bits written
 pub stream_info_packs : (o : Order) (value : StreamInfo) → Fits value
     → Packs (stream_info_writes o value) (stream_info_size o value)
 stream_info_packs o value fits =

@@ -1,4 +1,4 @@
--- What stands before a frame of AAC (ISO/IEC 14496-3, section 1.A.2.2), without its checksum.
+-- The header before a frame of AAC (ISO/IEC 14496-3, section 1.A.2.2), without its checksum.
 use Rattle.bitstream_formats.specs.declared.adts_header.AdtsHeader.{AdtsHeader}
 use Rattle.bitstream_formats.specs.declared.adts_header.AdtsHeaderError.{AdtsHeaderError}
 use Rattle.bitstream_formats.specs.declared.adts_header.AdtsHeaderError.TheVariants.{Reader, NoSync, UnknownLayer}
@@ -11,7 +11,7 @@ use Rattle.bitstream_io.specs.Callers.{◌>>=◌, Decoder, Encoder, pure, Error,
 abbrev pub becomes_adts_header : Error → AdtsHeaderError → Type 0
 becomes_adts_header error own = own ≡ Reader error
 
--- n bits behind the first k
+-- n bits after the first k
 abbrev pub bits_at : ℕ → ℕ → List Bool → List Bool
 bits_at k n bits = take n (drop k bits)
 
@@ -23,7 +23,7 @@ const_at_0 bits = number High (bits_at 0 12 bits)
 abbrev pub const_at_13 : List Bool → ℕ
 const_at_13 bits = number High (bits_at 13 2 bits)
 
--- the reads, in order, behind 2 that may be refused
+-- the reads, in order, after 2 that may be refused
 abbrev pub adts_header_decoder_2 : Order → Bool → Decoder (Result AdtsHeader AdtsHeaderError)
 adts_header_decoder_2 o mpeg_2 = do
   protection_absent ← bit_decoder
@@ -54,7 +54,7 @@ adts_header_decoder_2 o mpeg_2 = do
     blocks = blocks;
   }))
 
--- the reads, in order, behind 1 that may be refused
+-- the reads, in order, after 1 that may be refused
 abbrev pub adts_header_decoder_1 : Order → Decoder (Result AdtsHeader AdtsHeaderError)
 adts_header_decoder_1 o = do
   mpeg_2 ← bit_decoder
@@ -104,7 +104,7 @@ adts_header_size o value = 56
 unfoldable pub adts_header_bits : AdtsHeader → List Bool
 adts_header_bits value = write_sequence (adts_header_writes High value ++ align ∷ []) 0
 
--- the fields that bits say, each by its place
+-- the fields in bits, each by its place
 abbrev pub adts_header_at : List Bool → AdtsHeader
 adts_header_at bits = record {
   mpeg_2 = first_bit (bits_at 12 1 bits);

@@ -12,7 +12,7 @@ becomes_flac error own = own ≡ Reader error
 abbrev pub shortest : ℕ → ℕ → Result ℕ FlacError
 shortest least number = if nat_lt number least then Err LongCoded else Ok number
 
--- so many bytes behind the bits of `number`: each is 0b10 and six bits more
+-- the bytes after the bits of `number`: each is 0b10 and six bits more
 abbrev pub rest_decoder : Order → ℕ → ℕ → ℕ → Decoder (Result ℕ FlacError)
 rest_decoder o least zero number = pure (shortest least number)
 rest_decoder o least (suc bytes) number =
@@ -20,11 +20,11 @@ rest_decoder o least (suc bytes) number =
     if follows then and_then (unsigned_decoder o 64 6) (λ six. rest_decoder o least bytes (64 * number + six))
     else pure (Err NotCoded))
 
--- the least number that needs so many bytes, of two and more
+-- the least number that needs this number of bytes, from two on
 abbrev pub least_of : ℕ → ℕ
 least_of bytes = if bytes == 2 then 2 ^ 7 else 2 ^ (5 * bytes - 4)
 
--- a number of so many bytes, two and more: the first one has as many ones in prefix
+-- a number of two bytes or more: the first byte begins with a one for each byte
 abbrev pub bytes_decoder : Order → ℕ → Decoder (Result ℕ FlacError)
 bytes_decoder o bytes = do
   first ← unsigned_decoder o 64 (7 - bytes)
@@ -36,7 +36,7 @@ byte_decoder o = do
   number ← unsigned_decoder o 64 7
   pure (Ok number)
 
--- what stands behind so many ones and a 0
+-- the part after a number of ones and a 0
 abbrev pub ones_decoder : Order → ℕ → Decoder (Result ℕ FlacError)
 ones_decoder o ones =
     if ones == 0 then byte_decoder o
@@ -50,7 +50,7 @@ coded_decoder o = do
   ones ← unary_decoder false
   ones_decoder o ones
 
--- how many bytes a number needs
+-- the number of bytes that a number needs
 abbrev pub bytes_needed : ℕ → ℕ
 bytes_needed number =
     if nat_lt number (2 ^ 11) then 2
@@ -66,7 +66,7 @@ rest_writes o zero number = []
 rest_writes o (suc bytes) number =
     plain (word o 2 2) ∷ unsigned o 64 6 (number / 64 ^ bytes % 64) ∷ rest_writes o bytes number
 
--- the writes of a number in so many bytes, two and more
+-- the writes of a number in two bytes or more
 abbrev pub bytes_writes : Order → ℕ → ℕ → List Encoder
 bytes_writes o bytes number =
     unary_word false bytes ∷ unsigned o 64 (7 - bytes) (number / 64 ^ (bytes - 1)) ∷ rest_writes o (bytes - 1) number

@@ -12,8 +12,8 @@ becomes_av1 error own = own ≡ Reader error
 abbrev pub small : ℕ → Result ℕ Av1Error
 small value = if nat_le value (2 ^ 32 - 1) then Ok value else Err TooLarge
 
--- at most `room` bytes after those of `value`: the low seven bits of the first one count `place` times, and if it is
--- 128 or more another byte follows
+-- at most `room` bytes after the bytes of `value`: the low seven bits of the first one count `place` times, and
+-- if it is 128 or more another byte follows
 abbrev pub groups_decoder : Order → ℕ → ℕ → ℕ → Decoder (Result ℕ Av1Error)
 groups_decoder o zero place value = pure (Err TooLarge)
 groups_decoder o (suc room) place value =

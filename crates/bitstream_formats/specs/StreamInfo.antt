@@ -1,4 +1,4 @@
--- What a FLAC file says of all its frames (RFC 9639, section 8.2).
+-- The properties of all frames of a FLAC file (RFC 9639, section 8.2).
 use Rattle.bitstream_formats.specs.declared.stream_info.StreamInfo.{StreamInfo}
 use Rattle.std.specs.Prelude.{◌≡◌, ◌^◌, ◌<◌, ◌-◌, ◌++◌, ◌∷◌, [], ℕ, Bool, List, length, take, drop}
 use Rattle.std.specs.List.{All}
@@ -7,7 +7,7 @@ use Rattle.bitstream_io.specs.Callers.{◌>>=◌, Decoder, Encoder, pure, Order,
 
 -- Made by `./format` from formats/stream_info.fields: edit that file and make this one anew.
 
--- n bits behind the first k
+-- n bits after the first k
 abbrev pub bits_at : ℕ → ℕ → List Bool → List Bool
 bits_at k n bits = take n (drop k bits)
 
@@ -71,7 +71,7 @@ stream_info_size o value = 272
 unfoldable pub stream_info_bits : StreamInfo → List Bool
 stream_info_bits value = write_sequence (stream_info_writes High value ++ align ∷ []) 0
 
--- the fields that bits say, each by its place
+-- the fields in bits, each by its place
 abbrev pub stream_info_at : List Bool → StreamInfo
 stream_info_at bits = record {
   minimum_block_size = number High (bits_at 0 16 bits);

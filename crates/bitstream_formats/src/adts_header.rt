@@ -1,4 +1,4 @@
-//! What stands before a frame of AAC (ISO/IEC 14496-3, section 1.A.2.2), without its checksum.
+//! The header before a frame of AAC (ISO/IEC 14496-3, section 1.A.2.2), without its checksum.
 //!
 //! Made by `./format` from formats/adts_header.fields: edit that file and make this one anew.
 ghost use Rattle.bitstream_formats.specs.AdtsHeader.{adts_header_decoder, adts_header_writes, adts_header_bits, adts_header_at, Fits, becomes_adts_header, const_at_0, const_at_13};
@@ -15,7 +15,7 @@ use bitstream_io::{
     SliceMut, ToBitStream, pack_into,
 };
 
-/// What stands before a frame of AAC (ISO/IEC 14496-3, section 1.A.2.2), without its checksum.
+/// The header before a frame of AAC (ISO/IEC 14496-3, section 1.A.2.2), without its checksum.
 ///
 /// ```text
 ///  0                   1                   2                   3
@@ -28,9 +28,9 @@ use bitstream_io::{
 /// ```
 #[derive(Clone, Copy, Debug, PartialEq)]
 pub struct AdtsHeader {
-    /// Whether the frame is of MPEG-2, and not of MPEG-4.
+    /// True if the frame is MPEG-2, and not MPEG-4.
     pub mpeg_2: bool,
-    /// Whether no checksum follows.
+    /// True if no checksum follows.
     pub protection_absent: bool,
     /// The profile. Below 2^2.
     pub profile: u8,
@@ -40,23 +40,23 @@ pub struct AdtsHeader {
     pub private: bool,
     /// The channel configuration. Below 2^3.
     pub channels: u8,
-    /// Whether the work is an original.
+    /// True if the work is an original.
     pub original: bool,
-    /// Whether the work is for the home.
+    /// True if the work is for the home.
     pub home: bool,
     /// A bit of the number that is registered for the work.
     pub copyright_id: bool,
-    /// Whether that number starts here.
+    /// True if that number starts here.
     pub copyright_start: bool,
     /// The bytes of the frame with this header. Below 2^13.
     pub frame_length: u16,
-    /// How full the buffer is. Below 2^11.
+    /// The fullness of the buffer. Below 2^11.
     pub fullness: u16,
     /// The blocks of the frame but one. Below 2^2.
     pub blocks: u8,
 }
 
-/// Why an `AdtsHeader` is not read.
+/// The errors of reading an `AdtsHeader`.
 #[derive(Debug, Drop, thiserror::Error)]
 pub enum AdtsHeaderError {
     /// An error of the reader.
@@ -79,12 +79,15 @@ impl From<Error> for AdtsHeaderError {
 }
 
 impl AdtsHeader {
+    /// The number of bits before each line of the description.
+    pub const PLACES: [u64; 15] = [0, 12, 13, 15, 16, 18, 22, 23, 26, 27, 28, 29, 30, 43, 54];
+
     /// Reads the fields in order.
     ///
     /// # Errors
     ///
-    /// `NoSync`, `UnknownLayer`, behind the bits that say so.
-    /// Else those of the reader: after each of them it has failed.
+    /// `NoSync`, `UnknownLayer`, after the bits that are refused.
+    /// Else the errors of the reader: after each of them it has failed.
     pub fn read<R: BitRead>(reader: &mut R) -> Result<AdtsHeader, AdtsHeaderError>
         ensures { ReadsOwn R.source becomes_adts_header (adts_header_decoder R.source.order) reader.old result reader.new }
     {
@@ -120,7 +123,7 @@ impl AdtsHeader {
         })
     }
 
-    /// Returns what bytes begin with.
+    /// Parses the value at the start of `packet`.
     ///
     /// # Errors
     ///
@@ -151,7 +154,7 @@ impl AdtsHeader {
     /// # Errors
     ///
     /// `Checked` for a field that does not fit its bits. The fields before it are written then.
-    /// Else those of the sink.
+    /// Else the errors of the sink.
     pub fn write<W: BitWrite>(&self, writer: &mut W) -> Result<(), Error>
         ensures { WritesAll W.sink (adts_header_writes W.sink.order self.now) writer.old result writer.new }
     {
@@ -218,8 +221,8 @@ impl ToBitStream for AdtsHeader {
     }
 }
 
-/// What fits its bits is read back as it was written, in either order of bits, wherever it stands.
-/// The read takes the bits that were written, and no more: 56 bits.
+/// A value that fits its bits is read back as it was written, in either order of bits, at any place.
+/// The read takes only the bits that were written: 56 bits.
 pub fn adts_header_round_trip()
     ensures back { (o : Order) (value : AdtsHeader) (at from : ℕ) (more : List Bool) → Fits value
         → let written = write_sequence (adts_header_writes o value) at in

@@ -1,4 +1,4 @@
-//! Elements of a format, as they are read one by one.
+//! Elements of a format, which are read one by one.
 ghost use Rattle.std.specs.Prelude.{◌<◌, ◌^◌, IfOk};
 
 use bitstream_io::{BitRead, BitReadExt, Endianness, Error, SliceReader};
@@ -9,11 +9,11 @@ use std::fmt;
 pub struct Element {
     /// The place of its first bit.
     pub place: u64,
-    /// Its name in the format's document.
+    /// The name in the format's document.
     pub name: &'static str,
-    /// Its number, of several of one name.
+    /// The index among elements of the same name.
     pub index: Option<u32>,
-    /// Its value. Of a number of 64 bits without a sign, the signed one of the same bits.
+    /// The value. For an unsigned number of 64 bits, the signed number with the same bits.
     pub value: i64,
 }
 
@@ -26,12 +26,12 @@ impl fmt::Display for Element {
     }
 }
 
-/// A reader, and what was read by it.
+/// A reader, and the elements that it read.
 #[derive(Drop)]
 pub(crate) struct Syntax<'r, 'a, 'b, E: Endianness> {
     /// The reader.
     pub(crate) reader: &'r mut SliceReader<'a, E>,
-    /// What was read.
+    /// The elements read.
     pub(crate) elements: &'b mut Vec<Element>,
     /// The number of the elements that are being read.
     pub(crate) index: Option<u32>,

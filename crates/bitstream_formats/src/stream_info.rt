@@ -1,4 +1,4 @@
-//! What a FLAC file says of all its frames (RFC 9639, section 8.2).
+//! The properties of all frames of a FLAC file (RFC 9639, section 8.2).
 //!
 //! Made by `./format` from formats/stream_info.fields: edit that file and make this one anew.
 ghost use Rattle.bitstream_formats.specs.StreamInfo.{stream_info_decoder, stream_info_writes, stream_info_bits, stream_info_at, Fits};
@@ -14,7 +14,7 @@ use bitstream_io::{
 };
 use std::num::NonZero;
 
-/// What a FLAC file says of all its frames (RFC 9639, section 8.2).
+/// The properties of all frames of a FLAC file (RFC 9639, section 8.2).
 ///
 /// ```text
 ///  0                   1                   2                   3
@@ -58,11 +58,14 @@ pub struct StreamInfo {
 }
 
 impl StreamInfo {
+    /// The number of bits before each line of the description.
+    pub const PLACES: [u64; 9] = [0, 16, 32, 56, 80, 100, 103, 108, 144];
+
     /// Reads the fields in order.
     ///
     /// # Errors
     ///
-    /// Those of the reader: after each of them it has failed.
+    /// The errors of the reader: after each of them it has failed.
     pub fn read<R: BitRead>(reader: &mut R) -> Result<StreamInfo, Error>
         ensures { Reads R.source (stream_info_decoder R.source.order) reader.old result reader.new }
     {
@@ -88,7 +91,7 @@ impl StreamInfo {
         })
     }
 
-    /// Returns what bytes begin with.
+    /// Parses the value at the start of `packet`.
     ///
     /// # Errors
     ///
@@ -110,7 +113,7 @@ impl StreamInfo {
     /// # Errors
     ///
     /// `Checked` for a field that does not fit its bits. The fields before it are written then.
-    /// Else those of the sink.
+    /// Else the errors of the sink.
     pub fn write<W: BitWrite>(&self, writer: &mut W) -> Result<(), Error>
         ensures { WritesAll W.sink (stream_info_writes W.sink.order self.now) writer.old result writer.new }
     {
@@ -171,8 +174,8 @@ impl ToBitStream for StreamInfo {
     }
 }
 
-/// What fits its bits is read back as it was written, in either order of bits, wherever it stands.
-/// The read takes the bits that were written, and no more: 272 bits.
+/// A value that fits its bits is read back as it was written, in either order of bits, at any place.
+/// The read takes only the bits that were written: 272 bits.
 pub fn stream_info_round_trip()
     ensures back { (o : Order) (value : StreamInfo) (at from : ℕ) (more : List Bool) → Fits value
         → let written = write_sequence (stream_info_writes o value) at in

@@ -73,7 +73,7 @@ pub use Rattle.bitstream_value.proofs.OwnSteps.{few_own_reads, few_own_writes, o
 pub use Rattle.bitstream_value.proofs.ReadSteps.{few_reads, reads, Finds, finds, and_then-finds, bit-finds, pure-finds, non_zero-finds, option-finds, signed-finds, unsigned-finds, fields_there, fields_short}
 pub use Rattle.bitstream_value.proofs.SureLemmas.{IsWord, items_there, unsigned-word, word_there}
 pub use Rattle.bitstream_value.proofs.WriteSteps.{few_writes, writes, packed_stream}
-pub use Rattle.bitstream_io.proofs.CallsBack.{calls_go_back, unary-back, items-read, path-read, unsigned-read}
+pub use Rattle.bitstream_io.proofs.CallsBack.{calls_round_trip, unary-back, items-read, path-read, unsigned-read}
 pub use Rattle.bitstream_io.proofs.CallsBack.{any_vbr-back, bytes-back, vec-back, non_zero-back, option-back, skip-back, vbr-back}
 pub use Rattle.bitstream_io.proofs.NonZeroBack.{non_zero_u8-again, non_zero_u16-again, non_zero_u32-again, non_zero_u64-again, non_zero_u128-again}
 pub use Rattle.bitstream_io.proofs.NonZeroBack.{option_u8-again, option_u16-again, option_u32-again, option_u64-again, option_u128-again}

@@ -1,5 +1,5 @@
 -- What is written is read back, call by call: for each call of the tables but an alignment, which looks at its place.
--- A caller's proof is `search (calls_go_back, FACTS)`, where the facts say that the values fit.
+-- A caller's proof is `search (calls_round_trip, FACTS)`, where the facts say that the values fit.
 use Rattle.std.proofs.Common.{◌≡◌, ◌⊎◌, inl, ℕ, zero, suc, ℤ, pos, ◌+◌, ◌-◌, ◌^◌, ◌<◌, ◌≤◌, ◌==◌, Bool, true, false, List, [], ◌∷◌, ◌++◌, length, replicate, Option, Some, Result, Ok, refl, sym, ap, ◌∙◌, subst, append-nil, append_assoc, length-append, lt_of_le_of_lt, arith}
 use Rattle.std.specs.Prelude.{IfSome, nat_le, nat_lt}
 use Rattle.std.specs.List.{All, AllByRecursion, flat_map}
@@ -366,7 +366,7 @@ module _ {B : Type 0} (es : List Encoder) (b : B) where
         (option-read after o size n v within (inl fits))) behind
 
 -- the set of all of these
-pub ruleset calls_go_back = (
+pub ruleset calls_round_trip = (
   round_trip,
   unary-back,
   truth-back,

@@ -94,17 +94,17 @@ vbr-written o field v = record { word = vbr_word o field v; is = λ at. refl; lo
 
 -- calls that are all accepted, wherever they stand, and write so many bits
 pub record Packs (encoders : List Encoder) (total : ℕ) : Type 0 where
-  pub accepted_bits : (from : ℕ) → AllAccepted encoders from
+  pub accepted : (from : ℕ) → AllAccepted encoders from
   pub size : (from : ℕ) → length (write_sequence encoders from) ≡ total
 
 pub packs-none : Packs [] 0
-packs-none = record { accepted_bits = λ from. tt; size = λ from. refl }
+packs-none = record { accepted = λ from. tt; size = λ from. refl }
 
 -- one, and those behind it
 pub packs-more : {e : Encoder} {k : ℕ} {es : List Encoder} {m : ℕ} → IsWritten e k → Packs es m
     → Packs (e ∷ es) (k + m)
 packs-more {k = k} {es = es} {m = m} one rest = record {
-  accepted_bits = λ from. rw (one.is from) (refl, rest.accepted (from + length one.word));
+  accepted = λ from. rw (one.is from) (refl, rest.accepted (from + length one.word));
   size = λ from.
       let sum = length-append one.word (write_sequence es (from + length one.word)) in
       let more = rest.size (from + length one.word) in
@@ -137,7 +137,7 @@ accepted-behind (e ∷ es) fs n all more =
 -- a part, and those behind it
 pub packs-part : {es fs : List Encoder} {k m : ℕ} → Packs es k → Packs fs m → Packs (es ++ fs) (k + m)
 packs-part {es = es} {fs = fs} part rest = record {
-  accepted_bits = λ from.
+  accepted = λ from.
       accepted-behind es fs from (part.accepted from) (rest.accepted (from + length (write_sequence es from)));
   size = λ from.
       let sum = length-append (write_sequence es from) (write_sequence fs (from + length (write_sequence es from))) in

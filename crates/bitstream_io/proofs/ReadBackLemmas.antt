@@ -231,7 +231,7 @@ Step = Result Answer Error × ℕ
 abbrev Places : Type 0
 Places = List (Option (Result Answer Error))
 
--- one read in prefix, which answers a value
+-- one read first, which returns a value
 run-step : (e : Decoder Answer) (es : List (Decoder Answer)) (p n : ℕ) (b : List Bool) (a : Answer)
     → e.reads p b ≡ Done n (Ok a) → read_sequence (e ∷ es) p b ≡ (Ok a, p + n) ∷ read_sequence es (p + n) (drop n b)
 run-step e es p n b a h = ap (λ prefix. answer_and prefix p (λ (k : ℕ). read_sequence es (p + k) (drop k b))) h
@@ -253,7 +253,7 @@ module _ (o : Order) (more : List Bool) where
       (sequence_answers (matched calls len p) ≡ answers_of (accepted_calls o calls len))
       × (place_behind p (matched calls len p) ≡ p + length (words calls len))
 
-  -- one call more in prefix, whatever its decoder
+  -- one call more first, whatever its decoder
   one_more : (call : WriteCall) (calls : List WriteCall) (len p : ℕ) (r : Result (List Bool) Error) → IsCall call
       → p % 8 ≡ len % 8 → write_encoder o call len ≡ r
       → IsBack calls (len + length (accepted_bits r)) (p + length (accepted_bits r)) → IsBack (call ∷ calls) len p

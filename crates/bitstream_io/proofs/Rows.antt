@@ -9,7 +9,7 @@ use Rattle.bitstream_stream.specs.Reading.ReadTable.{unsigned_decoder, unary_dec
 use Rattle.bitstream_stream.specs.Sequence.{write_sequence, read_sequence}
 use Rattle.bitstream_stream.specs.Writing.WriteTable.{unsigned, unary_word, vbr, signed_vbr, buffer, zeros}
 use Rattle.bitstream_value.proofs.BackLemmas.{RoundTrip}
-use Rattle.bitstream_io.proofs.CallsBack.{calls_go_back}
+use Rattle.bitstream_io.proofs.CallsBack.{calls_round_trip}
 use Rattle.bitstream_io.specs.ReadBack.{accepted_calls, matching_reads, answers_of}
 use Rattle.bitstream_io.specs.ReadScript.{read_decoders, sequence_answers}
 use Rattle.bitstream_io.specs.Script.{write_encoders}
@@ -61,4 +61,4 @@ in_a_row : (o : Order) (k v : ℕ) (x : ℤ) (bytes : List ℕ) → k < 2 ^ 32 �
     (and_then (unary_decoder false) (λ a. and_then (vbr_decoder o 8 32 (2 ^ 32)) (λ b. and_then (signed_vbr_decoder o 4 64)
     (λ c. and_then (bytes_decoder o 4) (λ d. and_then (skip_decoder 3) (λ _. pure (a, b, c, d)))))))
     (unary_word false k ∷ vbr o 8 v ∷ signed_vbr o 4 x ∷ buffer o bytes ∷ zeros 3 ∷ []) (k, v, x, bytes)
-in_a_row o k v x bytes small less fits size each = search (calls_go_back, small, less, fits, size, each) depth 16
+in_a_row o k v x bytes small less fits size each = search (calls_round_trip, small, less, fits, size, each) depth 16

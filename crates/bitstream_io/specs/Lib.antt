@@ -45,7 +45,7 @@ pub use Rattle.bitstream_stream.specs.Reading.ReadTable
 pub use Rattle.bitstream_stream.specs.Reading.Reader
 pub use Rattle.bitstream_stream.specs.Reading.Reads
 pub use Rattle.bitstream_stream.specs.Writing.Room
-pub use Rattle.bitstream_stream.specs.Run
+pub use Rattle.bitstream_stream.specs.Sequence
 pub use Rattle.bitstream_stream.specs.Reading.Seek
 pub use Rattle.bitstream_stream.specs.Writing.Sink
 pub use Rattle.bitstream_stream.specs.Ways

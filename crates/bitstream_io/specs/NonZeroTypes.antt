@@ -1,4 +1,4 @@
--- What the values of `NonZero<u8>` and its like are, by names for the definitions of a caller.
+-- The values of the `NonZero` types, by names for the definitions of a caller.
 use Rattle.std.specs.Prelude.{ℕ}
 use Rattle.std.specs.declared.num.NonZeroU8.{NonZeroU8}
 use Rattle.std.specs.declared.num.NonZeroU16.{NonZeroU16}

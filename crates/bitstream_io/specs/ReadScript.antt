@@ -1,4 +1,4 @@
--- Lists of read calls: what each call means, and what all of them answer.
+-- Lists of read calls: the meaning of each call, and the results of all of them.
 use Rattle.std.specs.Prelude.{◌≡◌, ◌++◌, ℕ, ◌+◌, ◌^◌, Bool, true, false, List, [], ◌∷◌, length, map, Option, Some, Result, Err, if◌then◌else◌, ⊤}
 use Rattle.bitstream_number.specs.Word.{Order}
 use Rattle.bitstream_count.specs.Codec.{Decoder, and_then, pure}
@@ -14,7 +14,7 @@ use Rattle.bitstream_io.specs.declared.script.answers.Answer.TheVariants as vari
 use Rattle.bitstream_io.specs.declared.script.read_call.ReadCall.{ReadCall}
 use Rattle.bitstream_io.specs.declared.script.read_call.ReadCall.TheVariants.{Bit, U8, U16, U32, U64, U128, I8, I16, I32, I64, I128, Unary0, Unary1, Vbr4, Vbr8, AnyVbr4, AnyVbr8, SignedVbr4, SignedVbr8, Bytes, Skip, Align}
 
--- a read, whose answer is made one of all calls' answers
+-- a read, with its value wrapped in the type of all calls' values
 abbrev pub map_answer : {A : Type 0} → (A → Answer) → Decoder A → Decoder Answer
 map_answer make decoder = and_then decoder (λ value. pure (make value))
 
@@ -43,7 +43,7 @@ read_decoder o (Bytes n) = map_answer variant.Bytes (bytes_decoder o n)
 read_decoder o (Skip n) = map_answer (λ _. variant.Done) (skip_decoder n)
 read_decoder o Align = map_answer (λ _. variant.Done) align_decoder
 
--- whether a call may ask for memory
+-- true if a call may allocate
 abbrev pub asks_memory : ReadCall → Bool
 asks_memory (Bytes n) = true
 asks_memory _ = false
@@ -52,7 +52,7 @@ asks_memory _ = false
 abbrev pub read_decoders : Order → List ReadCall → List (Decoder Answer)
 read_decoders o calls = map (read_decoder o) calls
 
--- the calls were made in order, each as a read of its decoder, and each place has the answer of its call
+-- the calls were made in order, each as a read of its decoder, and each place has the result of its call
 unfoldable pub ReadsEach : {R : Type 0} → BitSource R → List ReadCall → R → List (Option (Result Answer Error)) → R
     → Type 0
 ReadsEach K [] old [] new = K.state new ≡ K.state old
@@ -63,33 +63,33 @@ ReadsEach {R} K (call ∷ calls) old (place ∷ places) new =
     × ReadOutcome K (asks_memory call) (read_decoder K.order call) old answer mid
     × ReadsEach K calls mid places new
 
--- the answers of a read sequence, each in its place
+-- the results of a read sequence, each in its place
 abbrev pub sequence_answers : List (Result Answer Error × ℕ) → List (Option (Result Answer Error))
 sequence_answers run = map (λ step. Some step.0) run
 
--- the number of bits that a read sequence has taken behind p of them
+-- the number of bits that a read sequence has taken after its first p calls
 abbrev pub place_behind : ℕ → List (Result Answer Error × ℕ) → ℕ
 place_behind p [] = p
 place_behind p (step ∷ run) = place_behind step.1 run
 
--- what calls answer on a failed reader
+-- the results of calls on a failed reader
 abbrev pub failed_answers : Order → List ReadCall → List (Option (Result Answer Error))
 failed_answers o calls = map (λ call. Some (read_decoder o call).on_failed) calls
 
--- What read calls answer, if the bits left are these: one of five outcomes.
+-- The results of read calls, if the bits left are these: one of five outcomes.
 pub data ReadsSequence {R : Type 0} (K : BitSource R) (calls : List ReadCall) (bits : List Bool) (old : R)
     (answers : List (Option (Result Answer Error))) (new : R) : Type 0 where
-  -- The reader had failed: each call answers so, and nothing changes.
+  -- The reader had failed: each call returns so, and nothing changes.
   had_failed : (K.state old).failed ≡ true → answers ≡ failed_answers K.order calls → K.state new ≡ K.state old
       → ReadsSequence K calls bits old answers new
-  -- Each call answers as the read sequence.
+  -- Each call returns the result of the read sequence.
   was_done : (K.state old).failed ≡ false → (K.state new).failed ≡ false
       → length (read_sequence (read_decoders K.order calls) (K.state old).taken bits) ≡ length calls
       → answers ≡ sequence_answers (read_sequence (read_decoders K.order calls) (K.state old).taken bits)
       → (K.state new).taken ≡ place_behind (K.state old).taken
       (read_sequence (read_decoders K.order calls) (K.state old).taken bits)
       → ReadsSequence K calls bits old answers new
-  -- Up to a call that finds a run too long; each behind it answers as on a failed reader.
+  -- This holds up to a call that finds a run too long; each later call returns the same as on a failed reader.
   too_long : (before behind : List ReadCall) (first : List (Result Answer Error × ℕ)) (place : ℕ)
       → (K.state old).failed ≡ false → (K.state new).failed ≡ true
       → calls ≡ before ++ behind → length before ≡ length first + 1
@@ -97,8 +97,8 @@ pub data ReadsSequence {R : Type 0} (K : BitSource R) (calls : List ReadCall) (b
       → answers ≡ sequence_answers first ++ Some (Err RunTooLong) ∷ failed_answers K.order behind
       → (K.state new).taken ≡ place
       → ReadsSequence K calls bits old answers new
-  -- Up to a call whose request was refused, at a true end only if it has no prefix; each behind it answers as on a
-  -- failed reader.
+  -- This holds up to a call whose request was refused, at a true end only if it has no prefix; each later call
+  -- returns the same as on a failed reader.
   was_refused : (before : List ReadCall) (call : ReadCall) (behind : List ReadCall)
       (first others : List (Result Answer Error × ℕ)) (refusal : Refusal)
       → (K.state old).failed ≡ false → (K.state new).failed ≡ true
@@ -108,7 +108,7 @@ pub data ReadsSequence {R : Type 0} (K : BitSource R) (calls : List ReadCall) (b
       → (IsTrueEnd refusal → others ≡ [])
       → answers ≡ sequence_answers first ++ Some (Err (read_refusal_of refusal.kind)) ∷ failed_answers K.order behind
       → ReadsSequence K calls bits old answers new
-  -- Up to a call to which memory was refused; each behind it answers as on a failed reader.
+  -- This holds up to a call whose memory was refused; each later call returns the same as on a failed reader.
   memory_refused : (before : List ReadCall) (call : ReadCall) (behind : List ReadCall)
       (first others : List (Result Answer Error × ℕ))
       → (K.state old).failed ≡ false → (K.state new).failed ≡ true
@@ -118,8 +118,8 @@ pub data ReadsSequence {R : Type 0} (K : BitSource R) (calls : List ReadCall) (b
       → answers ≡ sequence_answers first ++ Some (Err OutOfMemory) ∷ failed_answers K.order behind
       → ReadsSequence K calls bits old answers new
 
--- what calls answer if all bits left are known: as their read sequence, then the end of the input, and then as on a failed
--- reader
+-- the results of calls if all bits left are known: first the results of their read sequence, then the end of
+-- input, and then the same as on a failed reader
 abbrev pub sure_answers : Order → List ReadCall → List (Result Answer Error × ℕ) → List (Option (Result Answer Error))
 sure_answers o [] run = []
 sure_answers o (call ∷ calls) [] = Some (Err EndOfInput) ∷ failed_answers o calls

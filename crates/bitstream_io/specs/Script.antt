@@ -1,4 +1,4 @@
--- Lists of write calls: what each call means, and what all of them do to a sink.
+-- Lists of write calls: the meaning of each call, and the effect of all of them on a sink.
 use Rattle.std.specs.Prelude.{◌≡◌, ◌++◌, ◌+◌, ℕ, nat_lt, if◌then◌else◌, Bool, true, false, List, [], ◌∷◌, length, map, replicate, Option, Some, None, Result, Ok, Err, ⊤}
 use Rattle.bitstream_number.specs.Word.{Order}
 use Rattle.bitstream_count.specs.Codec.{Encoder}
@@ -39,12 +39,13 @@ AlignsNowhere [] = ⊤
 AlignsNowhere (Align ∷ calls) = ⊥
 AlignsNowhere (_ ∷ calls) = AlignsNowhere calls
 
--- how long the word of a call is, or its error
+-- the length of a call's word in bits, or its error
 abbrev pub word_size : Result (List Bool) Error → Result ℕ Error
 word_size (Ok word) = Ok (length word)
 word_size (Err error) = Err error
 
--- a word behind `len` bits, or the error of its call, where there is a limit: a word that would pass it is not accepted
+-- a word after `len` bits, or the error of its call, if there is a limit: a word that would pass it is not
+-- accepted
 abbrev pub within_limit : Option ℕ → ℕ → Result (List Bool) Error → Result (List Bool) Error
 within_limit None len result = result
 within_limit (Some most) len (Err error) = Err error
@@ -58,9 +59,10 @@ limit_encoder limit encoder len = within_limit limit len (encoder len)
 abbrev pub write_encoders : Option ℕ → Order → List WriteCall → List Encoder
 write_encoders limit o calls = map (λ c. limit_encoder limit (write_encoder o c)) calls
 
--- What write calls do to a sink, all made in their order, by what they mean. A sink that had failed is as it was.
--- Else the write sequence is appended, and each call answers as its encoder; or this holds up to a call one of whose
--- requests was refused, which answers the error of the refusal, and each call behind it answers `Failed`.
+-- The effect of write calls on a sink, all made in order, from their encoders. A sink that had failed is
+-- unchanged. Else the write sequence is appended, and each call returns the result of its encoder; or this
+-- holds up to a call with a refused request, which returns the error of the refusal, and each later call
+-- returns `Failed`.
 pub data WritesSequence {S : Type 0} (K : Sink S) (encoders : List Encoder) (old : S)
     (answers : List (Option Error)) (new : S) : Type 0 where
   had_failed : K.failed old ≡ true → answers ≡ replicate (length encoders) (Some Failed) → Kept K old new
@@ -76,8 +78,8 @@ pub data WritesSequence {S : Type 0} (K : Sink S) (encoders : List Encoder) (old
       → Appended K old (write_sequence encoders (K.len old)) new
       → WritesSequence K encoders old answers new
 
--- write calls on a sound sink that stays sound answer as these encoders, and their words' lengths are what it grows by,
--- if its limit holds the sum
+-- write calls on a sound sink that stays sound return the results of these encoders, and it grows by the
+-- lengths of their words, if its limit holds the sum
 abbrev pub Counts : {S : Type 0} → Sink S → List Encoder → S → List (Option Error) → S → Type 0
 Counts K encoders old answers new =
     K.failed old ≡ false → K.failed new ≡ false → IsWithin K.limit (K.len old + length (write_sequence encoders (K.len old)))

@@ -5,11 +5,11 @@ use Rattle.bitstream_number.specs.Word.{Order, bits, number}
 use Rattle.bitstream_stream.specs.Reading.ReadTable.{bytes_decoder}
 
 infixl 10 ◌>>=◌
--- one read and then, unless it answers an error, what follows with its answer
+-- one read and then, unless it returns an error, another, which may depend on its value
 abbrev pub ◌>>=◌ : {A B : Type 0} → Decoder A → (A → Decoder B) → Decoder B
 decoder >>= f = and_then decoder f
 
--- n bytes, answered as their number in an order of bytes that need not be that of the bits
+-- n bytes, with their number as the result, in an order of bytes that may differ from the order of the bits
 abbrev pub bytes_number : Order → Order → ℕ → Decoder ℕ
 bytes_number o p n = do
   found ← bytes_decoder o n

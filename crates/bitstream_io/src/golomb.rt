@@ -15,8 +15,8 @@ use crate::write::{BitWrite, BitWriteExt};
 ///
 /// # Errors
 ///
-/// `VariableWidthOverflow` for more than 31 leading zeros. The zeros and the one after them are read
-/// then, and the reader goes on after them. Else the errors of the reader.
+/// `VariableWidthOverflow` for more than 31 leading zeros. The zeros and the one after them are
+/// read then, and the reader continues after them. Else the errors of the reader.
 ///
 /// # Examples
 ///
@@ -46,7 +46,7 @@ pub fn read_ue<R: BitRead>(reader: &mut R) -> Result<u32, Error>
 ///
 /// # Errors
 ///
-/// Those of [`read_ue`].
+/// The errors of [`read_ue`].
 pub fn read_se<R: BitRead>(reader: &mut R) -> Result<i32, Error>
     ensures { Reads R.source (se_decoder R.source.order) reader.old result reader.new }
 {
@@ -88,14 +88,14 @@ pub fn write_se<W: BitWrite>(writer: &mut W, value: i32) -> Result<(), Error>
 }
 
 /// An unsigned number is read back as it was written, in either order of bits, at any position.
-pub fn unsigned_golomb_numbers_go_back()
+pub fn unsigned_golomb_numbers_round_trip()
     ensures { (o : Order) (value at from : ℕ) (more : List Bool) → value < 2 ^ 32 - 1
         → let word = write_sequence (ue_writes o value) at in
         (ue_decoder o).reads from (word ++ more) ≡ Done (length word) (Ok value) }
 {}
 
 /// A signed number is read back as it was written, in either order of bits, at any position.
-pub fn signed_golomb_numbers_go_back()
+pub fn signed_golomb_numbers_round_trip()
     ensures { (o : Order) (value : ℤ) (at from : ℕ) (more : List Bool)
         → unsigned_abs value < 2 ^ 31
         → let word = write_sequence (se_writes o value) at in

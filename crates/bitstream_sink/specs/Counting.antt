@@ -7,7 +7,7 @@ use Rattle.bitstream_count.specs.Codec.{Encoder}
 use Rattle.bitstream_count.specs.declared.error.Error.{Error}
 use Rattle.bitstream_stream.specs.Writing.Sink.{Sink, Writes, IsFullLimit}
 
--- a sink that keeps the length of what was written and nothing else, up to the greatest number of its type
+-- a sink that keeps only the length of the words written, up to the greatest number of its type
 abbrev pub counter_sink : {S : Type 0} → Order → (count : S → ℕ) → (greatest : ℕ) → IsFullLimit (Some greatest)
     → ((s : S) → count s ≤ greatest) → Sink S
 counter_sink o count greatest full within = record {

@@ -28,14 +28,15 @@ write_refusals (decoder ∷ decoders) len =
     let w = decoder len in
     refusal_if_any w ∷ write_refusals decoders (len + length (accepted_bits w))
 
--- a call's answer and the place behind it, and then those of the calls that follow; none if the bits are too few, and
--- none behind a run that was too long
+-- a call's result and the place after it, and then the results of the calls that follow; none if the bits are
+-- too few, and none after a run that was too long
 abbrev pub answer_and : {A : Type 0} → Prefix A → ℕ → (ℕ → List (Result A Error × ℕ)) → List (Result A Error × ℕ)
 answer_and Incomplete p others = []
 answer_and (Done n (Err RunTooLong)) p others = (Err RunTooLong, p + n) ∷ []
 answer_and (Done n answer) p others = (answer, p + n) ∷ others n
 
--- the answer of each call to bits from a place on, and the place behind it: up to the first call whose bits are too few
+-- the result of each call on the bits from a place on, and the place after it: up to the first call whose bits
+-- are too few
 abbrev pub read_sequence : {A : Type 0} → List (Decoder A) → ℕ → List Bool → List (Result A Error × ℕ)
 read_sequence [] p bits = []
 read_sequence (decoder ∷ decoders) p bits = answer_and (decoder.reads p bits) p (λ n. read_sequence decoders (p + n) (drop n bits))

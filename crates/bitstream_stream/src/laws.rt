@@ -66,14 +66,14 @@ pub fn bytes_are_numbers()
         buffer o (bytes_in o n v) len ≡ unsigned o (8 * n) (8 * n) v len }
 {}
 
-/// Dropping a reader's queue is an alignment. A reader that has failed stays as it is.
+/// Dropping a reader's queue is an alignment. A reader that has failed is unchanged.
 pub fn dropped_queues_are_alignments<R: Source, E: Endianness>()
     ensures { (reader : BitReader R E) → Reads ⟦<BitReader<R, E> as BitRead>⟧.source align_decoder
         reader (Ok tt) (aligned_reader reader) }
 {}
 
-/// Over a stream that refuses only at a true end, a call of any reader answers what its prefix of
-/// the bits left says, or `EndOfInput` if they are too few.
+/// If the stream refuses only at its true end, a call of any reader returns the result of its
+/// prefix of the bits left, or `EndOfInput` if they are too few.
 pub fn ends_are_known<R: BitRead, A>()
     ensures { (decoder : Decoder A) (old new : R) (answer : Result A Error) (bytes : List ℕ)
         → TrueEnds R.source.may
@@ -83,8 +83,9 @@ pub fn ends_are_known<R: BitRead, A>()
         ((R.source.state old).queue ++ bits_of R.source.order bytes)) }
 {}
 
-/// A call that takes n bits, whatever they are, is done if so many are left, over a stream that refuses
-/// only at a true end. So whoever tests once how many bits are left knows that no read of them is refused.
+/// If the stream refuses only at its true end, a call that takes n bits, whatever they are, is done
+/// if n bits are left. So after one test of the number of bits left, it is known that no read of
+/// them is refused.
 pub fn enough_bits_are_known<R: BitRead, A>()
     ensures { (decoder : Decoder A) (n : ℕ) (left : List Bool) (old new : R) (answer : Result A Error)
         → TrueEnds R.source.may → (R.source.state old).failed ≡ false
@@ -94,7 +95,8 @@ pub fn enough_bits_are_known<R: BitRead, A>()
         × (bits_left R.source.order (R.source.state new) ≡ Some (drop n left)) }
 {}
 
-/// Calls of words of a known length are done by so many bits, and two calls by the bits of both.
+/// Calls of words of a known length are done by that number of bits, and two calls by the sum of
+/// both lengths.
 pub fn known_lengths_are_enough<A, B>()
     // One bit.
     ensures bit { IsDoneBy 1 bit_decoder }
@@ -161,7 +163,7 @@ pub fn vectors_lack_memory<E: Endianness, A: Allocator>()
         → error ≡ OutOfMemory }
 {}
 
-/// Wherever a [`Slice`] stands, its bytes left are those behind its place.
+/// The bytes left of a [`Slice`] are the bytes after its place.
 pub fn slices_tell_their_rest<E: Endianness>()
     ensures { TellsRest (reader_seeker ⟦<BitReader<Slice<'static>, E> as BitRead>⟧.source
         (λ slice. Some (slice_place slice)) (λ slice. Some (slice_bytes slice))
@@ -178,13 +180,13 @@ pub fn memory_ends<E: Endianness>()
     ensures { TrueEnds ⟦<SliceReader<'static, E> as BitRead>⟧.source.may }
 {}
 
-/// Wherever a reader of bytes in memory stands, its bytes left are those behind its place, and so are its
-/// bits left, if it has not failed.
+/// The bytes left of a reader of bytes in memory are the bytes after its place, and so are its bits
+/// left, if it has not failed.
 pub fn memory_tells_its_rest<E: Endianness>()
-    // The bytes left are those behind the fetched ones.
+    // The bytes left are the bytes after the fetched ones.
     ensures bytes { (reader : SliceReader E) → ((memory_source E.order).state reader).bytes
         ≡ Some (drop ((memory_source E.order).state reader).fetched (memory_bytes reader)) }
-    // Unless the reader has failed, the bits left are those behind the bits taken.
+    // Unless the reader has failed, the bits left are the bits after the bits taken.
     ensures bits { (reader : SliceReader E) → ((memory_source E.order).state reader).failed ≡ false
         → bits_left E.order ((memory_source E.order).state reader)
         ≡ Some (drop ((memory_source E.order).state reader).taken (bits_of E.order (memory_bytes reader))) }

@@ -23,11 +23,11 @@ pub mod slice_reader;
 ///
 /// # Errors
 ///
-/// If the stream refuses a request, a call answers `EndOfInput`, `OutOfMemory` or `Stream` with the
+/// If the stream refuses a request, a call returns `EndOfInput`, `OutOfMemory` or `Stream` with the
 /// kind of the refusal, and the reader has failed. From then on each call that reads a value
-/// answers `Failed`, before any other check and also at a width of 0 bits. After any other error
-/// the reader goes on where it was, unless the call says otherwise. The calls below name only the
-/// errors of their own.
+/// returns `Failed`, before any other check and also at a width of 0 bits. After any other error
+/// the reader continues where it was, unless the call says otherwise. The calls below name only
+/// their own errors.
 ///
 /// # Examples
 ///
@@ -44,10 +44,10 @@ pub mod slice_reader;
 /// assert!(rt; matches!(reader.read_bit(), Err(Error::Failed)));
 /// ```
 pub trait BitRead {
-    // What the states of the reader mean.
+    // The meaning of the reader's states.
     ghost source: { BitSource Self };
 
-    /// Reads an unsigned number of the given number of bits.
+    /// Reads an unsigned number of `bits` bits.
     ///
     /// # Errors
     ///
@@ -56,7 +56,7 @@ pub trait BitRead {
         ensures reads { Reads source (unsigned_decoder source.order U.BITS_SIZE (C.number bits))
             self.old (result_map U.value result) self.new };
 
-    /// Reads a signed number, a two's complement of the given number of bits.
+    /// Reads a signed number, a two's complement of `bits` bits.
     ///
     /// # Errors
     ///
@@ -82,7 +82,7 @@ pub trait BitRead {
             × ((source.state self.now).taken % 8 ≡ 0)) };
 
     /// Skips the bits up to the next byte boundary. They are queued, so no request is made. A
-    /// reader that has failed stays as it is.
+    /// reader that has failed is unchanged.
     fn byte_align(&mut self)
         ensures reads { Reads source align_decoder self.old (Ok tt) self.new };
 
@@ -98,7 +98,7 @@ pub trait BitRead {
         Ok(bit == 1)
     }
 
-    /// Reads an unsigned number of the given number of bits.
+    /// Reads an unsigned number of `bits` bits.
     ///
     /// # Errors
     ///
@@ -110,7 +110,7 @@ pub trait BitRead {
         self.read_unsigned_counted(BitCount::unknown(bits))
     }
 
-    /// Reads an unsigned number of `B::BITS` bits, at most as many as U has.
+    /// Reads an unsigned number of `B::BITS` bits, at most the width of U.
     fn read_unsigned<B: Width, U: UnsignedInteger>(&mut self) -> Result<U, Error>
         requires { B.BITS ≤ U.BITS_SIZE }
         ensures reads { Reads source (unsigned_decoder source.order U.BITS_SIZE B.BITS)
@@ -119,7 +119,7 @@ pub trait BitRead {
         self.read_unsigned_var(B::BITS)
     }
 
-    /// Reads a signed number, a two's complement of the given number of bits.
+    /// Reads a signed number, a two's complement of `bits` bits.
     ///
     /// # Errors
     ///
@@ -138,7 +138,7 @@ pub trait BitRead {
         }
     }
 
-    /// Reads a signed number, a two's complement of `B::BITS` bits, at most as many as S has.
+    /// Reads a signed number, a two's complement of `B::BITS` bits, at most the width of S.
     fn read_signed<B: Width, S: SignedInteger>(&mut self) -> Result<S, Error>
         requires some { 1 ≤ B.BITS }
         requires within { B.BITS ≤ S.BITS_SIZE }
@@ -199,7 +199,8 @@ pub trait BitRead {
         let number = self.read_unsigned_var(count_bits(C::MAX))?;
         match C::of(number) {
             Some(count) => Ok(count),
-            // `C::MAX` is 1 less than a power of two, so it is the greatest number of so many bits.
+            // `C::MAX` is 1 less than a power of two, so it is the greatest number of that many
+            // bits.
             None => unreachable!(),
         }
     }
@@ -216,7 +217,7 @@ pub trait BitRead {
         Ok(())
     }
 
-    /// Reads the bytes of a V: `read_to_bytes::<[u8; 4]>()` gives an array of four.
+    /// Reads the bytes of a V: `read_to_bytes::<[u8; 4]>()` returns an array of four bytes.
     fn read_to_bytes<V: Primitive>(&mut self) -> Result<V::Bytes, Error>
         ensures reads { Reads source (bytes_decoder source.order V.BYTES)
             self.old (result_map V.Bytes.items result) self.new }
@@ -226,7 +227,7 @@ pub trait BitRead {
         Ok(bytes)
     }
 
-    /// Reads the given number of bytes into a vector. At most 4096 are asked for at a time, and the
+    /// Reads `bytes` bytes into a vector. At most 4096 bytes are asked for at a time, and the
     /// vector grows as they come. So a length that the stream does not have costs little memory.
     ///
     /// # Errors
@@ -251,7 +252,7 @@ pub trait BitRead {
         Ok(buf)
     }
 
-    /// Skips the given number of bits, whatever they are.
+    /// Skips `bits` bits, whatever they are.
     fn skip(&mut self, bits: u32) -> Result<(), Error>
         ensures reads { Reads source (skip_decoder bits) self.old result self.new }
     {
@@ -268,7 +269,8 @@ pub trait BitRead {
     ///
     /// # Errors
     ///
-    /// Those of the two calls.
+    /// The errors of [`read_unsigned_vbr`](BitRead::read_unsigned_vbr): `RedundantGroup` only if
+    /// the read is strict.
     fn read_groups<F: Width, U: UnsignedInteger>(&mut self, strict: bool) -> Result<U, Error>
         requires some { 2 ≤ F.BITS }
         requires within { F.BITS < U.BITS_SIZE }
@@ -304,15 +306,15 @@ pub trait BitRead {
     }
 
     /// Reads an unsigned number of variable width, in groups of `F::BITS` bits. The highest bit of
-    /// a group says whether another group follows. The others are digits of the number, the lowest
-    /// digits first. The format is that of LLVM's bitstreams (`vbr`).
+    /// a group says whether another group follows. The other bits are digits of the number, the
+    /// lowest digits first. The format is the `vbr` of LLVM's bitstreams.
     ///
     /// # Errors
     ///
     /// `VariableWidthOverflow` if the number does not fit in U, or a group begins past U's bits.
     /// `RedundantGroup` if there are two groups or more, and the last one is 0: so each number has
-    /// one word. The groups up to the one that shows it are taken then, and the reader goes on
-    /// behind them.
+    /// one word. The groups up to the faulty one are taken then, and the reader continues after
+    /// them.
     fn read_unsigned_vbr<F: Width, U: UnsignedInteger>(&mut self) -> Result<U, Error>
         requires some { 2 ≤ F.BITS }
         requires within { F.BITS < U.BITS_SIZE }
@@ -323,7 +325,7 @@ pub trait BitRead {
         self.read_groups::<F, U>(true)
     }
 
-    /// Reads an unsigned number of variable width, also if its last groups are 0.
+    /// Reads an unsigned number of variable width, even if its last groups are 0.
     ///
     /// # Errors
     ///
@@ -354,7 +356,7 @@ pub trait BitRead {
         Ok(unzigzag(place))
     }
 
-    /// Reads a signed number of variable width, also if its last groups are 0.
+    /// Reads a signed number of variable width, even if its last groups are 0.
     ///
     /// # Errors
     ///
@@ -371,9 +373,9 @@ pub trait BitRead {
 
     /// Returns the reader by reference, for a function that takes a reader by value.
     fn by_ref(&mut self) -> &mut Self
-        // It reaches this reader, as it is.
+        // It reaches this reader, unchanged.
         ensures value { result.now ≡ self.old }
-        // It is this very reference, so what is done by it is done to this reader.
+        // It is this very reference, so its calls change this reader.
         ensures same_reference { result.ghost_name ≡ self.entry.ghost_name }
     {
         self

@@ -152,23 +152,43 @@ module _ {S : Type 0} (K : Sink S) where
   written_as {becomes = becomes} same answer ok es r s t h =
       plain_by becomes same answer ok es r s t h.plain h.called h.answer
 
--- ---- a sink without a limit
+-- ---- a sink with room for all calls
 
 -- an error of a refused request
 abbrev pub IsFaultOf : {S : Type 0} → Sink S → Error → Type 0
 IsFaultOf K error = (refusal : Refusal) × K.may refusal × (error ≡ refusal_of refusal.kind)
 
-module _ {S : Type 0} (K : Sink S) (free : K.limit ≡ None) where
+-- no number of bits up to n is past the sink's limit
+abbrev pub IsRoomy : {S : Type 0} → Sink S → ℕ → Type 0
+IsRoomy K n = (m : ℕ) → m ≤ n → IsPastLimit K.limit m → ⊥
+
+-- a sink without a limit has room for any number of bits
+pub free-roomy : {S : Type 0} (K : Sink S) → K.limit ≡ None → (n : ℕ) → IsRoomy K n
+free-roomy K free n m le past = subst (λ l. IsPastLimit l m) free past
+
+next_sequence : (e : Encoder) (es : List Encoder) (len : ℕ) (w : List Bool) → e len ≡ Ok w
+    → write_sequence (e ∷ es) len ≡ w ++ write_sequence es (len + length w)
+next_sequence e es len w is = ap (λ (x : Result (List Bool) Error).
+    accepted_bits x ++ write_sequence es (len + length (accepted_bits x))) is
+
+module _ {S : Type 0} (K : Sink S) where
+  -- the number of bits after all calls
+  abbrev after : List Encoder → S → ℕ
+  after es s = K.len s + length (write_sequence es (K.len s))
+
   one_error : (e : Encoder) (es : List Encoder) (s : S) (x : Error) (t : S) → K.failed s ≡ false
-      → Writes {T = Unit {0}} K e s (Err x) t → (sequence_length (e ∷ es) (K.len s) ≡ Err x) ⊎ IsFaultOf K x
-  one_error e es s x t sound (had_failed f is k) = cc
-  one_error e es s x t sound (was_rejected y f en is k) = let same : y ≡ x = cc in
+      → IsRoomy K (after (e ∷ es) s) → Writes {T = Unit {0}} K e s (Err x) t
+      → (sequence_length (e ∷ es) (K.len s) ≡ Err x) ⊎ IsFaultOf K x
+  one_error e es s x t sound room (had_failed f is k) = cc
+  one_error e es s x t sound room (was_rejected y f en is k) = let same : y ≡ x = cc in
       inl (rejects e es (K.len s) y en ∙ ap Err same)
-  one_error e es s x t sound (past_limit w f en over is k) =
-      absurd (subst (λ l. IsPastLimit l (K.len s + length w)) free over)
-  one_error e es s x t sound (was_refused w y f en le is k) = let same : x ≡ y = cc in
+  one_error e es s x t sound room (past_limit w f en over is k) =
+      let all = ap length (next_sequence e es (K.len s) w en)
+      ∙ length-append w (write_sequence es (K.len s + length w)) in
+      absurd (room (K.len s + length w) (omega (arith, all)) over)
+  one_error e es s x t sound room (was_refused w y f en le is k) = let same : x ≡ y = cc in
       inr (k.refusal, k.allowed, same ∙ k.answer)
-  one_error e es s x t sound (was_done w v f en le is k) = cc
+  one_error e es s x t sound room (was_done w v f en le is k) = cc
 
   one_done : (e : Encoder) (s t : S) → Writes {T = Unit {0}} K e s (Ok tt) t
       → (w : List Bool) × (e (K.len s) ≡ Ok w) × (K.len t ≡ K.len s + length w) × (K.failed t ≡ false)
@@ -187,20 +207,37 @@ module _ {S : Type 0} (K : Sink S) (free : K.limit ≡ None) where
       ∙ ap (λ (y : Result ℕ Error). result_then y (λ more. Ok (length one.0 + more))) there)
   after_done e es s m x done (inr fault) = inr fault
 
+  -- the calls that follow one that was done have room too
+  room_left : (e : Encoder) (es : List Encoder) (s m : S) → Writes {T = Unit {0}} K e s (Ok tt) m
+      → IsRoomy K (after (e ∷ es) s) → IsRoomy K (after es m)
+  room_left e es s m done room =
+      let one = one_done e s m done in
+      let all = ap length (next_sequence e es (K.len s) one.0 one.1)
+      ∙ length-append one.0 (write_sequence es (K.len s + length one.0)) in
+      let rest = ap (λ (k : ℕ). length (write_sequence es k)) one.2 in
+      let ends = one.2 in
+      λ n le past. room n (omega (arith, le, all, rest, ends)) past
+
   -- an error of calls is the first that one of them has, or of a refused request
+  pub error_within : (es : List Encoder) (s : S) (x : Error) (t : S) → K.failed s ≡ false → IsRoomy K (after es s)
+      → WritesAll K es s (Err x) t → (sequence_length es (K.len s) ≡ Err x) ⊎ IsFaultOf K x
+  unfolding WritesAll
+  error_within [] s x t sound room p = let z = p.0 in cc
+  error_within (e ∷ es) s x t sound room (inl p) = one_error e es s x t sound room p.1
+  error_within (e ∷ es) s x t sound room (inr p) = after_done e es s p.0 x p.1
+      (error_within es p.0 x t (one_done e s p.0 p.1).3 (room_left e es s p.0 p.1 room) p.2)
+
+module _ {S : Type 0} (K : Sink S) (free : K.limit ≡ None) where
+  -- the same of a sink without a limit
   pub all_error : (es : List Encoder) (s : S) (x : Error) (t : S) → K.failed s ≡ false → WritesAll K es s (Err x) t
       → (sequence_length es (K.len s) ≡ Err x) ⊎ IsFaultOf K x
-  unfolding WritesAll
-  all_error [] s x t sound p = let z = p.0 in cc
-  all_error (e ∷ es) s x t sound (inl p) = one_error e es s x t sound p.1
-  all_error (e ∷ es) s x t sound (inr p) =
-      after_done e es s p.0 x p.1 (all_error es p.0 x t (one_done e s p.0 p.1).3 p.2)
+  all_error es s x t sound h = error_within K es s x t sound (free-roomy K free _) h
 
   -- an alignment has none of its own
   pub align_error : (s : S) (x : Error) (t : S) → K.failed s ≡ false → Writes {T = Unit {0}} K align s (Err x) t
       → IsFaultOf K x
   align_error s x t sound h =
-      elim (one_error align [] s x t sound h) [ inl own ↦ let z = own in cc | inr fault ↦ fault ]
+      elim (one_error K align [] s x t sound (free-roomy K free _) h) [ inl own ↦ let z = own in cc | inr fault ↦ fault ]
 
 -- calls whose sink refuses nothing
 pub sure_error : {S : Type 0} (K : Sink S) → K.limit ≡ None → ((x : Refusal) → K.may x → ⊥) → (es : List Encoder)

@@ -23,7 +23,7 @@ pub record ByteGrowthRefused {A : Type 0} (decoder : ByteDecoder A) (old : ByteR
   pub asked : IsTrue (decoder.allocates bytes)
   pub took : BytesTaken old bytes new
 
--- reads of bytes among which memory is asked for: they come to an outcome of a read, or memory was refused in one of
+-- reads of bytes that allocate between them: they have the outcome of a read, or memory was refused in one of
 -- them or between them
 pub data ByteGrowingOutcome {R A : Type 0} (K : ByteSource R) (decoder : ByteDecoder A) (old : R)
     (result : Result A Error) (new : R) : Type 0 where
@@ -32,32 +32,32 @@ pub data ByteGrowingOutcome {R A : Type 0} (K : ByteSource R) (decoder : ByteDec
   between_reads : ByteGrowthRefused decoder (K.state old) result (K.state new)
       → ByteGrowingOutcome K decoder old result new
 
--- such a read with errors of its own, which its decoder answers too
+-- a read of this kind with errors of its own, which its decoder returns too
 abbrev pub ByteGrowsOwn : {R A E : Type 0} → ByteSource R → (Error → E → Type 0) → ByteDecoder (Result A E) → R
     → Result A E → R → Type 0
 ByteGrowsOwn K becomes decoder old result new =
     OwnErrors becomes (λ answer. answer) (λ plain. ByteGrowingOutcome K decoder old plain new) result
 
--- a read of a type that says whether it asks for memory
+-- a read of a type that states whether it allocates
 abbrev pub ByteOwnReads : {R A E : Type 0} → Bool → ByteSource R → (Error → E → Type 0) → ByteDecoder (Result A E)
     → R → Result A E → R → Type 0
 ByteOwnReads false K becomes decoder old result new = ByteReadsOwn K becomes decoder old result new
 ByteOwnReads true K becomes decoder old result new = ByteGrowsOwn K becomes decoder old result new
 
--- what is read behind a part that has errors of its own, unless it answers one
+-- the read that follows a part with errors of its own, unless the part returns one
 abbrev pub byte_part_then : {A B E : Type 0} → (A → ByteDecoder (Result B E)) → Result A E
     → ByteDecoder (Result B E)
 byte_part_then f (Ok value) = f value
 byte_part_then f (Err error) = byte_pure (Err error)
 
--- the given number of parts with errors of their own, one after another, up to the first that answers one; each is
--- stored once it is read
+-- n parts with errors of their own, one after another, up to the first that returns one; each is stored once it
+-- is read
 unfoldable pub byte_parts : {A E : Type 0} → ByteDecoder (Result A E) → ℕ → ByteDecoder (Result (List A) E)
 byte_parts decoder zero = byte_pure (Ok [])
 byte_parts decoder (suc n) = byte_and_then (byte_parts decoder n) (byte_part_then (λ items.
     byte_and_then decoder (byte_part_then (λ item. byte_stores (Ok (items ++ item ∷ []))))))
 
--- so many parts were read, and these are they
+-- n parts were read, and these are their values
 abbrev pub BytePartsRead : {R A E : Type 0} → ByteSource R → (Error → E → Type 0) → ByteDecoder (Result A E) → ℕ → R
     → List A → R → Type 0
 BytePartsRead K becomes decoder n old items new = ByteGrowsOwn K becomes (byte_parts decoder n) old (Ok items) new

@@ -7,15 +7,16 @@ use Rattle.bitstream_number.specs.Word.{Order}
 use Rattle.bitstream_stream.specs.Reading.Reads.{ReaderState, BitSource, Took, MemoryRefused, Reads}
 use Rattle.bitstream_value.specs.Own.{OwnErrors, ReadsOwn, part_then}
 
--- Memory that a read of the call asked for was refused, and the reader has failed. The call may allocate behind the bits
--- that were taken.
+-- Memory that a read of the call asked for was refused, and the reader has failed. The call may allocate after
+-- the bits that were taken.
 pub record ReadLacksMemory {A : Type 0} (o : Order) (decoder : Decoder A) (old : ReaderState) (result : Result A Error)
     (new : ReaderState) : Type 0 where
   pub refused : MemoryRefused o decoder old result new
   pub asked : IsTrue (decoder.allocates old.taken refused.word)
 
--- Memory was refused between the reads of a call, on a reader that had not failed and goes on. The call may allocate
--- after the word that was taken, and no proper beginning of the word has a prefix: the call was not decided before.
+-- Memory was refused between the reads of a call, on a reader that had not failed and continues. The call may
+-- allocate after the word that was taken, and no proper beginning of the word has a prefix: the call was not
+-- decided before.
 pub record GrowthRefused {A : Type 0} (o : Order) (decoder : Decoder A) (old : ReaderState) (result : Result A Error)
     (new : ReaderState) : Type 0 where
   pub answer : result ≡ Err OutOfMemory
@@ -25,7 +26,7 @@ pub record GrowthRefused {A : Type 0} (o : Order) (decoder : Decoder A) (old : R
   pub asked : IsTrue (decoder.allocates old.taken word)
   pub took : Took o old word new
 
--- reads among which memory is asked for: they come to an outcome of a read, or memory was refused in one of them or
+-- reads that allocate between them: they have the outcome of a read, or memory was refused in one of them or
 -- between them
 pub data GrowingOutcome {R A : Type 0} (K : BitSource R) (decoder : Decoder A) (old : R) (result : Result A Error)
     (new : R) : Type 0 where
@@ -41,26 +42,26 @@ pub record MayAllocate {A : Type 0} (decoder : Decoder A) (taken : ℕ) (bits : 
   pub parts : bits ≡ prefix ++ back
   pub asked : IsTrue (decoder.allocates taken prefix)
 
--- such a read with errors of its own, which its decoder answers too
+-- a read of this kind with errors of its own, which its decoder returns too
 abbrev pub GrowsOwn : {R A E : Type 0} → BitSource R → (Error → E → Type 0) → Decoder (Result A E) → R → Result A E
     → R → Type 0
 GrowsOwn K becomes decoder old result new =
     OwnErrors becomes (λ answer. answer) (λ plain. GrowingOutcome K decoder old plain new) result
 
--- a read of a type that says whether it asks for memory
+-- a read of a type that states whether it allocates
 abbrev pub OwnReads : {R A E : Type 0} → Bool → BitSource R → (Error → E → Type 0) → Decoder (Result A E) → R
     → Result A E → R → Type 0
 OwnReads false K becomes decoder old result new = ReadsOwn K becomes decoder old result new
 OwnReads true K becomes decoder old result new = GrowsOwn K becomes decoder old result new
 
--- the given number of parts with errors of their own, one after another, up to the first that answers one; each is
--- stored once it is read
+-- n parts with errors of their own, one after another, up to the first that returns one; each is stored once it
+-- is read
 unfoldable pub parts_decoder : {A E : Type 0} → Decoder (Result A E) → ℕ → Decoder (Result (List A) E)
 parts_decoder decoder zero = pure (Ok [])
 parts_decoder decoder (suc n) = and_then (parts_decoder decoder n) (part_then (λ items.
     and_then decoder (part_then (λ item. stores (Ok (items ++ item ∷ []))))))
 
--- so many parts were read, and these are they
+-- n parts were read, and these are their values
 abbrev pub PartsRead : {R A E : Type 0} → BitSource R → (Error → E → Type 0) → Decoder (Result A E) → ℕ → R → List A
     → R → Type 0
 PartsRead K becomes decoder n old items new = GrowsOwn K becomes (parts_decoder decoder n) old (Ok items) new

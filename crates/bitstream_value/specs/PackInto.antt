@@ -1,4 +1,4 @@
--- How calls are packed into a buffer.
+-- Calls that are packed into a buffer.
 use Rattle.std.specs.Prelude.{◌≡◌, ℕ, ◌*◌, ◌<◌, ◌≤◌, List, [], ◌∷◌, ◌++◌, length, None, Result, Ok, Err, IfOk, IsOk, ⊤}
 use Rattle.std.specs.Borrow.{GName}
 use Rattle.std.specs.declared.io.ErrorKind.TheVariants.{WriteZero}
@@ -14,8 +14,8 @@ use Rattle.bitstream_stream.specs.Writing.WriteTable.{align}
 use Rattle.bitstream_value.specs.Lengths.{sequence_length}
 use Rattle.bitstream_value.specs.declared.pack.Discard.{Discard}
 
--- Calls are packed into a slice that held these bytes, and that a reference of this name leads to. `sequence_length` gives
--- the number of bits that the calls take, or the first error that a call has.
+-- Calls are packed into a slice that held these bytes, and that a reference of this name leads to.
+-- `sequence_length` returns the number of bits that the calls take, or the first error that a call has.
 pub record PacksInto (o : Order) (encoders : List Encoder) (name : GName) (was : List ℕ)
     (result : Result SliceMut Error) : Type 0 where
   -- the written bytes are the calls' words, and zeros up to a whole byte

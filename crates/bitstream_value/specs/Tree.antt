@@ -4,7 +4,7 @@ use Rattle.bitstream_count.specs.Codec.{Decoder, Encoder, and_then, pure}
 use Rattle.bitstream_stream.specs.Reading.ReadTable.{bit_decoder}
 use Rattle.bitstream_stream.specs.Writing.WriteTable.{bit}
 
--- a leaf with its symbol; or a branch, of which the bit 0 leads to the first side and the bit 1 to the second
+-- a leaf with its symbol; or a branch: the bit 0 leads to its first side and the bit 1 to the second
 pub data Tree (S : Type 0) : Type 0 where
   leaf : S → Tree S
   node : (zero_side : Tree S) → (one_side : Tree S) → Tree S
@@ -17,7 +17,7 @@ IsPath (node a b) [] s = ⊥
 IsPath (node a b) (false ∷ w) s = IsPath a w s
 IsPath (node a b) (true ∷ w) s = IsPath b w s
 
--- a read of a path: it takes the path's bits, one after another, and answers the symbol at its leaf
+-- a read of a path: it takes the path's bits, one after another, and returns the symbol at its leaf
 unfoldable pub path_decoder : {S : Type 0} → Tree S → Decoder S
 path_decoder (leaf x) = pure x
 path_decoder (node a b) = and_then bit_decoder (λ c. if c then path_decoder b else path_decoder a)
@@ -46,7 +46,7 @@ symbol_word same t s = or_nothing (first_path same t s)
 abbrev pub bit_by_bit : List Bool → List Encoder
 bit_by_bit w = map bit w
 
--- at the first place where they part, u leads to the side of 0 and v to that of 1
+-- at the first place where they differ, u leads to the side of 0 and v to the side of 1
 abbrev pub IsBefore : List Bool → List Bool → Type 0
 IsBefore [] v = ⊥
 IsBefore (b ∷ u) [] = ⊥

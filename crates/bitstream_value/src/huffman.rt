@@ -16,9 +16,10 @@ use bitstream_count::error::Error;
 use bitstream_stream::read::BitRead;
 use bitstream_stream::write::BitWrite;
 
-/// All that a code needs of a reader. Every reader of bits is one, and fails as [`BitRead`] says.
+/// The calls that a code needs of a reader. Every reader of bits has them, with the errors of
+/// [`BitRead`].
 pub trait NextBit {
-    // What the states of the reader mean.
+    // The meaning of the reader's states.
     ghost source: { BitSource Self };
 
     /// Reads one bit, and returns whether it is 1.
@@ -35,9 +36,10 @@ impl<R: BitRead> NextBit for R {
     }
 }
 
-/// All that a code needs of a sink. Every sink of bits is one, and fails as [`BitWrite`] says.
+/// The calls that a code needs of a sink. Every sink of bits has them, with the errors of
+/// [`BitWrite`].
 pub trait PutBit {
-    // What the states of the sink mean.
+    // The meaning of the sink's states.
     ghost sink: { Sink Self };
 
     /// Writes one bit: 1 for `true`.
@@ -54,7 +56,7 @@ impl<W: BitWrite> PutBit for W {
     }
 }
 
-/// A prefix code that is read, bit by bit. Its only errors are those of the reader.
+/// A prefix code that is read bit by bit. Its only errors are the reader's.
 pub trait FromBits {
     /// The symbols of the code.
     type Symbol;
@@ -79,8 +81,8 @@ pub trait ToBits {
     ///
     /// # Errors
     ///
-    /// Those of the sink. The bits before the refused one stay written. A word of no bits always
-    /// succeeds.
+    /// The errors of the sink. The bits before the refused one stay written. A word of no bits
+    /// always succeeds.
     fn to_bits<P: PutBit>(&self, symbol: Self::Symbol, put: &mut P) -> Result<(), Error>
         ensures writes { WritesAll P.sink (bit_by_bit (word self.now symbol))
             put.old result put.new };

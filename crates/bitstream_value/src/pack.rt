@@ -76,7 +76,7 @@ pub fn pack_into<'a, E: Endianness, T: ToBitStream<Error = Error>>(
     value: &T,
     buffer: &'a mut [u8],
 ) -> Result<SliceMut<'a>, Error>
-    // The type's errors are those of the sink.
+    // The type's errors are the sink's.
     requires same { (error own : Error) → T.becomes error own → own ≡ error }
     // It has none of its own.
     requires plain { T.answers value.now ≡ Ok tt }

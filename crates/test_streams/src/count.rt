@@ -8,19 +8,19 @@ ghost use Rattle.std.specs.Io.Seek.{SeekMoves};
 use std::io;
 use std::io::{Read, Seek, SeekFrom, Write};
 
-/// Counts the requests made of a stream, and those that the stream refused.
+/// Counts the requests made of a stream, and the refused ones.
 #[derive(Drop)]
 pub struct Count<S> {
-    /// The stream that it stands before.
+    /// The stream that it wraps.
     pub inner: S,
-    /// How many requests were made.
+    /// The number of requests made.
     pub requests: u64,
-    /// How many of them were refused.
+    /// The number of requests refused.
     pub refused: u64,
 }
 
 impl<S> Count<S> {
-    /// Counts a request with its answer.
+    /// Counts a request with its result.
     fn note<T>(&mut self, answer: &io::Result<T>)
         ensures inner { self.new.inner ≡ self.old.inner }
         ensures requests { self.new.requests ≡ count_up self.old.requests }

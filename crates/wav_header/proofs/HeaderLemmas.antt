@@ -1,12 +1,12 @@
 -- Made by `./format` from formats/header.fields: edit that file and make this one anew.
--- What was written of a `Header` is read back, and how many bits it takes.
+-- A written `Header` is read back, and its number of bits.
 use Rattle.wav_header.specs.Header.{header_decoder, header_writes, header_size, header_bits, Fits, coding_of, coding_number}
 use Rattle.wav_header.specs.declared.header.Header.{Header}
 use Rattle.std.proofs.Common.{◌≡◌, ◌++◌, ◌∷◌, [], Ok, refl}
 use Rattle.bitstream_io.proofs.CallerLemmas.{RoundTrip, Packs, unsigned-back, pure-back, made-back, literal-back, unsigned-written, const-written, packs-none, packs-more}
 use Rattle.bitstream_io.specs.Callers.{Order, Low, align, write_sequence}
 
--- what was written is read back
+-- a written value is read back
 pub header_goes : (o : Order) (value : Header) → Fits value
     → RoundTrip (header_decoder o) (header_writes o value) (Ok value)
 header_goes o value fits =
@@ -19,7 +19,7 @@ header_goes o value fits =
     fits.bits_per_sample (literal-back _ _ o 32 1635017060 _ refl (unsigned-back o 32 _ _ 32 value.data_size _ refl
     fits.data_size (pure-back _)))))))))))))
 
--- each write is accepted, and so many bits are written
+-- each write is accepted, and the value's size is the number of bits written
 pub header_packs : (o : Order) (value : Header) → Fits value
     → Packs (header_writes o value) (header_size o value)
 header_packs o value fits =

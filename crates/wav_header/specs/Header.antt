@@ -13,7 +13,7 @@ use Rattle.bitstream_io.specs.Callers.{◌>>=◌, Decoder, Encoder, pure, Error,
 abbrev pub becomes_header : Error → HeaderError → Type 0
 becomes_header error own = own ≡ Reader error
 
--- n bits behind the first k
+-- n bits after the first k
 abbrev pub bits_at : ℕ → ℕ → List Bool → List Bool
 bits_at k n bits = take n (drop k bits)
 
@@ -33,12 +33,12 @@ const_at_96 bits = number Low (bits_at 96 32 bits)
 abbrev pub const_at_128 : List Bool → ℕ
 const_at_128 bits = number Low (bits_at 128 32 bits)
 
--- what a number says
+-- the case of a number
 abbrev pub coding_of : ℕ → Coding
 coding_of n = if n == 1 then Pcm else if n == 3 then Float else if n == 6 then ALaw else if n == 7 then MuLaw else Other
     n
 
--- and back
+-- the number of a case
 abbrev pub coding_number : Coding → ℕ
 coding_number Pcm = 1
 coding_number Float = 3
@@ -46,7 +46,7 @@ coding_number ALaw = 6
 coding_number MuLaw = 7
 coding_number (Other n) = n
 
--- the read of its number
+-- the read of a case
 abbrev pub coding_read : Order → Decoder Coding
 coding_read o = and_then (unsigned_decoder o 16 16) (λ v. pure (coding_of v))
 
@@ -54,7 +54,7 @@ coding_read o = and_then (unsigned_decoder o 16 16) (λ v. pure (coding_of v))
 abbrev pub const_at_288 : List Bool → ℕ
 const_at_288 bits = number Low (bits_at 288 32 bits)
 
--- the reads, in order, behind 5 that may be refused
+-- the reads, in order, after 5 that may be refused
 abbrev pub header_decoder_5 : Order → ℕ → Coding → ℕ → ℕ → ℕ → ℕ → ℕ → Decoder (Result Header HeaderError)
 header_decoder_5 o size coding channels sample_rate byte_rate block_size bits_per_sample = do
   data_size ← unsigned_decoder o 32 32
@@ -70,7 +70,7 @@ header_decoder_5 o size coding channels sample_rate byte_rate block_size bits_pe
     data_size = data_size;
   }))
 
--- the reads, in order, behind 4 that may be refused
+-- the reads, in order, after 4 that may be refused
 abbrev pub header_decoder_4 : Order → ℕ → Decoder (Result Header HeaderError)
 header_decoder_4 o size = do
   coding ← coding_read o
@@ -83,19 +83,19 @@ header_decoder_4 o size = do
   if is_11 then header_decoder_5 o size coding channels sample_rate byte_rate block_size bits_per_sample else pure (Err
       NoData)
 
--- the reads, in order, behind 3 that may be refused
+-- the reads, in order, after 3 that may be refused
 abbrev pub header_decoder_3 : Order → ℕ → Decoder (Result Header HeaderError)
 header_decoder_3 o size = do
   is_4 ← const_decoder o 32 16
   if is_4 then header_decoder_4 o size else pure (Err LongFormat)
 
--- the reads, in order, behind 2 that may be refused
+-- the reads, in order, after 2 that may be refused
 abbrev pub header_decoder_2 : Order → ℕ → Decoder (Result Header HeaderError)
 header_decoder_2 o size = do
   is_3 ← const_decoder o 32 544501094
   if is_3 then header_decoder_3 o size else pure (Err NoFormat)
 
--- the reads, in order, behind 1 that may be refused
+-- the reads, in order, after 1 that may be refused
 abbrev pub header_decoder_1 : Order → Decoder (Result Header HeaderError)
 header_decoder_1 o = do
   size ← unsigned_decoder o 32 32
@@ -146,7 +146,7 @@ header_size o value = 352
 unfoldable pub header_bits : Header → List Bool
 header_bits value = write_sequence (header_writes Low value ++ align ∷ []) 0
 
--- the fields that bits say, each by its place
+-- the fields in bits, each by its place
 abbrev pub header_at : List Bool → Header
 header_at bits = record {
   size = number Low (bits_at 32 32 bits);

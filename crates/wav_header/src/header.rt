@@ -48,7 +48,7 @@ use bitstream_io::{
 pub struct Header {
     /// The bytes that follow this field.
     pub size: u32,
-    /// How samples are coded.
+    /// The coding of samples.
     pub coding: Coding,
     /// The number of channels.
     pub channels: u16,
@@ -64,7 +64,7 @@ pub struct Header {
     pub data_size: u32,
 }
 
-/// Why a `Header` is not read.
+/// The errors of reading a `Header`.
 #[derive(Debug, Drop, thiserror::Error)]
 pub enum HeaderError {
     /// An error of the reader.
@@ -95,7 +95,7 @@ impl From<Error> for HeaderError {
     }
 }
 
-/// How samples are coded.
+/// The coding of samples.
 #[derive(Clone, Copy, Debug, PartialEq)]
 pub enum Coding {
     /// 1.
@@ -111,7 +111,7 @@ pub enum Coding {
 }
 
 impl Coding {
-    /// Returns what a number says.
+    /// Decodes a number.
     pub fn of(number: u16) -> Coding
         ensures { result ≡ coding_of number }
     {
@@ -130,7 +130,7 @@ impl Coding {
         Coding::Other(number)
     }
 
-    /// Returns its number.
+    /// Returns the number of the case.
     pub fn number(self) -> u16
         ensures { result ≡ coding_number self }
     {
@@ -143,7 +143,7 @@ impl Coding {
         }
     }
 
-    /// Reads its number.
+    /// Reads a number of 16 bits, and decodes it.
     pub fn read<R: BitRead>(reader: &mut R) -> Result<Coding, Error>
         ensures { Reads R.source (coding_read R.source.order) reader.old result reader.new }
     {
@@ -153,12 +153,15 @@ impl Coding {
 }
 
 impl Header {
+    /// The number of bits before each line of the description.
+    pub const PLACES: [u64; 13] = [0, 32, 64, 96, 128, 160, 176, 192, 224, 256, 272, 288, 320];
+
     /// Reads the fields in order.
     ///
     /// # Errors
     ///
-    /// `NoRiff`, `NoWave`, `NoFormat`, `LongFormat`, `NoData`, behind the bits that say so.
-    /// Else those of the reader: after each of them it has failed.
+    /// `NoRiff`, `NoWave`, `NoFormat`, `LongFormat`, `NoData`, after the bits that are refused.
+    /// Else the errors of the reader: after each of them it has failed.
     pub fn read<R: BitRead>(reader: &mut R) -> Result<Header, HeaderError>
         ensures { ReadsOwn R.source becomes_header (header_decoder R.source.order) reader.old result reader.new }
     {
@@ -187,7 +190,7 @@ impl Header {
         })
     }
 
-    /// Returns what bytes begin with.
+    /// Parses the value at the start of `packet`.
     ///
     /// # Errors
     ///
@@ -236,7 +239,7 @@ impl Header {
     /// # Errors
     ///
     /// `Checked` for a field that does not fit its bits. The fields before it are written then.
-    /// Else those of the sink.
+    /// Else the errors of the sink.
     pub fn write<W: BitWrite>(&self, writer: &mut W) -> Result<(), Error>
         ensures { WritesAll W.sink (header_writes W.sink.order self.now) writer.old result writer.new }
     {
@@ -301,8 +304,8 @@ impl ToBitStream for Header {
     }
 }
 
-/// What fits its bits is read back as it was written, in either order of bits, wherever it stands.
-/// The read takes the bits that were written, and no more: 352 bits.
+/// A value that fits its bits is read back as it was written, in either order of bits, at any place.
+/// The read takes only the bits that were written: 352 bits.
 pub fn header_round_trip()
     ensures back { (o : Order) (value : Header) (at from : ℕ) (more : List Bool) → Fits value
         → let written = write_sequence (header_writes o value) at in

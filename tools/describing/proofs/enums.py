@@ -16,7 +16,7 @@ def lemmas(line: Line, enum: m.EnumType) -> list[str]:
     if enum.other or line.repeats:
         return []
     s, cases = snake(enum.name), [called(line, case) for _, case in enum.cases]
-    out = ["-- the number of each case fits its bits, and says that case"]
+    out = ["-- the number of each case fits its bits, and decodes to that case"]
     out += [f"{s}_small : (it : {enum.name}) → {s}_number it < 2 ^ {enum.width}"]
     out += [f"{s}_small {case} = omega arith" for case in cases]
     out += ["", f"{s}_again : (it : {enum.name}) → {s}_of ({s}_number it) ≡ {'' if enum.total else 'Ok '}it"]
@@ -97,7 +97,7 @@ def array_invariants(f: Format, line: Line, enum: m.EnumType, kind: m.Array) -> 
     return write_invariants(f, kind) | {
         f"{enum.name}/each": [
             f"use {f.goals}.{enum.name}.each.Given as goal",
-            "-- the items so far are what their numbers say",
+            "-- the items so far are the cases of their numbers",
             "abbrev pub invariant-loop-i : goal.invariant-loop-i",
             f"invariant-loop-i l = ({made}) × (length l.found ≡ {kind.count})",
         ]

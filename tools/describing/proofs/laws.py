@@ -26,7 +26,7 @@ def goes(f: Format) -> list[str]:
     for it in reversed(f.lines):
         term = back(f, it, term)
     return [
-        "-- what was written is read back",
+        "-- a written value is read back",
         f"pub {f.m}_goes : (o : Order) (value : {f.type}) → Fits value",
         f"    → RoundTrip ({f.m}_decoder o) ({f.m}_writes o value) {ok}",
         f"{f.m}_goes o value fits =",
@@ -42,7 +42,7 @@ def packs(f: Format) -> list[str]:
     for it in reversed(f.lines):
         term = f"{'packs-part' if it.many else 'packs-more'} ({written(it)}) ({term})"
     return [
-        "-- each write is accepted, and so many bits are written",
+        "-- each write is accepted, and the value's size is the number of bits written",
         f"pub {f.m}_packs : (o : Order) (value : {f.type}) → Fits value",
         f"    → Packs ({f.m}_writes o value) ({f.m}_size o value)",
         f"{f.m}_packs o value fits =",

@@ -16,7 +16,7 @@ Answers = dict[str, list[str]]
 
 def files(f: Format) -> dict[str, str]:
     """Returns the lemmas and the test vectors by their places in the crate."""
-    head = f"-- What was written of {article(f.type)} is read back, and how many bits it takes."
+    head = f"-- A written `{f.type}` is read back, and its number of bits."
     found = {f"proofs/{f.spec}Lemmas.antt": text(f, [head], lemmas(f), parts_lemmas(f))}
     if f.description.examples:
         out, unfolded = rows(f)

@@ -12,9 +12,9 @@ def read_code(f: Format) -> list[str]:
     outcome = f"ReadsOwn R.source {f.becomes_name}" if f.own else "Reads R.source"
     if f.grows:
         outcome = f"GrowsOwn R.source {f.becomes_name}"
-    own = [f"    /// {refusals(f)}behind the bits that say so."] * bool(f.error)
+    own = [f"    /// {refusals(f)}after the bits that are refused."] * bool(f.error)
     own += [
-        f"    /// `{of_reader(f, 'OutOfMemory')}` if memory for a list is refused, behind the items before."
+        f"    /// `{of_reader(f, 'OutOfMemory')}` if memory for a list is refused, after the items before."
     ] * f.grows
     return [
         "    /// Reads the fields in order.",
@@ -22,7 +22,7 @@ def read_code(f: Format) -> list[str]:
         "    /// # Errors",
         "    ///",
         *own,
-        f"    /// {'Else those' if f.own else 'Those'} of the reader: after each of them it has failed.",
+        f"    /// {'Else the' if f.own else 'The'} errors of the reader: after each of them it has failed.",
         f"    pub fn read<R: BitRead>(reader: &mut R{memory(f)}) -> Result<{f.type}, {f.e}>",
         f"        ensures {{ {outcome} ({f.m}_decoder R.source.order) reader.old result reader.new }}",
         *read_body(f, 0),
@@ -72,7 +72,7 @@ def parse_code(f: Format) -> list[str]:
         bits, few = f"{m}_bits value", f"for fewer than {f.bytes} bytes"
     end, behind = f"`{of_reader(f, 'EndOfInput')}`", "\n            " if f.grows else " "
     return [
-        "    /// Returns what bytes begin with.",
+        "    /// Parses the value at the start of `packet`.",
         "    ///",
         "    /// # Errors",
         "    ///",

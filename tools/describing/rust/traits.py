@@ -52,11 +52,11 @@ def to_code(f: Format) -> list[str]:
 def law_code(f: Format) -> list[str]:
     """Returns the law of the round trip."""
     m, ok = f.m, "Ok (Ok value)" if f.own else "Ok value"
-    how_many = f"{f.total} bits" if f.sized else f"as many as `{f.m}_size` says"
+    how_many = f"{f.total} bits" if f.sized else f"`{f.m}_size` is their number"
     size = f.total if f.sized else f"{m}_size o value"
     return [
-        "/// What fits its bits is read back as it was written, in either order of bits, wherever it stands.",
-        f"/// The read takes the bits that were written, and no more: {how_many}.",
+        "/// A value that fits its bits is read back as it was written, in either order of bits, at any place.",
+        f"/// The read takes only the bits that were written: {how_many}.",
         f"pub fn {m}_round_trip()",
         f"    ensures back {{ (o : Order) (value : {f.type}) (at from : ℕ) (more : List Bool) → Fits value",
         f"        → let written = write_sequence ({m}_writes o value) at in",

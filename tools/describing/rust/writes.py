@@ -15,7 +15,7 @@ def write_code(f: Format) -> list[str]:
         "    /// # Errors",
         "    ///",
         "    /// `Checked` for a field that does not fit its bits. The fields before it are written then.",
-        "    /// Else those of the sink.",
+        "    /// Else the errors of the sink.",
         "    pub fn write<W: BitWrite>(&self, writer: &mut W) -> Result<(), Error>",
         f"        ensures {{ WritesAll W.sink ({writes}) writer.old result writer.new }}",
         *write_body(f, 0),

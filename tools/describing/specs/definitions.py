@@ -41,9 +41,9 @@ def case_specs(f: Format, line: Line, enum: m.EnumType) -> list[str]:
     tested = cases[: len(enum.tested)]
     tests = "".join(f"if n == {it} then {f'Ok {case}' if strict else case} else " for it, case in tested)
     last = cases[-1][1] if enum.total else f"{called(line, enum.other)} n"
-    out = ["-- what a number says", f"abbrev pub {s}_of : ℕ → {answer_type(f, line, enum.name)}"]
+    out = ["-- the case of a number", f"abbrev pub {s}_of : ℕ → {answer_type(f, line, enum.name)}"]
     out += [f"{s}_of n = {tests}{f'Err {strict}' if strict else last}", ""]
-    out += ["-- and back", f"abbrev pub {s}_number : {enum.name} → ℕ"]
+    out += ["-- the number of a case", f"abbrev pub {s}_number : {enum.name} → ℕ"]
     out += [f"{s}_number {case} = {value}" for value, case in cases]
     out += [f"{s}_number ({called(line, enum.other)} n) = n"] if enum.other else []
     return [*out, ""]
@@ -56,7 +56,7 @@ def read_specs(f: Format, line: Line, enum: m.EnumType) -> list[str]:
     s = snake(enum.name)
     head = f"abbrev pub {s}_read : Order → Decoder {answer_type(f, line, enum.name)}"
     read = f"and_then (unsigned_decoder o {enum_bits(enum)} {enum.width}) (λ v. pure ({s}_of v))"
-    return ["-- the read of its number", head, f"{s}_read o = {read}", ""]
+    return ["-- the read of a case", head, f"{s}_read o = {read}", ""]
 
 
 def array_specs(f: Format, line: Line, enum: m.EnumType, count: int) -> list[str]:
@@ -65,7 +65,7 @@ def array_specs(f: Format, line: Line, enum: m.EnumType, count: int) -> list[str
     each, answer = f"map {s}_of numbers", answer_type(f, line, f"(List {enum.name})")
     read = f"items_decoder (unsigned_decoder o {enum_bits(enum)} {enum.width}) {count}"
     return [
-        "-- what each number says",
+        "-- the cases of numbers",
         f"abbrev pub {s}_each : List ℕ → {answer}",
         f"{s}_each numbers = {f'all_ok ({each})' if line.error else each}",
         "",
@@ -80,14 +80,14 @@ def mapped_specs(f: Format, line: Line, use: m.Use) -> list[str]:
     """Returns the definitions from the errors of a part to those of the format."""
     own, part, module = use.description.error, use.name, use.module
     theirs = own or "Error"
-    out = [f"-- an error of a `{part}`, as one of the type's"]
+    out = [f"-- an error of a `{part}`, as an error of the type"]
     out += [f"abbrev pub {module}_error : {theirs} → {f.error}"]
     out += [f"{module}_error {f'({part}Reader error)' if own else 'error'} = Reader error"]
     for case, held in part_cases(use):
         said = f"({part}{case} error)" if held else f"{part}{case}"
         out.append(f"{module}_error {said} = {line.error} {said}")
     answers = f"Result {part} {theirs} → Result {part} {f.error}"
-    out += ["", "-- and an answer", f"abbrev pub {module}_answer : {answers}"]
+    out += ["", "-- a result with these errors", f"abbrev pub {module}_answer : {answers}"]
     out += [f"{module}_answer (Ok value) = Ok value"]
     out += [f"{module}_answer (Err error) = Err ({module}_error error)"]
     out += ["", f"-- the reads of a `{part}`, with the errors of the type"]

@@ -34,7 +34,7 @@ def specs(f: Format) -> str:
 
 
 BITS_AT = [
-    "-- n bits behind the first k",
+    "-- n bits after the first k",
     "abbrev pub bits_at : ℕ → ℕ → List Bool → List Bool",
     "bits_at k n bits = take n (drop k bits)",
     "",
@@ -59,7 +59,7 @@ def entries(f: Format) -> list[str]:
     for k, part in enumerate(parts):
         more = ""
         if k:
-            more = f", behind {refused} that may be refused" if parts[k - 1][-1].error else ", the next of them"
+            more = f", after {refused} that may be refused" if parts[k - 1][-1].error else ", the next of them"
         out = [*entry_definition(f, k, part, seen, more), "", *out]
         seen = seen + [it for it in part if it.name]
         refused += bool(part and part[-1].error)
@@ -129,9 +129,9 @@ def written_list(lines: tuple[Line, ...], behind: str) -> list[str]:
 def fields_specs(f: Format) -> str:
     """Returns the text of the file of what contracts see of a format with lists."""
     name, fields = f"{f.type}Fields", [f"  pub {it.name} : {spec_type(it.kind)}" for it in f.fields]
-    out = ["-- its fields, and the items of its lists", f"pub record {name} : Type 0 where", *fields]
+    out = ["-- the fields, and the items of the lists", f"pub record {name} : Type 0 where", *fields]
     imports = uses("\n".join(out), types(f), parts_specs(f), SPECS)
-    head = f"-- What contracts see of {article(f.type)}."
+    head = f"-- The value of {article(f.type)} in contracts."
     return "\n".join([head, *imports, "", f"-- {f.made}", "", *out]) + "\n"
 
 
@@ -164,7 +164,7 @@ def at_places(f: Format) -> list[str]:
     kinds = [it for it in f.tests if it.is_field]
     arrows, args = "".join(f"{spec_type(it.kind)} → " for it in kinds), "".join(f" {it.name}" for it in kinds)
     return [
-        "-- the fields that bits say, each by its place",
+        "-- the fields in bits, each by its place",
         f"abbrev pub {f.m}_at : {arrows}List Bool → {f.type}",
         f"{f.m}_at{args} bits = record {{",
         *[f"  {it.name} = {place(it, 'bits', f.o)};" for it in f.fields],

@@ -10,10 +10,10 @@ use bitstream_io::{BitRead, BitReadExt, Bits};
 ///
 /// # Errors
 ///
-/// `NotCoded` for a first byte 0b10.., for a later byte that does not begin with 0b10, and for a run of
-/// more than 7 ones: the run is read up to its 0, also behind the first byte, so a first byte 0xff
-/// answers `EndOfInput` if no 0 comes. `LongCoded` for a number that fewer bytes code. Those of the
-/// reader. What shows the error is read.
+/// `NotCoded` for a first byte 0b10.., for a later byte that does not begin with 0b10, and for a
+/// run of more than 7 ones: the run is read up to its 0, also after the first byte, so a first byte
+/// 0xff returns `EndOfInput` if no 0 comes. `LongCoded` for a number that fewer bytes code. Else
+/// the errors of the reader. The faulty bits are read.
 pub fn read_coded<R: BitRead>(reader: &mut R) -> Result<u64, FlacError>
     ensures { ReadsOwn R.source becomes_flac (coded_decoder R.source.order) reader.old result reader.new }
 {
@@ -32,7 +32,7 @@ pub fn read_coded<R: BitRead>(reader: &mut R) -> Result<u64, FlacError>
     read_rest(reader, least_of(ones), ones - 1, first)
 }
 
-/// Returns the least number that needs so many bytes.
+/// Returns the least number that needs `bytes` bytes.
 fn least_of(bytes: u32) -> u64
     requires two { 2 ≤ bytes }
     requires seven { bytes ≤ 7 }
@@ -55,7 +55,7 @@ fn shortest(least: u64, number: u64) -> Result<u64, FlacError>
     Ok(number)
 }
 
-/// Reads the bytes behind the bits `number`: six bits each.
+/// Reads the bytes after the bits of `number`, which have six bits each.
 fn read_rest<R: BitRead>(
     reader: &mut R,
     least: u64,
@@ -74,8 +74,8 @@ fn read_rest<R: BitRead>(
     read_rest(reader, least, bytes - 1, 64 * number + six)
 }
 
-/// A coded number is read back as it was written, in either order of bits, wherever it stands.
-pub fn coded_numbers_go_back()
+/// A coded number is read back as it was written, in either order of bits, at any place.
+pub fn coded_numbers_round_trip()
     ensures { (o : Order) (number at from : ℕ) (more : List Bool) → number < 2 ^ 36
         → let word = write_sequence (coded_writes o number) at in
         (coded_decoder o).reads from (word ++ more) ≡ Done (length word) (Ok (Ok number)) }

@@ -17,7 +17,7 @@ pub struct RefusedUnit {
     pub byte: usize,
     /// The place of the reader, in bits of the unit without its bytes against emulation.
     pub bit: u64,
-    /// What is wrong.
+    /// The error.
     pub error: H264Error,
 }
 
@@ -38,7 +38,7 @@ impl fmt::Display for RefusedUnit {
 pub struct Stream<'a> {
     units: Units<'a>,
     sets: ParameterSets,
-    // How many units were taken.
+    // The number of units taken.
     taken: u64,
 }
 
@@ -70,7 +70,7 @@ impl<'a> Stream<'a> {
         self.units.rest()
     }
 
-    /// Returns how many units were read or refused.
+    /// Returns the number of units that were read or refused.
     pub fn units_taken(&self) -> u64 {
         self.taken
     }
@@ -84,7 +84,7 @@ impl<'a> Stream<'a> {
     ///
     /// # Errors
     ///
-    /// Those of [`read_unit`], with the place of the unit. The next call reads the next unit.
+    /// The errors of [`read_unit`], with the place of the unit. The next call reads the next unit.
     pub fn next_unit(
         &mut self,
         alloc: Global,

@@ -56,8 +56,9 @@ fn check_delimiter(syntax: &mut Syntax<'_, '_, '_, BE>, last: u64) -> Result<(),
     Ok(())
 }
 
-/// Checks the end of a unit of some type of which only the header is read. If what it holds ends in trailing
-/// bits, a 1 follows the header: the last 1 of the unit, at `last`, is the stop bit, and zeros follow it.
+/// Checks the end of a unit of a type with only its header read. If its contents end in trailing
+/// bits, a 1 follows the header: the last 1 of the unit, at `last`, is the stop bit, and zeros
+/// follow it.
 pub(super) fn check_end(
     syntax: &mut Syntax<'_, '_, '_, BE>,
     kind: u32,

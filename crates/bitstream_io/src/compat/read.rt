@@ -17,12 +17,13 @@ use bitstream_value::read::BitReadExt;
 use std::alloc::Allocator;
 
 /// Reads bits, by the names of earlier versions. Every reader of bits has these calls. Code that
-/// uses them imports this trait in place of [`BitRead`] and [`BitReadExt`], since some of the names
+/// uses them imports this trait instead of [`BitRead`] and [`BitReadExt`], since some of the names
 /// are the same.
 ///
 /// # Errors
 ///
-/// Each call answers as the call of today that it names, and leaves the reader in the same state.
+/// Each call returns the result of the current call that it names, and leaves the reader in the
+/// same state.
 ///
 /// # Examples
 ///
@@ -36,14 +37,14 @@ use std::alloc::Allocator;
 /// assert!(rt; matches!(reader.read::<u32>(1), Err(Error::EndOfInput)));
 /// ```
 pub trait BitRead2 {
-    // What the states of the reader mean.
+    // The meaning of the reader's states.
     ghost source: { BitSource Self };
 
     /// Reads one bit, as [`BitRead::read_bit`].
     fn read_bit(&mut self) -> Result<bool, Error>
         ensures reads { Reads source bit_decoder self.old result self.new };
 
-    /// Reads a value of the given number of bits, as [`BitReadExt::read_var`].
+    /// Reads a value of `bits` bits, as [`BitReadExt::read_var`].
     fn read<I: Integer>(&mut self, bits: u32) -> Result<I, Error>
         ensures reads { Reads source (I.reads source.order bits) self.old result self.new };
 
@@ -52,7 +53,7 @@ pub trait BitRead2 {
         requires { I.IsWidth B.BITS }
         ensures reads { Reads source (I.reads source.order B.BITS) self.old result self.new };
 
-    /// Reads a signed number of the given number of bits, as [`BitRead::read_signed_var`].
+    /// Reads a signed number of `bits` bits, as [`BitRead::read_signed_var`].
     fn read_signed<S: SignedInteger>(&mut self, bits: u32) -> Result<S, Error>
         ensures reads { Reads source (signed_decoder source.order S.BITS_SIZE bits)
             self.old (result_map S.integer result) self.new };
@@ -74,7 +75,7 @@ pub trait BitRead2 {
         ensures reads { Reads source (bytes_decoder source.order V.BYTES) self.old
             (result_map (value_bytes F.order V.be_bytes V.le_bytes) result) self.new };
 
-    /// Skips the given number of bits, as [`BitRead::skip`].
+    /// Skips `bits` bits, as [`BitRead::skip`].
     fn skip(&mut self, bits: u32) -> Result<(), Error>
         ensures reads { Reads source (skip_decoder bits) self.old result self.new };
 
@@ -88,7 +89,7 @@ pub trait BitRead2 {
         ensures reads { Reads source (bytes_decoder source.order V.BYTES)
             self.old (result_map V.Bytes.items result) self.new };
 
-    /// Reads the given number of bytes into a vector, as [`BitRead::read_to_vec`].
+    /// Reads `bytes` bytes into a vector, as [`BitRead::read_to_vec`].
     fn read_to_vec<A: Allocator>(&mut self, alloc: A, bytes: usize) -> Result<Vec<u8, A>, Error>
         ensures reads { ReadsGrowing source (bytes_decoder source.order bytes)
             self.old (result_map (λ v. v.items) result) self.new };
@@ -114,12 +115,12 @@ pub trait BitRead2 {
     fn read_huffman<T: FromBits>(&mut self, code: &T) -> Result<T::Symbol, Error>
         ensures reads { Reads source (T.decoder code.now) self.old result self.new };
 
-    /// Reads a value of a type that says how it is read, as [`BitReadExt::parse`].
+    /// Reads a value of a type that implements its own reads, as [`BitReadExt::parse`].
     fn parse<F: FromBitStream>(&mut self) -> Result<F, F::Error>
         ensures reads { OwnReads F.grows source F.becomes (F.reads source.order)
             self.old result self.new };
 
-    /// Reads a value of such a type, with a context that is lent, as [`BitReadExt::parse_with`].
+    /// Reads a value that needs a borrowed context, as [`BitReadExt::parse_with`].
     fn parse_with<F: FromBitStreamWith>(&mut self, context: &F::Context) -> Result<F, F::Error>
         ensures reads { OwnReads F.grows source F.becomes (F.reads source.order context.now)
             self.old result self.new };

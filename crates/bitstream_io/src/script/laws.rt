@@ -1,4 +1,4 @@
-//! What holds of calls and of lists of calls, whatever reader or sink they are made on.
+//! The laws of calls and of lists of calls, on any reader or sink.
 
 ghost use Rattle.std.specs.Prelude.{◌≡◌, ◌⊎◌, ◌+◌, ◌-◌, ◌%◌, ◌^◌, ◌<◌, ◌≤◌, ◌++◌, ℕ, ℤ, pos, Bool, true, false, List, [], ◌∷◌, length, Option, None, Some, IfSome, Result};
 ghost use Rattle.std.specs.List.{All, flat_map};
@@ -32,23 +32,25 @@ pub fn words_have_one_length()
         → word_size (write_encoder o call len) ≡ word_size (write_encoder p call len) }
 {}
 
-/// A list of calls appends behind other bits what it appends to a new sink, if no call is an
+/// A list of calls appends the same bits after other bits as to a new sink, if no call is an
 /// alignment or the bits end at a byte boundary. So a recording of the calls, played back, appends
-/// what the same calls append directly.
+/// the same bits as the calls themselves.
 pub fn played_calls_are_direct_calls()
     ensures { (o : Order) (calls : List WriteCall) (len : ℕ)
         → AlignsNowhere calls ⊎ (len % 8 ≡ 0)
         → write_sequence (write_encoders None o calls) len ≡ write_sequence (write_encoders None o calls) 0 }
 {}
 
-/// To make the calls of one list and then those of another is to make the calls of both.
+/// Making the calls of two lists, one after the other, is the same as making the calls of the
+/// joined list.
 pub fn write_sequences_join()
-    // The words are those of the first list, and then those of the second from the length reached.
+    // The words of the first list come first, and then the words of the second, from the length
+    // reached.
     ensures words { (o : Order) (first second : List WriteCall) (len : ℕ)
         → let words = write_sequence (write_encoders None o first) len in
         write_sequence (write_encoders None o (first ++ second)) len
         ≡ words ++ write_sequence (write_encoders None o second) (len + length words) }
-    // So are the answers: those of the first list, and then those of the second.
+    // The results of the first list come first, and then the results of the second.
     ensures answers { (o : Order) (first second : List WriteCall) (len : ℕ)
         → let words = write_sequence (write_encoders None o first) len in
         write_refusals (write_encoders None o (first ++ second)) len
@@ -56,16 +58,16 @@ pub fn write_sequences_join()
         ++ write_refusals (write_encoders None o second) (len + length words) }
 {}
 
-/// To append bits and then more bits is to append all of them at once, on every sink.
+/// Appending bits and then more bits is the same as appending all of them at once, on every sink.
 pub fn appending_composes<W: BitWrite>()
     ensures { (old mid new : W) (first second : List Bool)
         → W.sink.appends old first mid → W.sink.appends mid second new
         → W.sink.appends old (first ++ second) new }
 {}
 
-/// Over a stream that refuses only where its bytes end, as a `Slice` does, a list of reads that asks
-/// for no memory answers what all its bytes say: the answers of its read sequence, then `EndOfInput`, and
-/// then `Failed`.
+/// If the stream refuses only where its bytes end, as a `Slice` does, a list of reads that do not
+/// allocate returns what all its bytes decide: the results of its read sequence, then `EndOfInput`,
+/// and then `Failed`.
 pub fn lists_of_reads_are_known<R: BitRead>()
     ensures { (calls : List ReadCall) (old new : R)
         (answers : List (Option (Result Answer Error))) (bytes : List ℕ)
@@ -81,13 +83,13 @@ pub fn lists_of_reads_are_known<R: BitRead>()
 /// 0 bits), whatever bits follow. The reads begin at the same place in a byte as the writes, which may
 /// be another number of bits.
 pub fn written_calls_are_read()
-    // The matching reads of the accepted calls answer the values that these wrote.
+    // The matching reads of the accepted calls return the values that the calls wrote.
     ensures answers { (o : Order) (calls : List WriteCall) (len p : ℕ) (more : List Bool)
         → All IsCall calls → p % 8 ≡ len % 8
         → let kept = accepted_calls o calls len in
         sequence_answers (read_sequence (read_decoders o (matching_reads kept)) p
         (write_sequence (write_encoders None o calls) len ++ more)) ≡ answers_of kept }
-    // They take just the bits that were written.
+    // They take only the bits that were written.
     ensures place { (o : Order) (calls : List WriteCall) (len p : ℕ) (more : List Bool)
         → All IsCall calls → p % 8 ≡ len % 8
         → let words = write_sequence (write_encoders None o calls) len in
@@ -95,9 +97,9 @@ pub fn written_calls_are_read()
         (words ++ more)) ≡ p + length words }
 {}
 
-/// Over a stream that refuses only where its bytes end, as a `Slice` does, matching reads that ask
-/// for no memory answer each value that was written, if the bits left begin with its call's words.
-pub fn written_calls_come_back<R: BitRead>()
+/// If the stream refuses only where its bytes end, as a `Slice` does, matching reads that do not
+/// allocate return each value that was written, if the bits left begin with its call's words.
+pub fn written_calls_round_trip<R: BitRead>()
     ensures { (written : List WriteCall) (len : ℕ) (old new : R)
         (answers : List (Option (Result Answer Error)))
         → let kept = accepted_calls R.source.order written len in
@@ -107,9 +109,9 @@ pub fn written_calls_come_back<R: BitRead>()
         → answers ≡ answers_of kept }
 {}
 
-/// What a call writes, the read of the same name and width reads back, wherever both stand and
-/// whatever follows. Of a number that was written in no bits 0 is read. A number of variable width is
-/// read back by the lenient read too.
+/// The read of the same name and width reads back the value that a call writes, at any place and
+/// whatever follows. A number that was written in 0 bits is read as 0. A number of variable width
+/// is read back by the lenient read too.
 pub fn written_words_are_read()
     // A bit is read back.
     ensures bit { (b : Bool) → IsReadAs (bit b ∷ []) bit_decoder b }
@@ -119,7 +121,7 @@ pub fn written_words_are_read()
     // A signed number that fits n bits of its type, where n is not 0, is read back.
     ensures signed { (o : Order) (size n : ℕ) (x : ℤ) → 0 < n → n ≤ size → FitsSignedBits n x
         → IsReadAs (signed o size n x ∷ []) (signed_decoder o size n) x }
-    // A constant that fits its bits is found to be what was written.
+    // A constant that fits its bits is read back.
     ensures constant { (o : Order) (n v : ℕ) → v < 2 ^ n
         → IsReadAs (plain (word o n v) ∷ []) (const_decoder o n v) true }
     // A unary number below 2^32 is read back, with either stop bit.
@@ -128,10 +130,10 @@ pub fn written_words_are_read()
     // A count up to its greatest number is read back.
     ensures count { (o : Order) (max n : ℕ) → n ≤ max
         → IsReadAs (count o max n ∷ []) (count_decoder o max) n }
-    // Bytes are read back by a read of as many bytes.
+    // Bytes are read back by a read of the same number of bytes.
     ensures bytes { (o : Order) (bytes : List ℕ) → All (λ b. b < 256) bytes
         → IsReadAs (buffer o bytes ∷ []) (bytes_decoder o (length bytes)) bytes }
-    // A skip of n bits takes just the n zeros that were written.
+    // A skip of n bits takes only the n zeros that were written.
     ensures skip { (n : ℕ) → IsReadAs (zeros n ∷ []) (skip_decoder n) tt }
     // A number of the type below the limit is read back from its groups by the strict read.
     ensures vbr { (o : Order) (field size limit v : ℕ) → 2 ≤ field → 0 < size → limit ≤ 2 ^ size
@@ -149,8 +151,8 @@ pub fn written_words_are_read()
         → IsReadAs (signed_vbr o field x ∷ []) (any_signed_vbr_decoder o field size) x }
 {}
 
-/// The same holds for the types of values: what a value's calls write is read back as the value. In
-/// no bits a `NonZero` is read as 1, and an `Option` as `None`.
+/// The same holds for the types of values: a value is read back from the words of its writes. In 0
+/// bits a `NonZero` is read as 1, and an `Option` as `None`.
 pub fn written_values_are_read<A>()
     // A `bool` is read back from one bit.
     ensures bool { (b : Bool) → IsReadAs (truth 1 b ∷ []) (truth_decoder 1) b }
@@ -195,8 +197,8 @@ pub fn written_values_are_read<A>()
         → IsReadAs (bit_by_bit (limited_unary stop most v)) (path_decoder (limited_tree stop 0 most)) v }
 {}
 
-/// If one read reads back what some calls write, and another what others write, then the two reads,
-/// one behind the other, read back what all these calls write.
+/// If one read reads back the words of some calls, and another the words of others, then the two
+/// reads, one after the other, read back the words of all these calls.
 pub fn written_parts_are_read<A, B>()
     ensures { (first : Decoder A) (next : A → Decoder B) (a : A) (b : B)
         (writes others : List Encoder)

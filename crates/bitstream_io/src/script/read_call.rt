@@ -50,16 +50,16 @@ pub enum ReadCall {
     SignedVbr4,
     /// A signed number of variable width, in groups of 8 bits.
     SignedVbr8,
-    /// The given number of bytes.
+    /// A number of bytes.
     Bytes(usize),
-    /// The given number of bits, whatever they are.
+    /// A number of bits, whatever they are.
     Skip(u32),
     /// The bits up to the next byte boundary, whatever they are.
     Align,
 }
 
 impl ReadCall {
-    /// Makes the call. For `Bytes` alone memory is asked of the allocator.
+    /// Makes the call. Only `Bytes` asks the allocator for memory.
     ///
     /// # Errors
     ///

@@ -14,12 +14,12 @@ use bitstream_count::error::Error;
 use bitstream_stream::read::BitRead;
 use std::alloc::Global;
 
-/// Makes all calls in their order, also behind one that answered an error, and puts the answer of
-/// each into its place.
+/// Makes all calls in order, even after one that returned an error, and puts the result of each
+/// into its place.
 ///
-/// The answers are those of the plain list of bits, however the stream cuts it, up to the first
-/// request that is refused. That call answers the error of the refusal, and each value call behind
-/// it answers `Failed`. Memory is asked for by `Bytes` alone, and for as many bytes as are there.
+/// The results are the same as on the plain list of bits, however the stream is chunked, up to the
+/// first request that is refused. That call returns the error of the refusal, and each value call
+/// after it returns `Failed`. Only `Bytes` allocates, and only for bytes that are there.
 pub fn read_calls<R: BitRead>(
     alloc: Global,
     reader: &mut R,
@@ -29,12 +29,12 @@ pub fn read_calls<R: BitRead>(
     requires { length answers.old ≡ length calls.now }
     // Each call is made, and is a read of its entry.
     ensures each { ReadsEach R.source calls.now reader.old answers.new reader.new }
-    // The answers are those of the read sequence on the bits left.
+    // Each call returns the result of the read sequence on the bits left.
     ensures run { (bytes : List ℕ) → (R.source.state reader.old).bytes ≡ Some bytes
         → ReadsSequence R.source calls.now
         ((R.source.state reader.old).queue ++ bits_of R.source.order bytes)
         reader.old answers.new reader.new }
-    // What write calls wrote is read back by the matching reads of those that were accepted.
+    // The matching reads of accepted write calls read back the values written.
     ensures back { (written : List WriteCall) (len : ℕ) → All IsCall written
         → StandsBefore R.source written len reader.old
         → let kept = accepted_calls R.source.order written len in calls.now ≡ matching_reads kept

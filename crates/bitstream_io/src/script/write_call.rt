@@ -7,7 +7,7 @@ use bitstream_count::error::Error;
 use bitstream_number::number::Bits;
 use bitstream_stream::write::BitWrite;
 
-/// A write call with its arguments. A number comes behind its width in bits.
+/// A write call with its arguments. A number comes after its width in bits.
 #[derive(Drop)]
 pub enum WriteCall {
     /// One bit: 1 for `true`.
@@ -46,7 +46,7 @@ pub enum WriteCall {
     SignedVbr8(i64),
     /// Bytes.
     Bytes(ByteList),
-    /// The given number of zeros.
+    /// A number of zeros.
     Pad(u32),
     /// Zeros up to a multiple of 8 bits.
     Align,

@@ -1,4 +1,4 @@
--- What the kernels send to a port.
+-- The bits that the kernels send to a port.
 use Rattle.std.proofs.Common.{◌≡◌, ℕ, ◌+◌, ◌-◌, ◌*◌, ◌/◌, ◌^◌, ◌<◌, ◌≤◌, Bool, List, ◌++◌, length, take, drop, sym, ap, ap₂, ◌∙◌, subst, arith, length-append, length-take-le, mod-lt}
 use Rattle.std.proofs.Math.Seq.{take-length, take-append-add}
 use Rattle.std.proofs.lemmas.List.{take-append-drop}
@@ -16,7 +16,7 @@ pub piece_below : (o : Order) (n v at k : ℕ) → piece o n v at k < 2 ^ k
 piece_below High n v at k = mod-lt (v / 2 ^ (n - (at + k))) (pow_pos k)
 piece_below Low n v at k = mod-lt (v / 2 ^ at) (pow_pos k)
 
--- the bits of a word in prefix, and the rest of them
+-- the first bits of a word, and the rest of them
 pub piece_last : (o : Order) (n v at : ℕ) → at ≤ n → word o n v ≡ take at (word o n v)
     ++ word o (n - at) (piece o n v at (n - at))
 piece_last o n v at le =

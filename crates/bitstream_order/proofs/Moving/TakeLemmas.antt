@@ -1,4 +1,4 @@
--- What the kernels take from a port.
+-- The bits that the kernels take from a port.
 use Rattle.std.proofs.KnownBytes.{Consumes-nil}
 use Rattle.std.proofs.Common.{◌≡◌, ℕ, ◌+◌, ◌*◌, ◌/◌, ◌^◌, ◌<◌, ◌≤◌, List, [], ◌++◌, length, take, refl, sym, ap, ap₂, ◌∙◌, subst, arith, append_assoc, append-nil, length-append}
 use Rattle.bitstream_number.specs.Word.{Order, High, Low, digits, word, bits}

@@ -10,9 +10,9 @@ use crate::streams::source::Source;
 use std::io;
 use std::io::{ErrorKind, SeekFrom};
 
-/// Bytes in memory, which are read from their prefix. A read is refused exactly if fewer bytes are
-/// left than it asks for: with `UnexpectedEof`, and without taking any. So the bytes alone decide
-/// what a reader over it answers. (Of a `&[u8]` that is read as a stream std does not tell this.)
+/// Bytes in memory, read from their start. A read is refused exactly if fewer bytes are left than
+/// it asks for: with `UnexpectedEof`, and without taking any. So the bytes alone decide the results
+/// of a reader over it. (std's contract does not state this for a `&[u8]` as a stream.)
 ///
 /// It seeks as std's `Cursor` does. A place past the end is allowed, and no byte is left there. A
 /// seek is refused exactly if its place is below 0 or above 2^64 - 1: with `InvalidInput`, and
@@ -29,10 +29,10 @@ use std::io::{ErrorKind, SeekFrom};
 /// ```
 #[derive(Drop)]
 pub struct Slice<'a> {
-    // Those left.
+    // The bytes left.
     bytes: &'a [u8],
     all: &'a [u8],
-    // How many bytes the place lies past the end.
+    // The number of bytes between the end and a place past it.
     past: u64,
     ghost tail: { IsTail bytes.now all.now },
     ghost ended: { 0 < past → bytes.now ≡ [] },
@@ -40,15 +40,14 @@ pub struct Slice<'a> {
 }
 
 impl<'a> Slice<'a> {
-    ghost use Rattle.bitstream_order.specs.Streaming.Slice.{byte_meant, slice_bytes, slice_place, slice_remaining};
+    ghost use Rattle.bitstream_order.specs.Streaming.Slice.{byte_meant, slice_bytes, slice_left, slice_place, slice_remaining};
 
     /// Returns a source of these bytes, at their start.
     pub fn new(bytes: &'a [u8]) -> Slice<'a>
         // All these bytes are left.
-        ensures bytes { result.bytes.now ≡ bytes.now }
+        ensures bytes { slice_left result ≡ bytes.now }
         // They are all its bytes, from place 0 on.
         ensures all { slice_bytes result ≡ bytes.now }
-        // It stands at place 0.
         ensures place { slice_place result ≡ 0 }
     {
         Slice {
@@ -87,9 +86,8 @@ impl<'a> Slice<'a> {
 
     /// Goes to a place in bytes.
     fn go_to(&mut self, place: u64)
-        // It stands at that place, even past the end.
+        // The place may be past the end.
         ensures place { slice_place self.new ≡ place }
-        // Its bytes are the same as before.
         ensures all { slice_bytes self.new ≡ slice_bytes self.old }
     {
         let all = self.all;
@@ -116,8 +114,8 @@ impl<'a> Source for Slice<'a> {
         Ok(())
     }
 
-    /// Copies as many bytes as the buffer holds, if there are so many, and takes the first `count`. If
-    /// that number is known as the program is compiled, it copies only these.
+    /// Copies the first bytes that fill the buffer, if there are enough, and takes the first
+    /// `count`. If `count` is known at compile time, it copies only these.
     #[inline(always)]
     fn read_prefix(&mut self, buf: &mut [u8], count: usize, constant: bool) -> io::Result<()> {
         if constant {

@@ -1,22 +1,19 @@
 -- Reads of bytes and of bits that are skipped.
-use Rattle.std.specs.Prelude.{min}
 use Rattle.std.specs.Result.{IsErrAnd}
-use Rattle.std.proofs.lemmas.Nat.{div-mul-add}
 use Rattle.std.proofs.Math.ListN.{drop_of_length-le}
 use Rattle.std.proofs.Math.Seq.{take-append_seam, drop-append_seam}
 use borrow.Rule.Slice.PartMut.{put_mid}
-use Rattle.std.proofs.Common.{◌≡◌, ℕ, zero, suc, ◌+◌, ◌-◌, ◌*◌, ◌/◌, ◌^◌, ◌<◌, ◌≤◌, Bool, true, false, List, [], ◌∷◌, ◌++◌, length, take, drop, append-nil, length-append, replicate, Result, Ok, Err, refl, sym, ap, ◌∙◌, subst, arith}
+use Rattle.std.proofs.Common.{◌≡◌, ℕ, ◌+◌, ◌-◌, ◌*◌, ◌^◌, ◌<◌, ◌≤◌, Bool, true, false, List, [], ◌∷◌, ◌++◌, length, take, drop, append-nil, length-append, replicate, Result, Ok, Err, refl, sym, ap, ◌∙◌, subst, arith}
 use Rattle.bitstream_number.specs.Word.{Order, word, number, bits, bytes, bytes_of}
 use Rattle.bitstream_number.proofs.Bytes.{AreBytes}
 use Rattle.bitstream_number.proofs.ByteLemmas.{bytes_of-bits, bytes_of-number, bytes_of-append, bytes_of-one}
-use Rattle.bitstream_number.proofs.WordLemmas.{bits-bytes, length-bits, word-number, number-lt}
+use Rattle.bitstream_number.proofs.WordLemmas.{length-bits, word-number, number-lt}
 use Rattle.std.proofs.lemmas.List.{nil_from_length, length-replicate}
 use Rattle.bitstream_count.specs.declared.error.Error.{Error}
 use Rattle.bitstream_count.specs.declared.error.Error.TheVariants.{Failed, OutOfMemory}
 use Rattle.bitstream_count.specs.Codec.{Decoder, Incomplete, and_then, pure, consume}
 use Rattle.bitstream_order.specs.Port.{PortState, Fetched}
 use Rattle.bitstream_order.specs.Moving.Shift.{Shifts}
-use Rattle.bitstream_order.specs.Moving.Pieces.{pieces}
 use Rattle.bitstream_order.specs.Moving.Gather.{TakesWord, result_map}
 use Rattle.bitstream_stream.specs.Reading.Reads.{BitSource, ReadOutcome, failed_reader, had_failed}
 use Rattle.bitstream_stream.specs.Reading.ReadTable.{unsigned_decoder, bytes_decoder, skip_decoder}

@@ -96,7 +96,7 @@ tail_le bytes all tail =
     let size = ap (λ l. length l) tail ∙ length-append (take (length all - length bytes) all) bytes in
     omega (arith, size)
 
--- a reader that goes on takes the bits in prefix
+-- a reader that goes on takes the first bits
 pub went_on : {E : Type 0} (o : Order) (n : ℕ) (old new : SliceReader E) → old.failed ≡ false → GoesOn n old new
     → Took o ((memory_source o).state old) (take n (rest_bits o old.bytes.now old.bit)) ((memory_source o).state new)
 went_on o n old new fine h =

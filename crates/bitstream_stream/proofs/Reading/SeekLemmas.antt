@@ -25,6 +25,7 @@ use Rattle.bitstream_stream.specs.Reading.ReadTable.{unsigned_decoder}
 use Rattle.bitstream_stream.specs.Reading.Reads.{ReaderState, Reads, ReadOutcome, ReadDone, ReadRefused, failed_reader}
 use Rattle.bitstream_order.specs.declared.streams.slice.Slice.{Slice}
 use Rattle.bitstream_stream.specs.Reading.Seek.{IsByteSeek, MaySeek, SeekerOf, Tells, CountsFrom, Means, Lands, RequestRefused, SkipRefused, GoesTo, OnlyAsked, Begins, SeeksBits, AsksPlace, IsFromHere}
+use Rattle.bitstream_stream.proofs.Shared.{exit_is}
 use Rattle.bitstream_stream.proofs.Reading.ReadsLemmas.{Consumes-known, parts_left, ok_prefix}
 use Rattle.bitstream_stream.proofs.Reading.TableLemmas.{unsigned-takes}
 
@@ -172,10 +173,6 @@ skip_answers : (o : Order) (n p m : ℕ) (w : List Bool) (x : Error) → n ≤ 8
 skip_answers o n p m w x le h = skips_some (nat_le n (length w)) n m (number o (take n w)) x
     (subst (λ (e : Decoder ℕ). e.reads p w ≡ Done m (Err x)) (unsigned-takes o 8 n le) h)
 
-error_is : {A : Type 0} {x : Error} (r : Result A Error) → IsErrAnd r (λ y. y ≡ x) → r ≡ Err x
-error_is (Ok v) same = absurd same
-error_is (Err y) same = ap Err same
-
 pub goes : {R : Type 0} {K : SeekerOf R} {place counted at v : ℕ} {old mid new : R} → Begins K (Start (place / 8)) old at mid
     → Reads K.source (unsigned_decoder K.source.order 8 (place % 8)) mid (Ok v) new
     → GoesTo K place counted old (Ok place) new
@@ -192,7 +189,7 @@ goes_too_far r same begins (ReadOutcome.had_failed h) = let p = h.failed in let 
 goes_too_far {K = K} {place = place} r same begins (ReadOutcome.was_done h) =
     absurd (skip_answers K.source.order (place % 8) _ _ (h.word ++ []) _ (omega arith) (h.decides []))
 goes_too_far {K = K} {place = place} r same begins (ReadOutcome.was_refused h) =
-    GoesTo.was_too_far (skip_refused K place _ _ _ _ _ r (error_is r same) begins h)
+    GoesTo.was_too_far (skip_refused K place _ _ _ _ _ r (exit_is r same) begins h)
 goes_too_far r same begins (ReadOutcome.memory_refused g h) = cc
 
 -- ---- asking for the place

@@ -321,7 +321,7 @@ pub record Turn {R : Type 0} (K : BitSource R) (strict : Bool) (field size m : �
   pub read : Reads K (unsigned_decoder K.order size field) t (Ok group) z
   pub low : digits ≡ group % 2 ^ m
   pub shifted : placed ≡ digits * 2 ^ shift % 2 ^ size
-  pub join_groups : next ≡ bit_or value placed
+  pub joined : next ≡ bit_or value placed
 
 module _ {R : Type 0} {K : BitSource R} {strict : Bool} {field size m : ℕ} {s t z : R}
     {value shift group digits placed next : ℕ}

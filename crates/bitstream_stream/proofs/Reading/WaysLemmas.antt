@@ -1,5 +1,5 @@
 -- What a reader whose queue was dropped has read.
-use Rattle.std.proofs.Common.{◌≡◌, ℕ, ◌+◌, Bool, true, false, Ok, refl, sym, ap₂, ◌∙◌, arith}
+use Rattle.std.proofs.Common.{◌≡◌, ◌+◌, Bool, true, false, Ok, refl, sym, ap₂, ◌∙◌, arith}
 use Rattle.bitstream_order.specs.Streams.{InputStream}
 use Rattle.bitstream_number.specs.Word.{Order}
 use Rattle.bitstream_order.specs.Port.{source_state}

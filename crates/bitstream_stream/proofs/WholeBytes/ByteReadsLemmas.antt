@@ -9,7 +9,7 @@ use Rattle.std.proofs.lemmas.Bool.{le-leb, cases_lt}
 use Rattle.std.specs.Result.{IsErrAnd}
 use Rattle.bitstream_count.specs.declared.error.Error.{Error}
 use Rattle.bitstream_count.specs.declared.error.Error.TheVariants.{OutOfMemory}
-use Rattle.bitstream_count.specs.Codec.{Prefix, Incomplete, Done}
+use Rattle.bitstream_count.specs.Codec.{Incomplete, Done}
 use Rattle.bitstream_number.specs.Word.{Order, High, Low}
 use Rattle.bitstream_order.specs.Parts.{value_bytes}
 use Rattle.bitstream_order.specs.Port.{PortState, Fetches}

@@ -2,7 +2,6 @@
 use Rattle.std.proofs.Common.{◌≡◌, ℕ, ◌+◌, ◌*◌, ◌%◌, ◌<◌, ◌≤◌, ◌≢◌, Bool, IsTrue, true, false, List, [], ◌∷◌, ◌++◌, length, Option, Some, None, Result, Ok, Err, refl, sym, ◌∙◌, ap, ap₂, inl, inr, arith, map}
 use Rattle.std.proofs.lemmas.Bool.{cases_lt}
 use Rattle.std.specs.Borrow.{GName, MutBor}
-use Rattle.std.specs.Result.{IsErrAnd}
 use Rattle.bitstream_order.specs.Reference.{Reference, by_name, capacity_of}
 use Rattle.bitstream_count.specs.Codec.{Encoder}
 use Rattle.bitstream_count.specs.declared.error.Error.{Error}

@@ -1,4 +1,4 @@
--- What one read of whole bytes does to a reader of bytes.
+-- The effect of one read of whole bytes on a reader of bytes.
 use Rattle.std.specs.Prelude.{◌≡◌, ℕ, ◌+◌, Bool, true, false, List, ◌∷◌, ◌++◌, length, take, nat_le, nat_lt, if◌then◌else◌, Option, Some, Result, Ok, Err}
 use Rattle.std.specs.Borrow.{GName, MutBor}
 use Rattle.std.specs.Io.KnownBytes.{Consumes}
@@ -10,9 +10,9 @@ use Rattle.bitstream_number.specs.Word.{Order}
 use Rattle.bitstream_order.specs.Fault.{read_refusal_of}
 use Rattle.bitstream_order.specs.Refusal.{Refusal, IsTrueEnd}
 
--- what a state of a reader of bytes tells
+-- the known state of a reader of bytes
 pub record ByteReaderState : Type 0 where
-  -- the bytes left in the stream, if it tells them, and the number of bytes taken so far
+  -- the bytes left in the stream, if they are known, and the number of bytes taken so far
   pub bytes : Option (List ℕ)
   pub taken : ℕ
   -- the requests of the stream that were refused, the last one first
@@ -20,15 +20,15 @@ pub record ByteReaderState : Type 0 where
   -- the references through which the stream is reached
   pub references : List Reference
 
--- what the states of a reader of bytes mean
+-- the meaning of the states of a reader of bytes
 pub record ByteSource (R : Type 0) : Type 1 where
   pub order : Order
   pub state : R → ByteReaderState
   -- the refusals that its stream may make
   pub may : Refusal → Type 0
 
--- a call that reads bytes: what it finds at the prefix of the bytes to read, and whether it may allocate once it has
--- taken just these bytes
+-- a call that reads bytes: its result on the bytes left, and whether it may allocate once it has taken just
+-- these bytes
 pub record ByteDecoder (A : Type 0) : Type 0 where
   pub reads : List ℕ → Prefix A
   pub allocates : List ℕ → Bool
@@ -37,11 +37,11 @@ pub record ByteDecoder (A : Type 0) : Type 0 where
 abbrev pub byte_call : {A : Type 0} → (List ℕ → Prefix A) → ByteDecoder A
 byte_call f = record { reads = f; allocates = λ _. false }
 
--- n bytes, answered as g of them
+-- n bytes, with g of them as the result
 abbrev pub byte_prefix : {A : Type 0} → ℕ → (List ℕ → Result A Error) → List ℕ → Prefix A
 byte_prefix n g bytes = if nat_le n (length bytes) then Done n (g (take n bytes)) else Incomplete
 
--- n bytes, answered as they are
+-- n bytes, returned unchanged
 unfoldable pub given_bytes : ℕ → ByteDecoder (List ℕ)
 given_bytes n = byte_call (byte_prefix n (λ bytes. Ok bytes))
 
@@ -60,8 +60,8 @@ pub record BytesTaken (old : ByteReaderState) (bytes : List ℕ) (new : ByteRead
   pub refusals : new.refusals ≡ old.refusals
   pub references : new.references ≡ old.references
 
--- The call takes its prefix, some bytes, and gives the prefix's answer. They alone decide it, whatever bytes
--- follow, and no proper beginning of them has a prefix.
+-- The call takes its prefix, some bytes, and returns the prefix's result. These bytes alone decide it, whatever
+-- bytes follow, and no proper beginning of them has a prefix.
 pub record ByteReadDone {A : Type 0} (decoder : ByteDecoder A) (old : ByteReaderState) (result : Result A Error)
     (new : ByteReaderState) : Type 0 where
   pub bytes : List ℕ
@@ -94,7 +94,7 @@ pub record ByteMemoryRefused {A : Type 0} (decoder : ByteDecoder A) (old : ByteR
   pub few : decoder.reads bytes ≡ Incomplete
   pub took : BytesTaken old bytes new
 
--- one read of bytes, by what the call means; `grows` says whether the call asks for memory of its own
+-- one read of bytes, from the meaning of the call; `grows` is true if the call allocates
 pub data ByteReadOutcome {R A : Type 0} (K : ByteSource R) (grows : Bool) (decoder : ByteDecoder A) (old : R)
     (result : Result A Error) (new : R) : Type 0 where
   was_done : ByteReadDone decoder (K.state old) result (K.state new) → ByteReadOutcome K grows decoder old result new
@@ -115,7 +115,7 @@ ByteReadsGrowing K decoder old result new = ByteReadOutcome K true decoder old r
 abbrev pub lent_bytes : GName → ByteReaderState → ByteReaderState
 lent_bytes name s = record s { references = by_name name ∷ s.references }
 
--- a reader of bytes behind a `&mut`
+-- a reader of bytes that a `&mut` refers to
 abbrev pub lent_byte_source : {R : Type 0} → ByteSource R → ByteSource (MutBor R)
 lent_byte_source K = record {
   order = K.order;

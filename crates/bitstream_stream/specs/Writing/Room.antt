@@ -5,7 +5,7 @@ use Rattle.bitstream_count.specs.Codec.{Encoder}
 use Rattle.bitstream_stream.specs.Writing.Carries.{WriterState}
 use Rattle.bitstream_stream.specs.Sequence.{accepted_bits}
 
--- a writer to memory has room for n bits: the bytes that they fill behind the queued bits are free
+-- a writer to memory has room for n bits: the bytes that they fill after the queued bits are free
 pub record HasRoom (s : WriterState) (n : ℕ) : Type 0 where
   pub held : List ℕ
   pub most : ℕ

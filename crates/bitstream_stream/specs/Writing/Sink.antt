@@ -1,4 +1,4 @@
--- What a sink of bits is, and what one write call does to it.
+-- Sinks of bits, and the effect of one write call.
 use Rattle.std.specs.Prelude.{◌≡◌, ◌⊎◌, ℕ, ◌+◌, ◌*◌, ◌%◌, ◌<◌, ◌≤◌, Bool, true, false, List, [], ◌∷◌, ◌++◌, length, map, Option, Some, None, Result, Ok, Err, IsErr, ⊤}
 use Rattle.std.specs.Borrow.{GName, MutBor}
 use Rattle.bitstream_order.specs.Reference.{Reference, by_name, capacity_of}
@@ -24,13 +24,13 @@ abbrev pub IsFullLimit : Option ℕ → Type 0
 IsFullLimit None = ⊤
 IsFullLimit (Some most) = (n : ℕ) × (most + 1 ≡ 8 * n)
 
--- what the states of a sink mean, with the laws
+-- the meaning of the states of a sink, with the laws
 pub record Sink (S : Type 0) : Type 1 where
   pub order : Order
   -- the second state is the first with these bits appended
   pub appends : S → List Bool → S → Type 0
-  -- the bytes that its stream holds, if it tells them; and those that it would hold with these bits written after the
-  -- state
+  -- the bytes that its stream holds, if they are known; and the bytes that it would hold with these bits
+  -- written after the state
   pub contents : S → Option (List ℕ)
   pub fills : S → List Bool → Option (List ℕ) → Type 0
   -- the number of bits written
@@ -88,7 +88,7 @@ pub record WriteRefused {S : Type 0} (K : Sink S) (old : S) (x : List Bool) (err
   pub failed : K.failed new ≡ true
   pub references : K.references new ≡ K.references old
 
--- what one write call does, by what it means
+-- the effect of one write call, from its encoder
 pub data Writes {S T : Type 0} (K : Sink S) (encoder : Encoder) (old : S) (result : Result T Error) (new : S) :
     Type 0 where
   had_failed : K.failed old ≡ true → result ≡ Err Failed → Kept K old new → Writes K encoder old result new
@@ -105,7 +105,7 @@ pub data Writes {S T : Type 0} (K : Sink S) (encoder : Encoder) (old : S) (resul
       → IsWithin K.limit (K.len old + length word) → result ≡ Ok done → Appended K old word new
       → Writes K encoder old result new
 
--- write calls in order, up to the first that answers an error; of no calls, nothing at all
+-- write calls in order, up to the first that returns an error; for no calls, nothing changes
 unfoldable pub WritesAll : {S : Type 0} → Sink S → List Encoder → S → Result (Unit {0}) Error → S → Type 0
 WritesAll K [] old result new = (result ≡ Ok tt) × (new ≡ old)
 WritesAll {S} K (encoder ∷ encoders) old result new =
@@ -137,6 +137,6 @@ seen_sink f names K = record {
 abbrev pub inner_sink : {R S : Type 0} → (R → S) → Sink S → Sink R
 inner_sink f K = seen_sink f (λ _. []) K
 
--- a sink behind a `&mut`
+-- a sink that a `&mut` refers to
 abbrev pub lent_sink : {S : Type 0} → Sink S → Sink (MutBor S)
 lent_sink K = seen_sink (λ a. a.now) (λ a. a.ghost_name ∷ []) K

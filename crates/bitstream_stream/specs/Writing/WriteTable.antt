@@ -1,4 +1,4 @@
--- The write table: what each call means, by the number of bits written before.
+-- The write table: the encoder of each call, which may depend on the number of bits written before.
 use Rattle.std.specs.Prelude.{ℕ, ℤ, pos, negsuc, ◌-◌, ◌^◌, ◌==◌, ◌||◌, nat_lt, if◌then◌else◌, Bool, false, List, [], ◌∷◌, replicate, Ok, Err}
 use Rattle.bitstream_stream.specs.Alignment.{to_boundary}
 use Rattle.bitstream_number.specs.Word.{Order, word, signed_word, zig, bits, count_width}
@@ -22,7 +22,7 @@ unsigned o size n v _ =
     if nat_lt size n then Err (Checked ExcessiveBits)
     else (if (n == 0) || nat_lt v (2 ^ n) then Ok (word o n v) else Err (Checked ExcessiveValue))
 
--- whether n bits hold x as a two's complement
+-- true if n bits hold x as a two's complement
 abbrev pub fits_signed : ℕ → ℤ → Bool
 fits_signed n (pos k) = nat_lt k (2 ^ (n - 1))
 fits_signed n (negsuc k) = nat_lt k (2 ^ (n - 1))
@@ -58,6 +58,6 @@ zeros n = plain (replicate n false)
 abbrev pub vbr : Order → ℕ → ℕ → Encoder
 vbr o field v = plain (vbr_word o field v)
 
--- a signed number in such groups, by its place in the order 0, -1, 1, -2, 2, ..
+-- a signed number in groups, by its place in the zigzag order 0, -1, 1, -2, 2 and so on
 abbrev pub signed_vbr : Order → ℕ → ℤ → Encoder
 signed_vbr o field x = vbr o field (zig x)

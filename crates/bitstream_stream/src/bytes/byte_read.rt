@@ -14,9 +14,9 @@ use std::alloc::Allocator;
 ///
 /// # Errors
 ///
-/// If the stream refuses a request, a call answers `EndOfInput`, `OutOfMemory` or `Stream` with the
-/// kind of the refusal. A reader of bytes does not fail: the next call asks the stream again. The
-/// calls below name only the errors of their own.
+/// If the stream refuses a request, a call returns `EndOfInput`, `OutOfMemory` or `Stream` with the
+/// kind of the refusal. Errors are not sticky: the next call asks the stream again. The calls below
+/// name only their own errors.
 ///
 /// # Examples
 ///
@@ -29,7 +29,7 @@ use std::alloc::Allocator;
 /// assert!(rt; matches!(reader.read::<u8>(), Err(Error::EndOfInput)));
 /// ```
 pub trait ByteRead {
-    // What the states of the reader mean.
+    // The meaning of the reader's states.
     ghost source: { ByteSource Self };
 
     /// Reads a value from its bytes, in the reader's byte order.
@@ -42,7 +42,7 @@ pub trait ByteRead {
         ensures reads { ByteReads source (given_bytes V.BYTES) self.old
             (result_map (value_bytes F.order V.be_bytes V.le_bytes) result) self.new };
 
-    /// Skips the given number of bytes, whatever they are.
+    /// Skips `bytes` bytes, whatever they are.
     fn skip(&mut self, bytes: u32) -> Result<(), Error>
         ensures reads { ByteReads source (skipped_bytes bytes) self.old result self.new };
 
@@ -59,7 +59,7 @@ pub trait ByteRead {
         Ok(())
     }
 
-    /// Reads the bytes of a V: `read_to_bytes::<[u8; 4]>()` gives an array of four.
+    /// Reads the bytes of a V: `read_to_bytes::<[u8; 4]>()` returns an array of four bytes.
     #[inline(always)]
     fn read_to_bytes<V: Primitive>(&mut self) -> Result<V::Bytes, Error>
         ensures reads { ByteReads source (given_bytes V.BYTES) self.old
@@ -70,9 +70,9 @@ pub trait ByteRead {
         Ok(bytes)
     }
 
-    /// Reads the given number of bytes into a vector. Up to 4096 bytes take one buffer of their
-    /// size. More are read 4096 at a time at most, and the buffer grows as they come. So a length
-    /// that the stream does not have costs little memory.
+    /// Reads `bytes` bytes into a vector. Up to 4096 bytes take one buffer of their size. More are
+    /// read at most 4096 at a time, and the buffer grows as they come. So a length that the stream
+    /// does not have costs little memory.
     ///
     /// # Errors
     ///

@@ -62,7 +62,7 @@ impl<const STOP_BIT: u8, const MAXIMUM: u32> ToBits for LimitedUnary<STOP_BIT, M
     }
 }
 
-/// Writes the same bit the given number of times.
+/// Writes the same bit `times` times.
 ///
 /// # Errors
 ///

@@ -42,9 +42,7 @@ pub trait NonZeroInteger: Copy {
     /// Returns the number.
     #[inline(always)]
     fn base(self) -> Self::Base
-        // The answer is the number of the value.
         ensures value { Self.Base.value result ≡ number self }
-        // It is not 0.
         ensures some { 0 < Self.Base.value result };
 
     ghost some_law: { (x : Self) → 0 < number x };
@@ -58,11 +56,11 @@ fn read_non_zero<N: NonZeroInteger, C: Count, R: BitRead>(
     reader: &mut R,
     bits: C,
 ) -> Result<N, Error>
-    // Takes just `bits` bits and answers their number plus 1, or answers an error.
+    // Takes only `bits` bits and returns their number plus 1, or returns an error.
     ensures reads { Reads R.source
         (non_zero_decoder N.after R.source.order N.Base.BITS_SIZE (C.number bits))
         reader.old result reader.new }
-    // A value that is answered is at most 2^`bits`.
+    // A value that is returned is at most 2^`bits`.
     ensures fits { IfOk result (λ x. N.number x ≤ 2 ^ C.number bits) }
 {
     if bits.bits() < N::Base::BITS_SIZE {
@@ -94,11 +92,11 @@ fn write_non_zero<N: NonZeroInteger, C: Count, W: BitWrite>(
 /// Reads a `NonZero` of `B::BITS` bits, as its number less 1.
 fn read_non_zero_fixed<B: Width, N: NonZeroInteger, R: BitRead>(reader: &mut R) -> Result<N, Error>
     requires { B.BITS < N.Base.BITS_SIZE }
-    // Takes just `B::BITS` bits and answers their number plus 1, or answers an error.
+    // Takes only `B::BITS` bits and returns their number plus 1, or returns an error.
     ensures reads { Reads R.source
         (non_zero_decoder N.after R.source.order N.Base.BITS_SIZE B.BITS)
         reader.old result reader.new }
-    // A value that is answered is at most 2^`B::BITS`.
+    // A value that is returned is at most 2^`B::BITS`.
     ensures fits { IfOk result (λ x. N.number x ≤ 2 ^ B.BITS) }
 {
     let base = reader.read_unsigned::<B, N::Base>()?;

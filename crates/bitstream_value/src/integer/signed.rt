@@ -14,13 +14,13 @@ use bitstream_number::number::{SignedInteger, Width};
 use bitstream_stream::read::BitRead;
 use bitstream_stream::write::BitWrite;
 
-/// Reads a signed number of the given number of bits, by one call.
+/// Reads a signed number of `bits` bits, by one call.
 #[inline(always)]
 fn read_signed<S: SignedInteger, C: Count, R: BitRead>(reader: &mut R, bits: C) -> Result<S, Error>
-    // Takes just `bits` bits and answers their two's complement, or answers an error.
+    // Takes only `bits` bits and returns their two's complement, or returns an error.
     ensures reads { Reads R.source (signed_decoder R.source.order S.BITS_SIZE (C.number bits))
         reader.old (result_map S.integer result) reader.new }
-    // A number that is answered lies from -2^(n-1) to 2^(n-1) - 1, for n bits.
+    // A number that is returned lies from -2^(n-1) to 2^(n-1) - 1, for n bits.
     ensures fits { IfOk result (λ number. InSignedRange (C.number bits) (S.integer number)) }
 {
     reader.read_signed_var(bits.bits())
@@ -30,16 +30,16 @@ fn read_signed<S: SignedInteger, C: Count, R: BitRead>(reader: &mut R, bits: C) 
 fn read_signed_fixed<B: Width, S: SignedInteger, R: BitRead>(reader: &mut R) -> Result<S, Error>
     requires some { 1 ≤ B.BITS }
     requires within { B.BITS ≤ S.BITS_SIZE }
-    // Takes just `B::BITS` bits and answers their two's complement, or answers an error.
+    // Takes only `B::BITS` bits and returns their two's complement, or returns an error.
     ensures reads { Reads R.source (signed_decoder R.source.order S.BITS_SIZE B.BITS)
         reader.old (result_map S.integer result) reader.new }
-    // A number that is answered lies from -2^(n-1) to 2^(n-1) - 1, for n bits.
+    // A number that is returned lies from -2^(n-1) to 2^(n-1) - 1, for n bits.
     ensures fits { IfOk result (λ number. InSignedRange B.BITS (S.integer number)) }
 {
     reader.read_signed::<B, S>()
 }
 
-/// Writes a signed number in the given number of bits, by one call.
+/// Writes a signed number in `bits` bits, by one call.
 #[inline(always)]
 fn write_signed<S: SignedInteger, C: Count, W: BitWrite>(
     number: S,

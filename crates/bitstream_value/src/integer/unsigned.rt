@@ -13,16 +13,15 @@ use bitstream_number::number::{UnsignedInteger, Width};
 use bitstream_stream::read::BitRead;
 use bitstream_stream::write::BitWrite;
 
-/// Reads a number of the given number of bits, by one call.
+/// Reads a number of `bits` bits, by one call.
 #[inline(always)]
 fn read_number<U: UnsignedInteger, C: Count, R: BitRead>(
     reader: &mut R,
     bits: C,
 ) -> Result<U, Error>
-    // Takes just `bits` bits and answers their number, or answers an error.
+    // Takes only `bits` bits and returns their number, or returns an error.
     ensures reads { Reads R.source (unsigned_decoder R.source.order U.BITS_SIZE (C.number bits))
         reader.old (result_map U.value result) reader.new }
-    // A number that is answered is below 2^`bits`.
     ensures fits { IfOk result (λ number. U.value number < 2 ^ C.number bits) }
 {
     reader.read_unsigned_counted(bits)
@@ -31,16 +30,15 @@ fn read_number<U: UnsignedInteger, C: Count, R: BitRead>(
 /// Reads a number of `B::BITS` bits, by one call.
 fn read_number_fixed<B: Width, U: UnsignedInteger, R: BitRead>(reader: &mut R) -> Result<U, Error>
     requires { B.BITS ≤ U.BITS_SIZE }
-    // Takes just `B::BITS` bits and answers their number, or answers an error.
+    // Takes only `B::BITS` bits and returns their number, or returns an error.
     ensures reads { Reads R.source (unsigned_decoder R.source.order U.BITS_SIZE B.BITS)
         reader.old (result_map U.value result) reader.new }
-    // A number that is answered is below 2^`B::BITS`.
     ensures fits { IfOk result (λ number. U.value number < 2 ^ B.BITS) }
 {
     reader.read_unsigned::<B, U>()
 }
 
-/// Writes a number in the given number of bits, by one call.
+/// Writes a number in `bits` bits, by one call.
 #[inline(always)]
 pub(crate) fn write_number<U: UnsignedInteger, C: Count, W: BitWrite>(
     number: U,

@@ -148,7 +148,7 @@ fn crop_units(unit: &Unit, frames: bool) -> (i64, i64) {
     (across, if frames { down } else { 2 * down })
 }
 
-/// Returns the samples of a side of so many blocks, without those that are cropped.
+/// Returns the number of samples of a side, from its number of blocks, without the cropped ones.
 fn size_of(
     minus_one: i64,
     block: i64,
@@ -167,7 +167,7 @@ fn size_of(
 #[derive(Drop)]
 pub struct Av1Units<'a> {
     file: &'a [u8],
-    // Whether the file is one of IVF.
+    // True if the file is an IVF file.
     ivf: bool,
     // The bytes that were read, up to the bytes of `obus`.
     at: usize,
@@ -278,7 +278,7 @@ impl<'a> Av1Units<'a> {
         Ok(step)
     }
 
-    /// Goes on behind the OBUs that are read.
+    /// Moves on after the OBUs that are read.
     fn end_frame(&mut self) {
         self.at = self.at.saturating_add(self.length).min(self.file.len());
         self.obus = av1::Obus::over(&[]);
@@ -286,7 +286,7 @@ impl<'a> Av1Units<'a> {
     }
 }
 
-/// Returns true if an OBU of which so many bytes were taken was taken whole.
+/// Returns true if all bytes of an OBU are among the `taken` bytes.
 fn is_whole(unit: &Unit, taken: usize) -> bool {
     match unit.value_of("obu_size") {
         Some(size) => i64::try_from(taken).unwrap_or(i64::MAX) >= size.saturating_add(2),

@@ -23,7 +23,6 @@ impl<'a, E: Endianness> BitRead for SliceReader<'a, E> {
     fn read_unsigned_counted<C: Count, U: UnsignedInteger>(&mut self, bits: C) -> Result<U, Error>
         ensures reads { Reads ⟦<Self as BitRead>⟧.source (unsigned_decoder E.order U.BITS_SIZE (C.number bits))
             self.old (result_map U.value result) self.new }
-        // If too few bits are left, the reader stays where it was.
         ensures stays { StaysAtEnd E.order self.old result self.new }
     {
         self.read_word(bits.bits(), false)
@@ -33,7 +32,6 @@ impl<'a, E: Endianness> BitRead for SliceReader<'a, E> {
     fn read_signed_counted<C: SignedCount, S: SignedInteger>(&mut self, bits: C) -> Result<S, Error>
         ensures reads { Reads ⟦<Self as BitRead>⟧.source (signed_decoder E.order S.BITS_SIZE (C.number bits))
             self.old (result_map S.integer result) self.new }
-        // If too few bits are left, the reader stays where it was.
         ensures stays { StaysAtEnd E.order self.old result self.new }
     {
         self.read_signed_word(bits.bits(), false)
@@ -43,7 +41,6 @@ impl<'a, E: Endianness> BitRead for SliceReader<'a, E> {
     fn read_bit(&mut self) -> Result<bool, Error>
         ensures reads { Reads ⟦<Self as BitRead>⟧.source bit_decoder
             self.old result self.new }
-        // If too few bits are left, the reader stays where it was.
         ensures stays { StaysAtEnd E.order self.old result self.new }
     {
         let bit = self.read_one()?;
@@ -54,7 +51,6 @@ impl<'a, E: Endianness> BitRead for SliceReader<'a, E> {
     fn read_unsigned_var<U: UnsignedInteger>(&mut self, bits: u32) -> Result<U, Error>
         ensures reads { Reads ⟦<Self as BitRead>⟧.source (unsigned_decoder E.order U.BITS_SIZE bits)
             self.old (result_map U.value result) self.new }
-        // If too few bits are left, the reader stays where it was.
         ensures stays { StaysAtEnd E.order self.old result self.new }
     {
         self.read_word(bits, false)
@@ -64,7 +60,6 @@ impl<'a, E: Endianness> BitRead for SliceReader<'a, E> {
     fn read_unsigned<B: Width, U: UnsignedInteger>(&mut self) -> Result<U, Error>
         ensures reads { Reads ⟦<Self as BitRead>⟧.source (unsigned_decoder E.order U.BITS_SIZE B.BITS)
             self.old (result_map U.value result) self.new }
-        // If too few bits are left, the reader stays where it was.
         ensures stays { StaysAtEnd E.order self.old result self.new }
     {
         self.read_word(B::BITS, true)
@@ -74,7 +69,6 @@ impl<'a, E: Endianness> BitRead for SliceReader<'a, E> {
     fn read_signed_var<S: SignedInteger>(&mut self, bits: u32) -> Result<S, Error>
         ensures reads { Reads ⟦<Self as BitRead>⟧.source (signed_decoder E.order S.BITS_SIZE bits)
             self.old (result_map S.integer result) self.new }
-        // If too few bits are left, the reader stays where it was.
         ensures stays { StaysAtEnd E.order self.old result self.new }
     {
         self.read_signed_word(bits, false)
@@ -84,7 +78,6 @@ impl<'a, E: Endianness> BitRead for SliceReader<'a, E> {
     fn read_signed<B: Width, S: SignedInteger>(&mut self) -> Result<S, Error>
         ensures reads { Reads ⟦<Self as BitRead>⟧.source (signed_decoder E.order S.BITS_SIZE B.BITS)
             self.old (result_map S.integer result) self.new }
-        // If too few bits are left, the reader stays where it was.
         ensures stays { StaysAtEnd E.order self.old result self.new }
     {
         self.read_signed_word(B::BITS, true)
@@ -94,7 +87,6 @@ impl<'a, E: Endianness> BitRead for SliceReader<'a, E> {
     fn read_to<V: Primitive>(&mut self) -> Result<V, Error>
         ensures reads { Reads ⟦<Self as BitRead>⟧.source (bytes_decoder E.order V.BYTES)
             self.old (result_map (value_bytes E.order V.be_bytes V.le_bytes) result) self.new }
-        // If too few bits are left, the reader stays where it was.
         ensures stays { StaysAtEnd E.order self.old result self.new }
     {
         self.read_as_to::<E, V>()
@@ -104,7 +96,6 @@ impl<'a, E: Endianness> BitRead for SliceReader<'a, E> {
     fn read_as_to<F: Endianness, V: Primitive>(&mut self) -> Result<V, Error>
         ensures reads { Reads ⟦<Self as BitRead>⟧.source (bytes_decoder E.order V.BYTES)
             self.old (result_map (value_bytes F.order V.be_bytes V.le_bytes) result) self.new }
-        // If too few bits are left, the reader stays where it was.
         ensures stays { StaysAtEnd E.order self.old result self.new }
     {
         let mut bytes = V::buffer();
@@ -115,7 +106,6 @@ impl<'a, E: Endianness> BitRead for SliceReader<'a, E> {
     #[inline(always)]
     fn read_unary<S: Width>(&mut self) -> Result<u32, Error>
         ensures reads { Reads ⟦<Self as BitRead>⟧.source (unary_decoder (S.BITS == 1)) self.old result self.new }
-        // If too few bits are left, the reader stays where it was.
         ensures stays { StaysAtEnd E.order self.old result self.new }
     {
         let stop = S::BITS == 1;
@@ -135,7 +125,6 @@ impl<'a, E: Endianness> BitRead for SliceReader<'a, E> {
     fn read_bytes(&mut self, buf: &mut [u8]) -> Result<(), Error>
         ensures reads { Reads ⟦<Self as BitRead>⟧.source (bytes_decoder E.order (length buf.old))
             self.old (result_map (λ _. buf.new) result) self.new }
-        // If too few bits are left, the reader stays where it was.
         ensures stays { StaysAtEnd E.order self.old result self.new }
     {
         if self.failed {
@@ -151,7 +140,6 @@ impl<'a, E: Endianness> BitRead for SliceReader<'a, E> {
     fn skip(&mut self, bits: u32) -> Result<(), Error>
         ensures reads { Reads ⟦<Self as BitRead>⟧.source (skip_decoder bits)
             self.old result self.new }
-        // If too few bits are left, the reader stays where it was.
         ensures stays { StaysAtEnd E.order self.old result self.new }
     {
         if self.failed {

@@ -9,4 +9,4 @@ returns-clause-answer c = new_answer slice_ends _ _ c.over.ensures.state c.read.
 pub returns-clause-back : goal.returns-clause-back
 returns-clause-back c = λ measurement more fits is.
     prefix_answered slice_ends c.over.ensures.state refl c.read.ensures
-    (ap ((measurement_decoder High).reads 0) is ∙ c.measurements_go_back.ensures High measurement 0 0 more fits)
+    (ap ((measurement_decoder High).reads 0) is ∙ c.measurements_round_trip.ensures High measurement 0 0 more fits)

@@ -36,7 +36,7 @@ use types.ByLocal.{alloc_all, pass_all, free_all, look_at, get, through, sets, l
 use denote.RawPtr.{block_ptr}
 use denote.Builtin.{usize, RefOf}
 use denote.Triple.Call.{calls_at}
-use Rattle.std.proofs.alloc.Calls.{Al, α, seen, Answer, answer_val, Answer-typed, Answer-Ok, Answer-err, takes_key, Takes, at_takes, Answered, Done-goes, Done-pure, answers}
+use Rattle.std.proofs.alloc.Calls.{Al, α, seen, Answer, answer_val, Answer-typed, Answer-Ok, Answer-err, takes_key, Takes, at_takes, Answered, Takes-goes, Takes-gives, answers}
 use Rattle.test_streams.proofs.Asked.{Serves, at_serves, Serves-goes, Serves-pure}
 use Rattle.test_streams.proofs.memory.serves.Symbol as c_sym
 use Rattle.test_streams.proofs.memory.serves.Met as c_met
@@ -129,12 +129,12 @@ module _ (Z : Al) {M : Type 1} {𝓤 : Ura M} (𝓛 : Logic 𝓤) (at_mem : Memo
         first ! $ branches ! (get ! refl)
         (λ yes.
         sets ! (addr ! (through ! refl (fld ! refl (stop !)))) refl (tt, tt) $
-        use2 𝓛 (raw ((Takes Z 𝓛 at_mem run).pre y)) (Done-goes Z 𝓛 at_mem run κ₁ q₁ p h
+        use2 𝓛 (raw ((Takes Z 𝓛 at_mem run).pre y)) (Takes-goes Z 𝓛 at_mem run κ₁ q₁ p h
         (⊑_trans κ₁ κ₂ Z.row.lives inn le) n a τ said.0 said.1 fn fa) $
         calls_at ! (fm_of 𝓤 H 𝓛.laws 𝓣) (Takes Z 𝓛 at_mem run) tk y
         (and_then ! (get ! refl) (and_then ! (get ! refl) (and_then ! (get ! refl) (no_more !)))) (λ v.
         use1 𝓛 (later (raw (Answered Z 𝓛 at_mem run h τ v) ⊛ ‵ (flft κ₁ q₁)))
-        (Done-pure Z 𝓛 at_mem run κ₁ q₁ p h n a τ v) $ await ! tt $ split ! $
+        (Takes-gives Z 𝓛 at_mem run κ₁ q₁ p h n a τ v) $ await ! tt $ split ! $
         answers Z ! at_mem run h τ v
         (λ b o e. fjoin ! $ lands_as ! e refl (Answer-typed true b o) $ returns_within ! Post refl (look_at ! 0 refl) $
         free_all ! refl $

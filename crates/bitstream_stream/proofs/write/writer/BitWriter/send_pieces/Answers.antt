@@ -18,8 +18,8 @@ loop-at-init g c = (
   },
 )
 
-pub whole_as_prefix-piece : goal.whole_as_prefix-piece
-whole_as_prefix-piece g c =
+pub whole_as_front-piece : goal.whole_as_front-piece
+whole_as_front-piece g c =
     (omega (arith, c.min.ensures), omega (arith, c.requires.few))
 
 pub returns-in_err-send_shifted-clause-pushes : goal.returns-in_err-send_shifted-clause-pushes
