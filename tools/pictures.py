@@ -200,6 +200,7 @@ HOLDS = {
     "bitfields": "the program",
     "formats": "the program",
     "wav_header": "a whole program, printed from a description",
+    "packet_headers": "a printed program, over a printed format",
     "test_streams": "streams of the tests",
     "bitstream_bench": "tests",
     "bitstream_vectors": "test vectors",

@@ -111,7 +111,7 @@ def fits_words(kind: m.Kind) -> list[tuple[str, set[str]]]:
         case m.Count():
             return [(m.label(kind), {"value", "length"})]
         case m.If():
-            return [(kind.name, {"value"}), (f"{kind.name}_there", {"value", "is_some"})]
+            return [(kind.name, {"value"}), (f"{kind.name}_there", {"value", "is_some", "not", "nat_lt", "nat_le"})]
         case m.Part() | m.Optional() | m.Sized() | m.Choose():
             return [(kind.name, {"value"})]
     return []

@@ -65,7 +65,7 @@ class Integer:
 
 @dataclass(frozen=True, slots=True)
 class EnumType:
-    """The cases of an enum. `other` names the case of all other numbers; if it is empty, they are refused."""
+    """The cases of an enum. `other` names the case of all other numbers; if it is empty, they are refused, if any is left."""
 
     name: str
     width: int
@@ -75,7 +75,17 @@ class EnumType:
     @property
     def error(self) -> str:
         """The case of the error for other numbers, if they are refused."""
-        return "" if self.other else f"No{self.name}"
+        return "" if self.other or self.total else f"No{self.name}"
+
+    @property
+    def total(self) -> bool:
+        """True if each number is that of a case."""
+        return not self.other and len(self.cases) == 1 << self.width
+
+    @property
+    def tested(self) -> tuple[tuple[int, str], ...]:
+        """The cases whose numbers are compared: if each number is that of a case, the last case is the one left."""
+        return self.cases[:-1] if self.total else self.cases
 
     def names(self) -> list[str]:
         """Returns the names of all cases."""
@@ -215,12 +225,33 @@ class Optional(Field):
 
 @dataclass(frozen=True, slots=True)
 class If(Field):
-    """if FIELD == VALUE NAME TYPE of MODULE: `asked` is VALUE as it is spelled, a number or the name of a case."""
+    """if FIELD == VALUE NAME TYPE of MODULE, if FIELD NAME TYPE of MODULE
+
+    `asked` is VALUE as it is spelled, a number or the name of a case, and `how` compares it: `==`, `!=`, `<` or `>=`. For
+    a field that is a bit `how` is an empty text, and `value` is 1.
+    """
 
     use: Use
     field: str
     value: int
     asked: str
+    how: str = "=="
+
+    @property
+    def condition(self) -> str:
+        """The condition as it is spelled."""
+        return f"{self.field} {self.how} {self.asked}".strip()
+
+    def holds(self, number: int) -> bool:
+        """Returns true if the condition holds for the number of the field."""
+        match self.how:
+            case "!=":
+                return number != self.value
+            case "<":
+                return number < self.value
+            case ">=":
+                return number >= self.value
+        return number == self.value
 
 
 @dataclass(frozen=True, slots=True)

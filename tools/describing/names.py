@@ -26,7 +26,7 @@ def table(text: str) -> Table:
 SPECS = table(
     """
 Rattle.std.specs.Prelude: ≡ ≢ ^ < ≤ + - * ++ ∷ [] == ⊎ if ℕ ℤ Bool true false List Result Ok Err Option Some None
-    is_some length take drop map IfOk IsOk unsigned_abs
+    is_some length take drop map IfOk IsOk unsigned_abs not nat_lt nat_le
 Rattle.std.specs.List: All flat_map
 Rattle.std.specs.Option: ForSome
 Rattle.std.specs.Result: IsErrAnd

@@ -312,12 +312,18 @@ def option_part(words: Words, context: Context, at: Position) -> m.Kind:
 
 def if_line(words: Words, context: Context, at: Position) -> m.Kind:
     asked, place = words.next(), words.place(1)
-    if words.next() != "==":
-        raise words.refuse(STARTS["if"])
+    if words.peek() not in ("==", "!=", "<", ">="):
+        if not any(isinstance(it, m.Bool) and it.name == asked for it in context.kinds):
+            raise Refused(f"no bit `{asked}` before it, and no `==`, `!=`, `<` or `>=` behind it", place)
+        name = words.next()
+        return m.If(at, words.behind, name, use(words, context, lists=False), asked, 1, "", "")
+    how = words.next()
     said, there = words.next(), words.place(1)
     value = asked_value(context, asked, said, place, there)
+    if how in ("<", ">=") and any(isinstance(it, m.Enum) and it.name == asked for it in context.kinds):
+        raise Refused(f"`{asked}` is an enum: its cases have no order", place)
     name = words.next()
-    return m.If(at, words.behind, name, use(words, context, lists=False), asked, value, said)
+    return m.If(at, words.behind, name, use(words, context, lists=False), asked, value, said, how)
 
 
 def asked_value(context: Context, asked: str, said: str, place: Position, there: Position) -> int:

@@ -233,8 +233,8 @@ def composite(kind: m.Kind) -> Composite:
             return lambda row, scope: part(row)
         case m.Optional(name=name, use=use):
             return there_reader(use, lambda scope: scope[f"has_{name}"] == 1)
-        case m.If(field=field, value=value, use=use):
-            return there_reader(use, lambda scope: scope[field] == value)
+        case m.If(field=field, use=use, holds=holds):
+            return there_reader(use, lambda scope: holds(scope[field]))
         case m.List(item=item, name=name):
             return counted(name, item)
         case m.Rest(item=item):

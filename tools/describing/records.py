@@ -7,7 +7,7 @@ from dataclasses import dataclass, field
 from typing import Callable, Iterator, TypeAlias, TypeVar
 
 from describing import model as m
-from describing.flat import flat
+from describing.flat import Plan, flat, flat_nodes, planned
 from describing.input import Input, ReadError, Value
 from describing.model import Refused
 from describing.read import Node, record_reader, value_of
@@ -85,7 +85,10 @@ class Records:
 
     def __init__(self, it: m.Description, row: Input, options: Options, report: Callable[[str], None]) -> None:
         self.row, self.options, self.report = row, options, report
-        self.read, self.quick = record_reader(it), flat(it) if options.repeat and not options.inside else None
+        fast = options.repeat and not options.inside
+        self.read, self.quick = record_reader(it), flat(it) if fast else None
+        self.quick_nodes = flat_nodes(it) if fast else None
+        self.plan = planned(it) if fast and options.skip.isdigit() else None
         self.skip, self.number, self.refused = skipper(options.skip), 0, 0
         bits = m.fixed_bits(it)
         self.bits = bits if bits and bits % 8 == 0 and options.skip[:1].isdigit() else None  # of every record
@@ -114,8 +117,25 @@ class Records:
 
         return self.each(one)
 
+    def words(self, plan: Plan) -> Iterator[tuple[int, int, list[int]]]:
+        """Returns the numbers of the records by their plan, many at a time, with the count and the bits before them."""
+        size = int(self.options.skip)
+
+        def one() -> tuple[tuple[int, int, list[int]], Fields]:
+            number, start = self.number, self.row.at
+            found = plan.words(self.row, size, self.options.count - number)
+            if not found:
+                self.read(self.row)
+            self.number += len(found) - 1
+            return (number, start, found), {}
+
+        return self.each(one)
+
     def nodes(self) -> list[Node]:
         """Reads a record, up to a whole byte, and the bytes inside that have a description of their own."""
+        quick = self.quick_nodes(self.row) if self.quick_nodes else None
+        if quick is not None:
+            return quick
         nodes = self.read(self.row)
         self.row.at = -(-self.row.at // 8) * 8
         for name, other in self.options.inside:

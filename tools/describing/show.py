@@ -45,11 +45,12 @@ import argparse
 import json
 import os
 import sys
-from typing import BinaryIO, Iterable, Iterator, NoReturn
+from typing import BinaryIO, Callable, Iterable, Iterator, NoReturn
 
 from describing import model as m
 from describing import picture, table, web
 from describing.examples import described
+from describing.flat import Plan
 from describing.input import Input, Value
 from describing.model import Refused
 from describing.records import Ended, Fields, Options, Record, Records
@@ -94,18 +95,58 @@ def exact(value: Value) -> Value:
     return value
 
 
-def show_json(found: Iterable[Value], wide: bool) -> None:
+ENCODE = json.JSONEncoder(default=bytes.hex, ensure_ascii=False).encode
+
+
+def show_json(found: Records, wide: bool) -> None:
     """Prints each record as a line of JSON."""
-    dumps, write = json.JSONEncoder(default=bytes.hex, ensure_ascii=False).encode, sys.stdout.write
-    for it in found:
-        write(dumps(exact(it) if wide else it) + "\n")
+    write = sys.stdout.write
+    if found.plan:
+        line = line_of(found.plan)
+        for _, _, words in found.words(found.plan):
+            write("".join([line(it) for it in words]))
+        return
+    for it in found.values():
+        write(ENCODE(exact(it) if wide else it) + "\n")
 
 
-def show_table(found: Iterator[Record]) -> None:
+def line_of(plan: Plan) -> Callable[[int], str]:
+    """Returns the function that gives the line of JSON of a record of its number."""
+    lines = [it for it in plan.lines if m.is_field(it[0])]
+    text = ", ".join(f'"{m.label(it[0])}": %s' for it in lines)
+    makes = [(shift, most, encoder(most, make)) for _, _, shift, most, make in lines]
+
+    def line(word: int) -> str:
+        return text % tuple(
+            [(word >> shift) & most if make is None else make((word >> shift) & most) for shift, most, make in makes]
+        )
+
+    text = f"{{{text}}}\n"
+    return line
+
+
+def encoder(most: int, make: Callable[[int], Value] | None) -> Callable[[int], str] | None:
+    """Returns the function that gives the JSON of a value of its number, or None if it is the number itself."""
+    if make is None and most <= EXACT:
+        return None
+
+    def encode(number: int) -> str:
+        return ENCODE(exact(number if make is None else make(number)))
+
+    return [encode(it) for it in range(most + 1)].__getitem__ if most < 256 else encode
+
+
+def show_table(found: Records) -> None:
     """Prints each record as a table."""
-    colours = sys.stdout.isatty() and "NO_COLOR" not in os.environ
-    for it in found:
-        print(table.table(it.number, it.start, it.end, it.nodes, colours))
+    colours, write = sys.stdout.isatty() and "NO_COLOR" not in os.environ, sys.stdout.write
+    if found.plan:
+        flat, step = table.FlatTable(found.plan, colours), 8 * (found.plan.size + int(found.options.skip))
+        for number, start, words in found.words(found.plan):
+            write("".join([flat.text(number + k, start + k * step, it) + "\n" for k, it in enumerate(words)]))
+        return
+    made = table.Table(colours)
+    for it in found.records():
+        write(made.text(it.number, it.start, it.end, it.nodes) + "\n")
 
 
 def show_page(asked: argparse.Namespace, it: m.Description, options: Options, file: BinaryIO) -> None:
@@ -156,9 +197,9 @@ def show(asked: argparse.Namespace, it: m.Description, options: Options, file: B
         return show_page(asked, it, options, file)
     found = Records(it, input_of(file, it.order), options, report)
     if asked.table:
-        show_table(found.records())
+        show_table(found)
     else:
-        show_json(found.values(), is_wide(it) or any(is_wide(other) for _, other in options.inside))
+        show_json(found, is_wide(it) or any(is_wide(other) for _, other in options.inside))
     if found.refused:
         raise Ended(f"{found.refused} of {found.number} records are refused")
     if not options.repeat and found.row.end > found.row.at:

@@ -1,9 +1,10 @@
 """A table of the fields of a record: position, bits, name, value and meaning."""
 from __future__ import annotations
 
-from dataclasses import dataclass
+from typing import Callable, TypeAlias
 
 from describing import model as m
+from describing.flat import Plan
 from describing.input import Value
 from describing.read import Node
 
@@ -13,16 +14,8 @@ BOLD, DIM, OFF = "\x1b[1m", "\x1b[2m", "\x1b[0m"
 HUES = [f"\x1b[{it}m" for it in (36, 32, 33, 35, 34, 31)]
 
 
-@dataclass
-class Cells:
-    """A row of the table; `plain` is true if it is not a field."""
-
-    place: str
-    bits: str
-    name: str
-    value: str
-    meaning: str
-    plain: bool
+# A row of the table: position, bits, name, value and meaning, and true if it is not a field.
+Row: TypeAlias = tuple[str, str, str, str, str, bool]
 
 
 def shortened(text: str, most: int = LONG) -> str:
@@ -32,6 +25,8 @@ def shortened(text: str, most: int = LONG) -> str:
 
 def value_text(value: Value) -> str:
     """Returns the text of a value."""
+    if type(value) is int:
+        return str(value)
     match value:
         case None:
             return "none"
@@ -55,26 +50,28 @@ def listed(value: list[Value]) -> str:
     return f'{said} "{"".join(letters)}"' if len(letters) == len(value) and len(value) > 2 else said
 
 
+NUMBERS = (m.Number, m.Const, m.Tag)
+
+
 def number_of(node: Node) -> str:
     """Returns the number of a case, or a number in hex, after `=`."""
-    if isinstance(node.kind, m.Enum) and isinstance(node.value, str):
-        return f"= {node.kind.enum.number(node.value)}"
-    numbers = (m.Number, m.Const, m.Tag)
-    if isinstance(node.kind, numbers) and isinstance(node.value, int) and node.value > 9:
-        return f"= {node.value:#x}"
+    value, kind = node.value, node.kind
+    if type(value) is int:
+        return f"= {value:#x}" if value > 9 and isinstance(kind, NUMBERS) else ""
+    if isinstance(kind, m.Enum) and isinstance(value, str):
+        return f"= {kind.enum.number(value)}"
     return ""
 
 
-def meaning(node: Node) -> str:
+def meaning(kind: m.Kind | None) -> str:
     """Returns the comment of a line, or what a line is that has no comment."""
-    kind = node.kind
     match kind:
         case None:
             return ""
         case m.Const():
             return "the constant"
         case m.Skip():
-            return "any bits" if node.value == 0 else "any bits, here not zero"
+            return "any bits"
         case m.Flag():
             return f"1 if {kind.target} is there"
         case m.Count():
@@ -86,34 +83,109 @@ def meaning(node: Node) -> str:
     return kind.doc
 
 
+# The bit in its byte.
+BIT = ["  ", *(f".{it}" for it in range(1, 8))]
+
+
 def place(bit: int) -> str:
     """Returns a position: the byte in hex, and the bit in it."""
-    return f"{bit // 8:06x}" + (f".{bit % 8}" if bit % 8 else "  ")
+    return f"{bit >> 3:06x}{BIT[bit & 7]}"
 
 
-def rows(nodes: list[Node], depth: int) -> list[Cells]:
-    """Returns the rows of some nodes, and of their parts."""
-    found = []
-    for it in nodes:
-        name = "  " * depth + (it.name or (m.label(it.kind) if it.kind else ""))
-        hidden = it.kind is not None and not m.is_field(it.kind)
-        value = " ".join([shortened(value_text(it.value)), number_of(it)]).strip()
-        found.append(Cells(place(it.start), str(it.end - it.start), name, value, meaning(it), hidden))
-        found += rows(it.nodes, depth + 1)
-    return found
+class Table:
+    """Prints records as tables, with colours or without. What is the same for each record is computed once."""
+
+    def __init__(self, colours: bool) -> None:
+        self.bold, self.dim, self.off = (BOLD, DIM, OFF) if colours else ("", "", "")
+        self.hues = HUES if colours else [""]
+        self.lines: dict[tuple[int, int], tuple[str, str, bool]] = {}
+
+    def line(self, kind: m.Kind | None, name: str, depth: int) -> tuple[str, str, bool]:
+        """Returns the name and the meaning of a line, and true if it is not a field."""
+        if kind is None:
+            return "  " * depth + name, "", False
+        key = (id(kind), depth)
+        found = self.lines.get(key)
+        if found is None:
+            found = self.lines[key] = ("  " * depth + (name or m.label(kind)), meaning(kind), not m.is_field(kind))
+        return found
+
+    def rows(self, nodes: list[Node], depth: int, found: list[Row]) -> None:
+        """Appends the rows of some nodes, and of their parts."""
+        for it in nodes:
+            kind, value = it.kind, it.value
+            name, means, hidden = self.line(kind, it.name, depth)
+            if value and type(kind) is m.Skip:
+                means = "any bits, here not zero"
+            text, number = shortened(value_text(value)), number_of(it)
+            said = f"{text} {number}" if text and number else text or number
+            found.append((place(it.start), str(it.end - it.start), name, said, means, hidden))
+            if it.nodes:
+                self.rows(it.nodes, depth + 1, found)
+
+    def text(self, number: int, start: int, end: int, nodes: list[Node]) -> str:
+        """Returns the table of a record."""
+        found: list[Row] = []
+        self.rows(nodes, 0, found)
+        places, bits, names, values, _, _ = zip(*found)
+        a, b, c, d = (len(max(column, key=len)) for column in (places, bits, names, values))
+        out = [f"{self.bold}record {number}, byte {start // 8:#x}, {(end - start) // 8} bytes{self.off}"]
+        hues, dim, off = self.hues, self.dim, self.off
+        for k, (at, wide, name, said, means, plain) in enumerate(found):
+            hue = dim if plain else hues[k % len(hues)]
+            line = f"  {at.ljust(a)} {wide.rjust(b)}  {hue}{name.ljust(c)}{off}  {said.ljust(d)}  {dim}{means}{off}"
+            out.append(line.rstrip())
+        return "\n".join(out)
 
 
-def table(number: int, start: int, end: int, nodes: list[Node], colours: bool) -> str:
-    """Returns the table of a record."""
-    found = rows(nodes, 0)
-    wide = [
-        max(len(text) for text in column) for column in zip(*((it.place, it.bits, it.name, it.value) for it in found))
-    ]
-    bold, off = (BOLD, OFF) if colours else ("", "")
-    out = [f"{bold}record {number}, byte {start // 8:#x}, {(end - start) // 8} bytes{off}"]
-    for k, it in enumerate(found):
-        line = f"  {it.place:{wide[0]}} {it.bits:>{wide[1]}}  "
-        hue = "" if not colours else DIM if it.plain else HUES[k % len(HUES)]
-        line += f"{hue}{it.name:{wide[2]}}{off}  {it.value:{wide[3]}}  "
-        out.append(f"{line}{DIM if colours else ''}{it.meaning}{off}".rstrip())
-    return "\n".join(out)
+class FlatTable:
+    """Prints records whose lines have constant places, as `Table` does, from the number of each record."""
+
+    def __init__(self, plan: Plan, colours: bool) -> None:
+        self.bold, self.off = (BOLD, OFF) if colours else ("", "")
+        dim, hues = (DIM, HUES) if colours else ("", [""])
+        self.size, self.forms = plan.size, dict[int, str]()
+        self.takes = [(shift, most, said(kind, most, make)) for kind, _, shift, most, make in plan.lines]
+        self.offsets = [at >> 3 for _, at, _, _, _ in plan.lines]
+        self.rests = [(k, it[2], it[3]) for k, it in enumerate(plan.lines) if isinstance(it[0], m.Skip)]
+        self.parts = list[tuple[str, str]]()
+        wide, long = (max(map(len, it)) for it in zip(*((str(m.bits(it[0])), m.label(it[0])) for it in plan.lines)))
+        for k, (kind, at, _, most, _) in enumerate(plan.lines):
+            name = f"{hues[k % len(hues)] if m.is_field(kind) else dim}{m.label(kind).ljust(long)}{self.off}"
+            before = f"{BIT[at & 7]} {str(most.bit_length()).rjust(wide)}  {name}  "
+            means = "%s" if isinstance(kind, m.Skip) else meaning(kind).replace("%", "%%")
+            self.parts.append((before.replace("%", "%%"), f"  {dim}{means}{self.off}".rstrip()))
+
+    def form(self, width: int) -> str:
+        """Returns the form of records whose longest value has `width` letters."""
+        if width not in self.forms:
+            rows = [f"  %06x{before}%{f'-{width}' if after else ''}s{after}" for before, after in self.parts]
+            heading = f"{self.bold}record %d, byte %#x, {self.size} bytes{self.off}"
+            self.forms[width] = "\n".join([heading, *rows])
+        return self.forms[width]
+
+    def text(self, number: int, start: int, word: int) -> str:
+        """Returns the table of a record."""
+        values = [text((word >> shift) & most) for shift, most, text in self.takes]
+        width, byte = len(max(values, key=len)), start >> 3
+        held: list[int | str] = [number, byte]
+        for offset, value in zip(self.offsets, values):
+            held += (byte + offset, value)
+        for k, shift, most in reversed(self.rests):
+            held.insert(2 * k + 4, "any bits, here not zero" if (word >> shift) & most else "any bits")
+        return self.form(width) % tuple(held)
+
+
+def said(kind: m.Kind, most: int, make: Callable[[int], Value] | None) -> Callable[[int], str]:
+    """Returns the function that gives the text of a value of its number."""
+
+    def text(number: int) -> str:
+        value = number if make is None else make(number)
+        node = Node("", kind, 0, 0, value, [])
+        return " ".join([shortened(value_text(value)), number_of(node)]).strip()
+
+    if most < 256:
+        return [text(it) for it in range(most + 1)].__getitem__
+    if isinstance(kind, m.Number) and not kind.integer.signed:
+        return lambda number: f"{number} = {number:#x}" if number > 9 else str(number)
+    return text

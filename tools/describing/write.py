@@ -237,8 +237,14 @@ def check_there(kind: m.Optional | m.If, value: Value, whole: Record, name: str)
     """Refuses an optional part that its condition contradicts."""
     if isinstance(kind, m.If):
         asked = whole.get(kind.field)
-        if (asked in (kind.value, kind.asked)) != (value is not None):
-            raise unfit(name, value, f"it is there if, and only if, {kind.field} is {kind.asked}")
+        if isinstance(asked, str) and not re.fullmatch(r"\d+", asked):  # a case
+            there = (asked == kind.asked) == (kind.how == "==")
+        elif isinstance(asked, dict):  # a case for other numbers
+            there = kind.how == "!="
+        else:
+            there = kind.holds(int(asked) if isinstance(asked, int | str) else -1)
+        if there != (value is not None):
+            raise unfit(name, value, f"it is there if, and only if, {kind.condition}")
 
 
 def arm_of(kind: m.Choose, value: Value, name: str) -> tuple[m.Arm, Value]:

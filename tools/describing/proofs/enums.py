@@ -19,7 +19,7 @@ def lemmas(line: Line, enum: m.EnumType) -> list[str]:
     out = ["-- the number of each case fits its bits, and decodes to that case"]
     out += [f"{s}_small : (it : {enum.name}) → {s}_number it < 2 ^ {enum.width}"]
     out += [f"{s}_small {case} = omega arith" for case in cases]
-    out += ["", f"{s}_again : (it : {enum.name}) → {s}_of ({s}_number it) ≡ Ok it"]
+    out += ["", f"{s}_again : (it : {enum.name}) → {s}_of ({s}_number it) ≡ {'' if enum.total else 'Ok '}it"]
     return out + [f"{s}_again {case} = refl" for case in cases] + [""]
 
 
@@ -38,7 +38,7 @@ def answers(f: Format, line: Line, enum: m.EnumType) -> Answers:
 
 def of_answers(enum: m.EnumType, goals: str) -> list[str]:
     """Returns the answers of the function from a number to its case."""
-    tests = [(f"if-number-eq{value}", value) for value, _ in enum.cases]
+    tests = [(f"if-number-eq{value}", value) for value, _ in enum.tested]
     misses = [f"ne_eqb _ {value} c.{label}.false" for label, value in tests]
     out = [f"{goals}.of.Goals as goal", ""]
     for k, (label, value) in enumerate(tests):

@@ -164,7 +164,9 @@ def there(f: Format, kind: m.Optional | m.If) -> str:
     """Returns the condition of an optional part."""
     if isinstance(kind, m.Optional):
         return f"has_{kind.name}"
-    return f"{kind.field}{'.number()' if asked_enum(f, kind) else ''} == {kind.value}"
+    return (
+        f"{kind.field}{'.number()' if asked_enum(f, kind) else ''} {kind.how} {kind.value}" if kind.how else kind.field
+    )
 
 
 def read_item(item: m.Item) -> str:

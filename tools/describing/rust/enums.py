@@ -33,10 +33,11 @@ def of_code(f: Format, line: Line, enum: m.EnumType) -> list[str]:
         f"        ensures {{ result ≡ {snake(enum.name)}_of number }}",
         "    {",
     ]
-    for value, case in enum.cases:
+    for value, case in enum.tested:
         made = f"Ok({enum.name}::{case})" if line.error else f"{enum.name}::{case}"
         out += [f"        if number == {value} {{", f"            return {made};", "        }"]
     last = f"Err({f.error}::{line.error})" if line.error else f"{enum.name}::{enum.other}(number)"
+    last = f"{enum.name}::{enum.cases[-1][1]}" if enum.total else last
     return [*out, f"        {last}", "    }", ""]
 
 

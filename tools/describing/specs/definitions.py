@@ -38,9 +38,11 @@ def case_specs(f: Format, line: Line, enum: m.EnumType) -> list[str]:
     """Returns the definitions from a number to its case, and back."""
     s, strict = snake(enum.name), line.error
     cases = [(it, called(line, case)) for it, case in enum.cases]
-    tests = "".join(f"if n == {it} then {f'Ok {case}' if strict else case} else " for it, case in cases)
+    tested = cases[: len(enum.tested)]
+    tests = "".join(f"if n == {it} then {f'Ok {case}' if strict else case} else " for it, case in tested)
+    last = cases[-1][1] if enum.total else f"{called(line, enum.other)} n"
     out = ["-- the case of a number", f"abbrev pub {s}_of : ℕ → {answer_type(f, line, enum.name)}"]
-    out += [f"{s}_of n = {tests}{f'Err {strict}' if strict else f'{called(line, enum.other)} n'}", ""]
+    out += [f"{s}_of n = {tests}{f'Err {strict}' if strict else last}", ""]
     out += ["-- the number of a case", f"abbrev pub {s}_number : {enum.name} → ℕ"]
     out += [f"{s}_number {case} = {value}" for value, case in cases]
     out += [f"{s}_number ({called(line, enum.other)} n) = n"] if enum.other else []

@@ -241,7 +241,17 @@ def asked_enum(f: Format, kind: m.If) -> m.EnumType | None:
 def test(f: Format, kind: m.If, term: str) -> str:
     """Returns the condition of an optional part, of a term for the field that it asks for."""
     enum = asked_enum(f, kind)
-    return f"({enum_number(enum, term) if enum else term} == {kind.value})"
+    number = enum_number(enum, term) if enum else term
+    match kind.how:
+        case "":
+            return term
+        case "!=":
+            return f"(not ({number} == {kind.value}))"
+        case "<":
+            return f"(nat_lt {number} {kind.value})"
+        case ">=":
+            return f"(nat_le {kind.value} {number})"
+    return f"({number} == {kind.value})"
 
 
 def when(f: Format, kind: m.Optional | m.If) -> str:

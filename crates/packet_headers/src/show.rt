@@ -1,0 +1,98 @@
+//! Prints records as lines of JSON.
+//!
+//! Made by `./format --program` from ../bitstream_callers/formats/primary_header.fields: edit that file and make this one anew.
+
+use crate::ended::Ended;
+use crate::primary_header_json::print_primary_header;
+use bitstream_callers::primary_header::{PrimaryHeader, PrimaryHeaderError};
+use bitstream_io::{BE, BitReader, Error};
+use std::alloc::Global;
+use std::io;
+use std::io::{ErrorKind, Read, Write};
+
+/// The bytes that are requested at once.
+const CHUNK: usize = 65536;
+
+/// The number of the next record, and its first byte.
+#[derive(Clone, Copy, Debug)]
+struct Position {
+    number: u64,
+    byte: u64,
+}
+
+/// Returns true if the bytes end inside the record.
+fn is_torn(error: &PrimaryHeaderError) -> bool {
+    matches!(error, PrimaryHeaderError::Reader(Error::EndOfInput))
+}
+
+/// Prints the whole records at the start of some bytes, and returns the bytes that are left.
+fn show_held<'a, W: Write>(
+    held: &'a [u8],
+    at: &mut Position,
+    out: &mut W,
+) -> Result<&'a [u8], Ended> {
+    let mut rest = held;
+    for _ in 0..held.len() {
+        let mut reader = BitReader::<_, BE>::over(rest);
+        match PrimaryHeader::read(&mut reader) {
+            Ok(record) => {
+                print_primary_header(&record, out)?;
+                out.write_all(b"\n")?;
+                let size = rest.len().saturating_sub(reader.rest().len());
+                rest = reader.rest();
+                at.number = at.number.saturating_add(1);
+                at.byte = at.byte.saturating_add(size as u64);
+            }
+            Err(error) if is_torn(&error) => break,
+            Err(error) => {
+                return Err(Ended::Refused {
+                    number: at.number,
+                    start: at.byte,
+                    error,
+                });
+            }
+        }
+    }
+    Ok(rest)
+}
+
+/// Requests some bytes, and again after a signal.
+fn read_some<R: Read>(input: &mut R, chunk: &mut [u8]) -> io::Result<usize> {
+    for _ in 0..u64::MAX {
+        match input.read(chunk) {
+            Err(error) if error.kind() == ErrorKind::Interrupted => {}
+            done => return done,
+        }
+    }
+    Ok(0)
+}
+
+/// Prints each record of an input. All that was read is printed before more is requested.
+pub fn show<R: Read, W: Write>(alloc: Global, input: &mut R, out: &mut W) -> Result<(), Ended> {
+    let mut chunk = vec![in alloc; 0u8; CHUNK]?;
+    let mut held: Vec<u8> = Vec::new(alloc);
+    let mut at = Position { number: 0, byte: 0 };
+    for _ in 0..u64::MAX {
+        out.flush()?;
+        let count = read_some(input, chunk.as_mut_slice())?;
+        let Some(more) = chunk.get(..count) else {
+            break
+        };
+        if more.is_empty() {
+            break;
+        }
+        held.extend_from_slice(more)?;
+        let left = show_held(held.as_slice(), &mut at, out)?.len();
+        let done = held.len().saturating_sub(left);
+        held.as_mut_slice().copy_within(done.., 0);
+        held.truncate(left);
+    }
+    if held.is_empty() {
+        return Ok(());
+    }
+    Err(Ended::Torn {
+        number: at.number,
+        start: at.byte,
+        end: at.byte.saturating_add(held.len() as u64),
+    })
+}

@@ -1,0 +1,252 @@
+"""The text of the module that prints the records of a description as JSON, and reads them from JSON."""
+from __future__ import annotations
+
+from typing import Iterator
+
+from describing import model as m
+from describing.checks import new_enums
+from describing.layout import enum_bits
+from describing.model import Refused, snake
+from describing.write import EXACT
+
+# Names of lines whose values, or numbers of bits, a program cannot have yet.
+LATER = {
+    m.Unary: "a unary number",
+    m.Groups: "a number in groups",
+    m.Golomb: "an Exp-Golomb number",
+    m.List: "a list",
+    m.Count: "a count",
+}
+
+
+def check(it: m.Description) -> None:
+    """Refuses a description of which no program is printed."""
+    for kind in it.kinds:
+        if isinstance(kind, m.Unary | m.Groups | m.Golomb | m.List | m.Count):
+            raise Refused(f"`{m.label(kind)}` is {LATER[type(kind)]}: no program is printed for it yet", kind.at)
+        for use in m.uses(kind):
+            try:
+                check(use.description)
+            except Refused as why:
+                raise Refused(f"`{use.module}`: {why}", kind.at) from None
+
+
+def most_bits(it: m.Description) -> int:
+    """Returns the greatest number of bits of a record."""
+    found = 0
+    for kind in it.kinds:
+        parts = [most_bits(use.description) for use in m.uses(kind)]
+        found += parts[0] if parts else m.bits(kind) or 0
+    return found
+
+
+def all_uses(it: m.Description) -> Iterator[m.Use]:
+    """Returns the parts of a description, and their parts, each module once and after those that it uses."""
+    found: dict[str, m.Use] = {}
+    for kind in it.kinds:
+        for use in m.uses(kind):
+            found |= {one.module: one for one in all_uses(use.description)} | {use.module: use}
+    yield from found.values()
+
+
+# ---- values to JSON
+
+
+def printed_number(whole: m.Integer, value: str) -> str:
+    """Returns the statement that prints a number."""
+    if max(-whole.least, whole.most) <= EXACT:
+        return f'write!(out, "{{}}", {value})?;'
+    if whole.signed:
+        return f"print_wide_signed({value} as i128, out)?;"
+    return f"print_wide({value} as u128, out)?;"
+
+
+def printed_item(item: m.Item, value: str) -> str:
+    """Returns the statement that prints an item of an array."""
+    if isinstance(item, m.Integer):
+        return printed_number(item, f"*{value}")
+    return f"print_{snake(m.item_type(item))}(*{value}, out)?;"
+
+
+def printed_value(kind: m.Described) -> list[str]:
+    """Returns the statements that print a value."""
+    value = f"record.{kind.name}"
+    match kind:
+        case m.Bool():
+            return [f'write!(out, "{{}}", {value})?;']
+        case m.Number(integer=whole):
+            return [printed_number(whole, value)]
+        case m.NonZero(integer=whole):
+            return [printed_number(m.Integer(whole.base, whole.width + 1), f"{value}.get()")]
+        case m.MaybeNonZero(integer=whole):
+            return [f"match {value} {{", f"Some(number) => {{ {printed_number(whole, 'number.get()')} }}", *NULL]
+        case m.Enum(enum=enum):
+            return [f"print_{snake(enum.name)}({value}, out)?;"]
+        case m.Array(item=m.Octet()):
+            return [f"print_octets(&{value}, out)?;"]
+        case m.Array(item=item):
+            comma = 'if place > 0 { out.write_all(b", ")?; }'
+            loop = f"for (place, item) in {value}.iter().enumerate() {{"
+            return ['out.write_all(b"[")?;', loop, comma, printed_item(item, "item"), "}", 'out.write_all(b"]")?;']
+        case m.Part(use=use):
+            return [f"print_{snake(use.name)}(&{value}, out)?;"]
+        case m.Optional(use=use) | m.If(use=use):
+            return [f"match {value} {{", f"Some(part) => print_{snake(use.name)}(&part, out)?,", *NULL]
+    raise AssertionError(kind)
+
+
+NULL = ['None => out.write_all(b"null")?,', "}"]
+
+
+def print_record(it: m.Description) -> list[str]:
+    """Returns the function that prints a record."""
+    body: list[str] = []
+    for place, kind in enumerate(it.fields):
+        name = f'{"{" if place == 0 else ", "}\\"{kind.name}\\": '
+        body += [f'out.write_all(b"{name}")?;', *printed_value(kind)]
+    return [
+        "/// Prints a record as an object.",
+        f"pub fn print_{snake(it.name)}<W: Write>(record: &{it.name}, out: &mut W) -> io::Result<()> {{",
+        *body,
+        'out.write_all(b"}")',
+        "}",
+        "",
+    ]
+
+
+def print_enum(enum: m.EnumType) -> list[str]:
+    """Returns the function that prints a case."""
+    arms = [f'{enum.name}::{case} => out.write_all(b"\\"{case}\\""),' for _, case in enum.cases]
+    if enum.other:
+        text = f'{{{{\\"{enum.other}\\": {{number}}}}}}'
+        arms.append(f'{enum.name}::{enum.other}(number) => write!(out, "{text}"),')
+    head = f"fn print_{snake(enum.name)}<W: Write>(value: {enum.name}, out: &mut W) -> io::Result<()> {{"
+    return ["/// Prints a case.", head, "match value {", *arms, "}", "}", ""]
+
+
+# ---- JSON to values
+
+
+def read_number(whole: m.Integer, name: str, value: str) -> str:
+    """Returns the expression of a number; an error leaves the function."""
+    wide = max(-whole.least, whole.most) > EXACT
+    call = f"{'wide_' * wide}{'signed' if whole.signed else 'unsigned'}"
+    return f"{call}(alloc, {name}, {value}, {whole.least}, {whole.most})"
+
+
+def read_value(it: m.Description, kind: m.Described) -> str:
+    """Returns the expression of a field."""
+    name, value = f'"{kind.name}"', f'field(alloc, object, "{kind.name}")?'
+    match kind:
+        case m.Bool():
+            return f"boolean(alloc, {name}, {value})?"
+        case m.Number(integer=whole):
+            return f"{read_number(whole, name, value)}? as {whole.base}"
+        case m.NonZero(integer=whole):
+            return f"{{ let value = {value}; {non_zero(whole, whole.most + 1, name)} }}"
+        case m.MaybeNonZero(integer=whole):
+            return some(value, non_zero(whole, whole.most, name))
+        case m.Enum(enum=enum):
+            return f"{snake(enum.name)}_of(alloc, {name}, {value})?"
+        case m.Array():
+            return f"{snake(it.name)}_{kind.name}(alloc, {value})?"
+        case m.Part(use=use):
+            return f"{{ let value = {value}; {read_part(use, name)} }}"
+        case m.Optional(use=use) | m.If(use=use):
+            return some(value, read_part(use, name))
+    raise AssertionError(kind)
+
+
+def some(value: str, present: str) -> str:
+    """Returns the expression of a value that is there or not."""
+    return f"match {value} {{ value if value.is_null() => None, value => Some({{ {present} }}), }}"
+
+
+def non_zero(whole: m.Integer, most: int, name: str) -> str:
+    """Returns the expression of a number that is not 0, of the JSON `value`."""
+    call = "wide_unsigned" if most > EXACT else "unsigned"
+    number = f"NonZero::<{whole.base}>::new({call}(alloc, {name}, value, 1, {most})? as {whole.base})"
+    refused = f'misfit(alloc, {name}, value, "a number from 1 to {most}")?'
+    return f"match {number} {{ Some(number) => number, None => {refused}, }}"
+
+
+def read_part(use: m.Use, name: str) -> str:
+    """Returns the expression of a part, of the JSON `value`."""
+    return f"check_object(alloc, {name}, value)?; inside(alloc, {name}, {snake(use.name)}_of(alloc, value))?"
+
+
+def read_array(it: m.Description, kind: m.Array) -> list[str]:
+    """Returns the function that makes an array of JSON."""
+    name, item = f'"{kind.name}"', kind.item
+    head = [
+        f"/// Returns the array `{kind.name}`.",
+        f"fn {snake(it.name)}_{kind.name}(alloc: Global, value: &Value) -> Result<{m.rust_type(kind)}, Unfit> {{",
+    ]
+    match item:
+        case m.Octet():
+            fill, first = [f"fill_octets(alloc, {name}, value, &mut found)?;"], "0"
+        case m.Integer():
+            one, first = f"at_item(alloc, place, {read_number(item, name, 'item')})? as {item.base}", "0"
+        case m.EnumType():
+            one = f"at_item(alloc, place, {snake(item.name)}_of(alloc, {name}, item))?"
+            first = f"{item.name}::{item.cases[0][1]}"
+    if not isinstance(item, m.Octet):
+        both = f"items(alloc, {name}, value, {kind.count})?.iter().zip(found.iter_mut()).enumerate()"
+        fill = [f"for (place, (item, room)) in {both} {{", f"*room = {one};", "}"]
+    return [*head, f"let mut found = [{first}; {kind.count}];", *fill, "Ok(found)", "}", ""]
+
+
+def check_there(kind: m.If) -> list[str]:
+    """Returns the statements that refuse a part that its condition contradicts."""
+    number = f"record.{kind.field}{'' if kind.asked[:1].isdigit() else '.number()'}"
+    asked = f"{number} {kind.how} {kind.value}" if kind.how else f"record.{kind.field}"
+    what = f"it is there if, and only if, {kind.condition}"
+    return [
+        f"if record.{kind.name}.is_some() != ({asked}) {{",
+        f'return misfit(alloc, "{kind.name}", field(alloc, object, "{kind.name}")?, "{what}");',
+        "}",
+    ]
+
+
+def read_record(it: m.Description) -> list[str]:
+    """Returns the function that makes a record of an object."""
+    names = ", ".join(f'"{kind.name}"' for kind in it.fields)
+    values = [f"{kind.name}: {read_value(it, kind)}," for kind in it.fields]
+    checks = [line for kind in it.fields if isinstance(kind, m.If) for line in check_there(kind)]
+    made = [f"Ok({it.name} {{", *values, "})"]
+    if checks:
+        made = [f"let record = {it.name} {{", *values, "};", *checks, "Ok(record)"]
+    return [
+        "/// Returns the record of an object.",
+        f"pub fn {snake(it.name)}_of(alloc: Global, object: &Value) -> Result<{it.name}, Unfit> {{",
+        f'check_names(alloc, object, "{it.name}", &[{names}])?;',
+        *made,
+        "}",
+        "",
+        *(line for kind in it.fields if isinstance(kind, m.Array) for line in read_array(it, kind)),
+    ]
+
+
+def read_enum(enum: m.EnumType) -> list[str]:
+    """Returns the function that makes a case of JSON."""
+    arms = [f'Some("{case}") => Ok({enum.name}::{case}),' for _, case in enum.cases]
+    what = f"one of {', '.join(case for _, case in enum.cases)}"
+    if enum.other:
+        what += f' or {{\\"{enum.other}\\": NUMBER}}'
+    refused = f'misfit(alloc, name, value, "{what}")'
+    head = f"fn {snake(enum.name)}_of(alloc: Global, name: &str, value: &Value) -> Result<{enum.name}, Unfit> {{"
+    body = ["match value.as_str() {", *arms, f"_ => {refused},", "}"]
+    if enum.other:
+        known = " | ".join(str(number) for number, _ in enum.cases)
+        said = f'other_number(value, "{enum.other}", {(1 << enum.width) - 1})'
+        other = f"Some(number) => Ok({enum.name}::{enum.other}(number as u{enum_bits(enum)})),"
+        inner = [f"_ => match {said} {{", f"None | Some({known}) => {refused},", other, "},"]
+        body = ["match value.as_str() {", *arms, *inner, "}"]
+    return ["/// Returns the case of JSON.", head, *body, "}", ""]
+
+
+def functions(it: m.Description) -> list[str]:
+    """Returns the functions of a description."""
+    enums = [enum for _, enum in new_enums(it)]
+    out = [*print_record(it), *(line for enum in enums for line in print_enum(enum))]
+    return [*out, *read_record(it), *(line for enum in enums for line in read_enum(enum))]
